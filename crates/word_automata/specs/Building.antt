@@ -1,6 +1,6 @@
 -- What building a deterministic automaton changes.
-use Rattle.std.specs.Prelude.{◌≡◌, ◌==◌, ◌&&◌, ◌<◌, ℕ, Bool, true, List, [], ◌∷◌, ◌++◌, Some, length, sum_by, if◌then◌else◌}
-use Rattle.word_automata.specs.Path.{Node, is_accepting}
+use Rattle.std.specs.Prelude.{◌≡◌, ◌==◌, ◌&&◌, ◌<◌, ℕ, Bool, true, [], ◌∷◌, ◌++◌, Some, length, sum_by, if◌then◌else◌}
+use Rattle.word_automata.specs.Path.{is_accepting}
 use Rattle.word_automata.specs.Automaton.{Automaton, target, IsValid}
 
 -- no state at all

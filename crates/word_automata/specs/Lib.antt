@@ -1,4 +1,4 @@
-pub mod Path
 pub mod Automaton
 pub mod Building
 pub mod EdgeList
+pub mod Path

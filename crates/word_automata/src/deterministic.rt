@@ -1,16 +1,15 @@
 //! Deterministic automata, whose states keep a list of edges sorted by letter.
 
-ghost use Rattle.std.specs.Prelude.{◌≡◌, ◌↔◌, ◌+◌, ◌^◌, ◌<◌, ◌≤◌, ◌++◌, [], ◌∷◌, ℕ, true, length, OnOk, OnErr, IfOk, IfErr, IfSome, None, Some, IsSome};
+ghost use Rattle.std.specs.Prelude.{◌≡◌, ◌↔◌, ◌+◌, ◌^◌, ◌<◌, ◌≤◌, ◌++◌, [], ◌∷◌, ℕ, true, length, OnOk, OnErr, IfOk, IfErr, IfSome, OnSome, IfNone, None, Some, IsSome};
 ghost use Rattle.std.specs.List.{insert};
 ghost use Rattle.word_automata.specs.Path.{Node, edges_of, is_accepting};
 ghost use Rattle.word_automata.specs.Automaton.{Automaton, accepts, target, IsValid, HasIncreasingLetters};
 ghost use Rattle.word_automata.specs.Building.{empty_automaton, with_state, edge_count, IsEdgeInRange, AddsEdge, MakesAccepting};
 ghost use Rattle.word_automata.specs.EdgeList.{IsEdgeAt, IsGapFor};
 
+use crate::fault::BuildFault;
 use std::alloc::{AllocError, Global};
 use std::marker::Model;
-
-use crate::fault::BuildFault;
 
 /// A state: whether it accepts, and its edges, each a letter and a target, sorted by letter.
 #[derive(Debug, Drop)]
@@ -111,7 +110,7 @@ impl Dfa {
     pub fn accepts(&self, word: &[u32]) -> bool
         ensures { result ≡ accepts self.now word.now }
     {
-        if self.states.is_empty() {
+        if self.states() == 0 {
             return false;
         }
         let mut state = 0;
@@ -288,11 +287,11 @@ impl DfaBuilder {
         if from >= self.states.len() || letter >= self.letters || to >= self.states.len() {
             return Err(BuildFault::OutOfRange);
         }
-        let state: &State = &self.states[from];
-        match search(state.edges(), letter) {
-            Ok(_) => Err(BuildFault::TwoEdges),
-            Err(at) => self.insert(from, at, letter, to).map_err(|_| BuildFault::Memory),
-        }
+        let Some(at) = self.place_for(from, letter) else {
+            return Err(BuildFault::TwoEdges);
+        };
+        self.insert(from, at, letter, to)
+            .map_err(|_| BuildFault::Memory)
     }
 
     /// Adds an edge where the state has none with this letter. An edge whose letter is above those of the state's other edges is
@@ -303,11 +302,10 @@ impl DfaBuilder {
         ensures ok { OnOk result (AddsEdge self.old self.new from letter to) }
         ensures err { OnErr result (self.new ≡ self.old) }
     {
-        let state: &State = &self.states[from];
-        match search(state.edges(), letter) {
-            Ok(_) => unreachable!(),
-            Err(at) => self.insert(from, at, letter, to),
-        }
+        let Some(at) = self.place_for(from, letter) else {
+            unreachable!();
+        };
+        self.insert(from, at, letter, to)
     }
 
     /// The automaton that was built. It takes no memory.
@@ -318,6 +316,20 @@ impl DfaBuilder {
             letters: self.letters,
             edge_count: self.edge_count,
             states: self.states,
+        }
+    }
+
+    /// The place of an edge with this letter in the list of the state, or `None` where the state has such an edge.
+    fn place_for(&self, from: usize, letter: u32) -> Option<usize>
+        requires { from < length self.now.states }
+        ensures gap { IfSome result (IsGapFor (edges_of self.now.states from) letter) }
+        ensures absent { OnSome result (target self.now from letter ≡ None) }
+        ensures taken { IfNone result (IsSome (target self.now from letter)) }
+    {
+        let state: &State = &self.states[from];
+        match search(state.edges(), letter) {
+            Ok(_) => None,
+            Err(at) => Some(at),
         }
     }
 

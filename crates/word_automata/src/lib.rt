@@ -6,3 +6,11 @@ mod fault;
 
 pub use deterministic::{Dfa, DfaBuilder};
 pub use fault::BuildFault;
+
+/// Asks for a type that threads may share and that may be moved between them.
+fn is_shared<T: Send + Sync>() {}
+
+/// Threads may share automata.
+pub fn automata_are_shared() {
+    is_shared::<Dfa>();
+}

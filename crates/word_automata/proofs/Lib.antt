@@ -1,0 +1,4 @@
+pub mod EdgeList
+pub mod Rows
+pub mod Building
+pub mod Targets
