@@ -1,0 +1,3 @@
+pub mod Transducer
+pub mod Builder
+pub mod Search
