@@ -5,3 +5,4 @@ pub mod Lists
 pub mod Explored
 pub mod Steps
 pub mod Finished
+pub mod Successors

@@ -50,6 +50,13 @@ module _ {S : Type 0} where
       let l = All-head (λ (x : ℕ × S). x.0 < a) pair pairs h in
       look_up-there pair pairs a (λ e. absurd (omega arith)) ∙ look_up-above pairs a (All-tail (λ (x : ℕ × S). x.0 < a) pair pairs h)
 
+  -- nor has a letter below all those of the pairs
+  pub look_up-beneath : (pairs : List (ℕ × S)) (a : ℕ) → All (λ pair. a < pair.0) pairs → look_up pairs a ≡ None
+  look_up-beneath [] a h = refl
+  look_up-beneath (pair ∷ pairs) a h =
+      let l = All-head (λ (x : ℕ × S). a < x.0) pair pairs h in
+      look_up-there pair pairs a (λ e. absurd (omega arith)) ∙ look_up-beneath pairs a (All-tail (λ (x : ℕ × S). a < x.0) pair pairs h)
+
   -- a letter that has a state is below any letter that is above all
   pub look_up-below : (pairs : List (ℕ × S)) (a b : ℕ) (s : S) → All (λ pair. pair.0 < a) pairs → look_up pairs b ≡ Some s → b < a
   look_up-below [] a b s h k = cc

@@ -5,7 +5,11 @@
 #![tactic(auto)]
 
 mod construction;
+mod state_list;
+#[cfg(test)]
+mod tests;
 mod transition_system;
 
 pub use construction::explore;
+pub use state_list::StateList;
 pub use transition_system::TransitionSystem;
