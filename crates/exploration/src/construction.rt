@@ -1,7 +1,7 @@
 //! The construction of an automaton from a transition system, breadth first.
 
 ghost use Rattle.std.specs.Prelude.{◌≡◌, ◌<◌, ◌+◌, ℕ, List, [], length, IfOk, OnOk};
-ghost use Rattle.word_automata.specs.Automaton.{accepts};
+ghost use Rattle.word_automata.specs.Automaton.{accepts, IsValid};
 ghost use Rattle.word_automata.specs.Building.{empty_automaton};
 ghost use Rattle.exploration.specs.System.{accepts_by};
 ghost use Rattle.exploration.specs.Numbering.{IsBreadthFirst, StandsFor};
@@ -17,6 +17,7 @@ use word_automata::{Dfa, DfaBuilder};
 pub fn explore<T: TransitionSystem>(alloc: Global, system: &T) -> Result<Dfa, AllocError>
     ensures language { IfOk result (λ built. (w : List ℕ) → accepts built w ≡ accepts_by (T.system system.now) w) }
     ensures letters { IfOk result (λ built. built.letters ≡ (T.system system.now).letters) }
+    ensures valid { IfOk result IsValid }
     ensures breadth_first { IfOk result IsBreadthFirst }
     ensures states { IfOk result (StandsFor (T.system system.now) (T.is_state system.now)) }
 {
@@ -24,7 +25,7 @@ pub fn explore<T: TransitionSystem>(alloc: Global, system: &T) -> Result<Dfa, Al
     let mut builder = DfaBuilder::new(alloc, system.letters());
     begin(alloc, system, &mut found, &mut builder)?;
     let mut next = 0;
-    'states: while next < found.len() {
+    'states: while next < builder.states() {
         expand(alloc, system, &mut found, &mut builder, next)?;
         next += 1;
     }
