@@ -1,17 +1,17 @@
 -- Taking the pieces of a text one after the other.
-use Rattle.std.proofs.Common.{◌≡◌, ◌≢◌, ℕ, ◌+◌, ◌≤◌, ◌<◌, List, [], ◌∷◌, ◌++◌, Option, Some, None, take, drop, length, refl, sym, ap, subst, ◌∙◌, append_assoc, arith, cond, Bool, true, false, add-one, eqb}
+use Rattle.std.proofs.Common.{◌≡◌, ◌≢◌, ℕ, ◌+◌, ◌≤◌, ◌<◌, List, [], ◌∷◌, ◌++◌, Option, Some, None, take, drop, length, refl, sym, ap, subst, ◌∙◌, append_assoc, arith, cond, Bool, true, false, eqb}
 use Rattle.std.proofs.lemmas.List.{append-nil}
 use Rattle.std.proofs.lemmas.List.Sums.{prefix_len-le-length}
 use Rattle.std.proofs.lemmas.Bool.{eqb-true}
-use Rattle.std.specs.Prelude.{IfSome, not}
+use Rattle.std.specs.Prelude.{IfSome}
 use Rattle.std.specs.List.{prefix_len}
 use Rattle.protocol_lexer.specs.declared.Place.{Place}
 use Rattle.protocol_lexer.specs.declared.Token.{Token}
 use Rattle.protocol_lexer.specs.declared.TokenKind.{TokenKind}
-use Rattle.protocol_lexer.specs.declared.TokenKind.TheVariants.{Word, Arrow}
+use Rattle.protocol_lexer.specs.declared.TokenKind.TheVariants.{Arrow}
 use Rattle.protocol_lexer.specs.declared.Piece.{Piece}
 use Rattle.protocol_lexer.specs.Place.{start_place, place_after}
-use Rattle.protocol_lexer.specs.Piece.{piece, is_word_byte, is_comment_byte, is_white_space, kind_of_byte, arrow, byte_token, gap, token_of}
+use Rattle.protocol_lexer.specs.Piece.{piece, is_word_byte, is_comment_byte, is_white_space, kind_of_byte, arrow, byte_token, token_of}
 use Rattle.protocol_lexer.specs.Tokens.{Takes, AreTokens, IsBadByte, tokens_of_piece}
 use Rattle.protocol_lexer.specs.Tokens.Takes.{nothing, after_gap, after_token}
 
@@ -91,6 +91,9 @@ piece-within (b ∷ bytes) =
     Within-cond (b ∷ bytes) (is_word_byte b) _ _ (λ h. Within-prefix is_word_byte b bytes h) (λ _.
     Within-cond (b ∷ bytes) (eqb b 45) _ _ (λ _. Within-arrow b bytes) (λ _. Within-byte b bytes (kind_of_byte b)))))
 
+pub piece_length : (bytes : List ℕ) (p : Piece) → piece bytes ≡ Some p → (0 < p.length) × (p.length ≤ length bytes)
+piece_length bytes p e = subst (λ (found : Option Piece). Within bytes found) e (piece-within bytes)
+
 pub within : (bytes : List ℕ) (found : Option Piece) → found ≡ piece bytes → Within bytes found
 within bytes found e = subst (λ (o : Option Piece). Within bytes o) (sym e) (piece-within bytes)
 
@@ -111,7 +114,7 @@ same_kind : (o : Option Piece) (k m : Option TokenKind) (n i : ℕ) → o ≡ So
 unfolding kind_of
 same_kind o k m n i e d = ap kind_of (sym d ∙ e)
 
-some-none : (kind : TokenKind) → Some kind ≡ None → ⊥
+pub some-none : (kind : TokenKind) → Some kind ≡ None → ⊥
 some-none kind e = cc
 
 token-same : (k m : TokenKind) (o n i : ℕ) (p : Place) → k ≡ m → n ≡ i

@@ -2,10 +2,11 @@
 #![tactic(auto)]
 
 ghost use Rattle.std.specs.Prelude.{◌≡◌, ◌≢◌, ◌+◌, ◌^◌, ◌<◌, ◌≤◌, ◌++◌, length, [], IfOk, IfSome, OnErr, OnOk};
-ghost use Rattle.protocol_lexer.specs.Place.{place_after, place_after_byte};
+ghost use Rattle.protocol_lexer.specs.Place.{place_after, place_after_byte, start_place};
 ghost use Rattle.protocol_lexer.specs.Piece.{arrow, is_comment_byte, is_word_byte, is_white_space, kind_of_byte, piece};
 ghost use Rattle.std.specs.List.{prefix_len};
-ghost use Rattle.protocol_lexer.specs.Tokens.{AreTokens, IsBadByte, tokens_of_piece};
+ghost use Rattle.protocol_lexer.specs.Tokens.{AreTokens, IsBadByte, LieInOrder, tokens_of_piece};
+ghost use Rattle.protocol_lexer.specs.Tokens.{BadByteIsDetermined, TokensAreDetermined, TokensExcludeBadByte};
 
 use std::alloc::Global;
 use thiserror::Error;
@@ -35,6 +36,13 @@ impl Place {
             place = place.after_byte(*b);
         }
         place
+    }
+
+    /// The place after the last byte of the text, where a further byte would stand.
+    pub fn end_of(text: &[u8]) -> Place
+        ensures { result ≡ place_after start_place text.now }
+    {
+        Place::START.after(text)
     }
 
     fn after_byte(self, b: u8) -> Place
@@ -103,6 +111,7 @@ struct Piece {
 /// first such byte; `Memory` where there is no memory for the list.
 pub fn tokens(alloc: Global, text: &[u8]) -> Result<Vec<Token>, LexFault>
     ensures taken { IfOk result (λ found. AreTokens text.now found.items) }
+    ensures lie_in_order { IfOk result (λ found. LieInOrder text.now found.items) }
     ensures bad_byte { (place : Place) → result ≡ Err (LexFault.BadByte place) → IsBadByte text.now place }
 {
     let mut found = Vec::new(alloc);
@@ -239,5 +248,52 @@ fn kind_of_byte(b: u8) -> Option<TokenKind>
         b'*' => Some(TokenKind::Star),
         b'+' => Some(TokenKind::Plus),
         _ => None,
+    }
+}
+
+/// A text has one list of tokens, or one first bad byte, and never both.
+pub fn one_reading()
+    ensures tokens { TokensAreDetermined }
+    ensures bad_byte { BadByteIsDetermined }
+    ensures either { TokensExcludeBadByte }
+{}
+
+#[cfg(test)]
+mod tests {
+    use super::*;
+    use std::test::Fail;
+
+    #[test]
+    fn takes_words_and_signs(rt: HostRuntime) -> Result<(), Fail> {
+        let text = b"rule r_1 { # a -> }\r\n P:at a->b;\t*+}";
+        let found = match tokens(rt.alloc(), text) {
+            Ok(found) => found,
+            Err(_) => return Err("a fault".into()),
+        };
+        assert_eq!(rt; found.len(), 13);
+        let arrow = found[7];
+        assert_eq!(rt; arrow.kind, TokenKind::Arrow);
+        assert_eq!(rt; arrow.start, 28);
+        assert_eq!(rt; arrow.end, 30);
+        assert_eq!(rt; arrow.place, Place { line: 2, column: 8 });
+        assert_eq!(rt;
+            Place::end_of(text),
+            Place {
+                line: 2,
+                column: 16
+            }
+        );
+        Ok(())
+    }
+
+    #[test]
+    fn refuses_a_lone_hyphen(rt: HostRuntime) -> Result<(), Fail> {
+        let place = Place { line: 2, column: 2 };
+        match tokens(rt.alloc(), b"#-\n -\n?") {
+            Ok(_) => return Err("no fault".into()),
+            Err(fault) => assert_eq!(rt; fault, LexFault::BadByte { place }),
+        }
+        one_reading();
+        Ok(())
     }
 }

@@ -1,5 +1,4 @@
-use Rattle.std.proofs.Common.{rules, ◌≡◌, Some, None}
-use Rattle.protocol_lexer.specs.declared.Piece.{Piece}
+use Rattle.std.proofs.Common.{rules, ◌≡◌}
 use Rattle.protocol_lexer.specs.declared.TokenKind.TheVariants.{Word}
 use Rattle.protocol_lexer.specs.Piece.{piece, gap, token_of}
 use Rattle.protocol_lexer.proofs.Taking.{within}

@@ -1,10 +1,10 @@
-use Rattle.std.proofs.Common.{rules, ◌≡◌, ◌≢◌, ◌+◌, length, List, [], ◌∷◌, ◌++◌, ℕ, Some, None, Err, subst, sym, ap, ◌∙◌, arith}
+use Rattle.std.proofs.Common.{◌≡◌, ◌+◌, List, ℕ, subst, arith}
 use Rattle.std.proofs.lemmas.Grind.{common_steps}
 use Rattle.protocol_lexer.specs.declared.Place.{Place}
 use Rattle.protocol_lexer.specs.Place.{start_place}
-use Rattle.protocol_lexer.specs.Piece.{piece}
 use Rattle.protocol_lexer.specs.Tokens.{Takes, IsBadByte}
-use Rattle.protocol_lexer.proofs.Taking.{Leads, Leads-step, Leads-end, Leads-start, not_empty, is_empty}
+use Rattle.protocol_lexer.proofs.Taking.{Leads-step, Leads-end, not_empty, is_empty}
+use Rattle.protocol_lexer.proofs.Lying.{LieInOrder-taken}
 use Rattle.protocol_lexer.proofs.tokens.Goals as goal
 
 pub returns-in_default-clause-bad_byte : goal.returns-in_default-clause-bad_byte
@@ -30,3 +30,6 @@ pub returns-clause-taken : goal.returns-clause-taken
 returns-clause-taken c =
     let end = Leads-end c.args.text.now c.loop-rest.found.items c.loop-rest.rest.now c.loop-rest.at c.loop-rest.place c.loop-rest.invariant.leads in
     (c.loop-rest.place, subst (λ (rest : List ℕ). Takes c.args.text.now 0 start_place c.loop-rest.found.items rest c.loop-rest.place) (is_empty _ (grind arith)) end)
+
+pub returns-clause-lie_in_order : goal.returns-clause-lie_in_order
+returns-clause-lie_in_order c = LieInOrder-taken c.args.text.now c.loop-rest.found.items (returns-clause-taken c)
