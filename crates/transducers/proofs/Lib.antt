@@ -1,3 +1,7 @@
-mod ListLemmas
+pub mod ListLemmas
 mod BuilderLemmas
 mod SearchLemmas
+pub mod PathLemmas
+pub mod ExchangeLemmas
+mod CombinationLemmas
+pub mod CopyLemmas

@@ -16,12 +16,12 @@ with_state t accepting = record t { states = t.states ++ (record { accepting = a
 abbrev pub with_start : Transducer → ℕ → Transducer
 with_start t q = record t { starts = t.starts ++ q ∷ [] }
 
--- the states with one more edge from the state, after its others
-abbrev pub add_edge : List (Node Label) → ℕ → Label × ℕ → List (Node Label)
-add_edge [] p edge = []
-add_edge (node ∷ nodes) zero edge = record node { edges = node.edges ++ edge ∷ [] } ∷ nodes
-add_edge (node ∷ nodes) (suc p) edge = node ∷ add_edge nodes p edge
+-- the states with more edges from the state p, after its others
+abbrev pub add_edges : List (Node Label) → ℕ → List (Label × ℕ) → List (Node Label)
+add_edges [] p edges = []
+add_edges (node ∷ nodes) zero edges = record node { edges = node.edges ++ edges } ∷ nodes
+add_edges (node ∷ nodes) (suc p) edges = node ∷ add_edges nodes p edges
 
--- one more edge from the state
-abbrev pub with_edge : Transducer → ℕ → Label × ℕ → Transducer
-with_edge t p edge = record t { states = add_edge t.states p edge }
+-- more edges from the state p
+abbrev pub with_edges : Transducer → ℕ → List (Label × ℕ) → Transducer
+with_edges t p edges = record t { states = add_edges t.states p edges }

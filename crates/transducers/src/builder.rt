@@ -1,7 +1,7 @@
 //! Building a transducer state by state and edge by edge.
 
-ghost use Rattle.std.specs.Prelude.{◌≡◌, ◌<◌, ◌⊎◌, IfSome, IsSome, IfOk, OnOk, OnErr, length};
-ghost use Rattle.transducers.specs.Builder.{without_states, with_state, with_start, with_edge};
+ghost use Rattle.std.specs.Prelude.{◌≡◌, ◌<◌, ◌⊎◌, ◌∷◌, [], All, IfSome, IsSome, IfOk, OnOk, OnErr, length};
+ghost use Rattle.transducers.specs.Builder.{without_states, with_state, with_start, with_edges};
 
 use std::alloc::{AllocError, Global};
 use std::marker::Model;
@@ -28,6 +28,8 @@ impl Model for TransducerBuilder {
 }
 
 impl TransducerBuilder {
+    ghost use Rattle.transducers.specs.Transducer.{IsEdge};
+
     /// A builder for `letters` letters, with no state yet.
     pub fn new(alloc: Global, letters: u32) -> TransducerBuilder
         ensures { result ≡ without_states letters }
@@ -69,11 +71,23 @@ impl TransducerBuilder {
         requires write_in_range { IfSome write (λ a. a < self.old.letters) }
         requires reads_or_writes { IsSome read ⊎ IsSome write }
         requires to_in_range { to < length self.old.states }
-        ensures added { OnOk result (self.new ≡ with_edge self.old from (record { read = read; write = write }, to)) }
+        ensures added { OnOk result (self.new ≡ with_edges self.old from ((record { read = read; write = write }, to) ∷ [])) }
         ensures err { OnErr result (self.new ≡ self.old) }
     {
         let state = &mut self.states[from];
         state.edges.push((Label { read, write }, to))?;
+        Ok(())
+    }
+
+    /// Adds several edges from the state `from`, each a label and a target, in their order. Either all are added or none.
+    pub fn edges(&mut self, from: usize, edges: &[(Label, usize)]) -> Result<(), AllocError>
+        requires from_in_range { from < length self.old.states }
+        requires edges_in_range { All (IsEdge self.old.letters (length self.old.states)) edges.now }
+        ensures added { OnOk result (self.new ≡ with_edges self.old from edges.now) }
+        ensures err { OnErr result (self.new ≡ self.old) }
+    {
+        let state = &mut self.states[from];
+        state.edges.extend_from_slice(edges)?;
         Ok(())
     }
 

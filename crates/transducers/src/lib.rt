@@ -2,14 +2,19 @@
 #![tactic(auto)]
 
 mod builder;
+mod combination;
+mod copies;
 mod search;
 
-ghost use Rattle.std.specs.Prelude.{◌≡◌, length};
+ghost use Rattle.std.specs.Prelude.{◌≡◌, ◌<◌, ◌^◌, IfOk, length};
 ghost use Rattle.word_automata.specs.Path.{edges_of, is_accepting};
 
+use std::alloc::{AllocError, Global};
 use std::marker::Model;
 
 pub use builder::TransducerBuilder;
+pub use combination::{either, inverse};
+pub use copies::{copy_any, copy_edges, copy_one};
 pub use search::relates;
 
 /// What an edge reads and what it writes: a letter each, or nothing. Each edge does at least one of the two.
@@ -69,6 +74,7 @@ impl Transducer {
     /// The number of states.
     pub fn states(&self) -> usize
         ensures states { result ≡ length self.now.states }
+        ensures small { result < 2 ^ 63 }
         ensures valid { IsValid self.now }
     {
         self.states.len()
@@ -100,5 +106,25 @@ impl Transducer {
             Some(found) => found.edges.as_slice(),
             None => &[],
         }
+    }
+
+    /// A copy of the transducer.
+    pub fn copy(&self, alloc: Global) -> Result<Transducer, AllocError>
+        ensures { IfOk result (λ t. t ≡ self.now) }
+    {
+        let starts = Vec::from_slice(alloc, self.starts.as_slice())?;
+        let mut states = Vec::with_capacity(alloc, self.states.len())?;
+        'states: for state in &self.states {
+            let edges = Vec::from_slice(alloc, state.edges.as_slice())?;
+            states.push(State {
+                accepting: state.accepting,
+                edges,
+            })?;
+        }
+        Ok(Transducer {
+            letters: self.letters,
+            starts,
+            states,
+        })
     }
 }
