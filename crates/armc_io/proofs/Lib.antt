@@ -1,0 +1,4 @@
+mod FaultsLemmas
+mod FileLibraryLemmas
+mod MemoryLibraryLemmas
+mod MemorySinkLemmas

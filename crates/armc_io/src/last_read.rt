@@ -1,0 +1,44 @@
+ghost use Rattle.std.specs.Prelude.{◌≡◌, true, false, string_bytes};
+
+use std::marker::Model;
+
+/// A call of `read_all`: its name, whether it answered `Failed`, and how many bytes it took.
+#[derive(Drop)]
+pub(crate) struct LastRead {
+    name: String,
+    has_failed: bool,
+    taken: u64,
+}
+
+impl Model for LastRead {
+    ghost use Rattle.std.specs.Prelude.{string_bytes};
+    ghost use Rattle.armc_io.specs.Library.{ReadCall};
+
+    ghost Value = { ReadCall };
+
+    ghost view = { λ call. record { name = string_bytes call.name; has_failed = call.has_failed; taken = call.taken } };
+}
+
+impl LastRead {
+    /// A call that answered `Failed`.
+    pub(crate) fn failed(name: String, taken: u64) -> LastRead
+        ensures { result ≡ record { name = string_bytes name; has_failed = true; taken = taken } }
+    {
+        LastRead {
+            name,
+            has_failed: true,
+            taken,
+        }
+    }
+
+    /// A call that did not answer `Failed`.
+    pub(crate) fn not_failed(name: String, taken: u64) -> LastRead
+        ensures { result ≡ record { name = string_bytes name; has_failed = false; taken = taken } }
+    {
+        LastRead {
+            name,
+            has_failed: false,
+            taken,
+        }
+    }
+}

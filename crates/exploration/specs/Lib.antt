@@ -1,0 +1,3 @@
+pub mod System
+pub mod Numbering
+pub mod Worklist

@@ -1,0 +1,91 @@
+//! The construction of an automaton from a transition system, breadth first.
+
+ghost use Rattle.std.specs.Prelude.{◌≡◌, ◌<◌, ◌+◌, ℕ, List, [], length, IfOk, OnOk};
+ghost use Rattle.word_automata.specs.Automaton.{accepts, IsValid};
+ghost use Rattle.word_automata.specs.Building.{empty_automaton};
+ghost use Rattle.exploration.specs.System.{accepts_by};
+ghost use Rattle.exploration.specs.Numbering.{IsBreadthFirst, StandsFor};
+ghost use Rattle.exploration.specs.Worklist.{Explored, Numbers};
+
+use crate::transition_system::TransitionSystem;
+use indexmap::IndexSet;
+use std::alloc::{AllocError, Global};
+use word_automata::{Dfa, DfaBuilder};
+
+/// The automaton of the states of the system that are reached from its start state, with the same language from each. States are
+/// numbered breadth first, letters in increasing order. The work is linear in the edges that are reached, on average.
+pub fn explore<T: TransitionSystem>(alloc: Global, system: &T) -> Result<Dfa, AllocError>
+    ensures language { IfOk result (λ built. (w : List ℕ) → accepts built w ≡ accepts_by (T.system system.now) w) }
+    ensures letters { IfOk result (λ built. built.letters ≡ (T.system system.now).letters) }
+    ensures valid { IfOk result IsValid }
+    ensures breadth_first { IfOk result IsBreadthFirst }
+    ensures states { IfOk result (StandsFor (T.system system.now) (T.is_state system.now)) }
+{
+    let mut found = IndexSet::new(alloc);
+    let mut builder = DfaBuilder::new(alloc, system.letters());
+    begin(alloc, system, &mut found, &mut builder)?;
+    let mut next = 0;
+    'states: while next < builder.states() {
+        expand(alloc, system, &mut found, &mut builder, next)?;
+        next += 1;
+    }
+    Ok(builder.finish())
+}
+
+/// Finds the start state, if there is one.
+fn begin<T: TransitionSystem>(
+    alloc: Global,
+    system: &T,
+    found: &mut IndexSet<T::State>,
+    builder: &mut DfaBuilder,
+) -> Result<(), AllocError>
+    requires none { found.old.keys ≡ [] }
+    requires empty { builder.old ≡ empty_automaton (T.system system.now).letters }
+    ensures { OnOk result (Explored (T.system system.now) (T.is_state system.now) found.new.keys builder.new 0 []) }
+{
+    match system.start(alloc)? {
+        Some(start) => {
+            number(system, found, builder, start)?;
+            Ok(())
+        }
+        None => Ok(()),
+    }
+}
+
+/// Adds the edges that leave the state `from`, and the states that they lead to where they are new.
+fn expand<T: TransitionSystem>(
+    alloc: Global,
+    system: &T,
+    found: &mut IndexSet<T::State>,
+    builder: &mut DfaBuilder,
+    from: usize,
+) -> Result<(), AllocError>
+    requires there { from < length found.old.keys }
+    requires before { Explored (T.system system.now) (T.is_state system.now) found.old.keys builder.old from [] }
+    ensures { OnOk result (Explored (T.system system.now) (T.is_state system.now) found.new.keys builder.new (from + 1) []) }
+{
+    let successors = system.successors(alloc, &found.as_slice()[from])?;
+    'successors: for (letter, state) in successors {
+        let to = number(system, found, builder, state)?;
+        builder.add_edge(from, letter, to)?;
+    }
+    Ok(())
+}
+
+/// The number of the state, which is a new one where it was not found before.
+fn number<T: TransitionSystem>(
+    system: &T,
+    found: &mut IndexSet<T::State>,
+    builder: &mut DfaBuilder,
+    state: T::State,
+) -> Result<usize, AllocError>
+    requires { T.is_state system.now state }
+    ensures { IfOk result (Numbers (T.system system.now) found.old.keys found.new.keys builder.old builder.new state) }
+{
+    let accepting = system.is_accepting(&state);
+    let (number, is_new) = found.insert_full(state)?;
+    if is_new {
+        builder.state(accepting)?;
+    }
+    Ok(number)
+}

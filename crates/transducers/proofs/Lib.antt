@@ -1,0 +1,7 @@
+pub mod ListLemmas
+mod BuilderLemmas
+mod SearchLemmas
+pub mod PathLemmas
+pub mod ExchangeLemmas
+mod CombinationLemmas
+pub mod CopyLemmas

@@ -1,0 +1,4 @@
+pub mod Transducer
+pub mod Builder
+pub mod Search
+pub mod Combination

@@ -1,0 +1,130 @@
+//! Finite transducers over words of letter numbers: relations of words that are told by paths of labelled edges.
+#![tactic(auto)]
+
+mod builder;
+mod combination;
+mod copies;
+mod search;
+
+ghost use Rattle.std.specs.Prelude.{◌≡◌, ◌<◌, ◌^◌, IfOk, length};
+ghost use Rattle.word_automata.specs.Path.{edges_of, is_accepting};
+
+use std::alloc::{AllocError, Global};
+use std::marker::Model;
+
+pub use builder::TransducerBuilder;
+pub use combination::{either, inverse};
+pub use copies::{copy_any, copy_edges, copy_one};
+pub use search::relates;
+
+/// What an edge reads and what it writes: a letter each, or nothing. Each edge does at least one of the two.
+#[derive(Clone, Copy, PartialEq, Eq, Debug)]
+pub struct Label {
+    pub read: Option<u32>,
+    pub write: Option<u32>,
+}
+
+/// A state: whether it accepts, and its edges, each a label and the number of the target state.
+#[derive(Drop, Debug)]
+struct State {
+    accepting: bool,
+    edges: Vec<(Label, usize)>,
+}
+
+impl Model for State {
+    ghost use Rattle.word_automata.specs.Path.{Node};
+    ghost use Rattle.transducers.specs.declared.Label.{Label};
+
+    ghost Value = { Node Label };
+
+    ghost view = { λ s. record { accepting = s.accepting; edges = s.edges.items } };
+}
+
+/// A transducer: a number of letters, start states, and states with their edges. The letters and states that it names
+/// are in range, and each edge reads or writes. It relates the word that a path from a start state to an accepting state
+/// reads to the word that this path writes.
+#[derive(Drop, Debug)]
+pub struct Transducer {
+    letters: u32,
+    starts: Vec<usize>,
+    states: Vec<State>,
+}
+
+impl Model for Transducer {
+    ghost use Rattle.transducers.specs.Transducer.{Transducer, IsValid};
+
+    ghost Value = { Transducer };
+
+    ghost view = { λ t. record { letters = t.letters; starts = t.starts.items; states = t.states.items } };
+
+    ghost invariant = { λ t. IsValid (record { letters = t.letters; starts = t.starts.items; states = t.states.items }) };
+}
+
+impl Transducer {
+    ghost use Rattle.transducers.specs.Transducer.{IsValid};
+
+    /// The number of letters.
+    pub fn letters(&self) -> u32
+        ensures letters { result ≡ self.now.letters }
+        ensures valid { IsValid self.now }
+    {
+        self.letters
+    }
+
+    /// The number of states.
+    pub fn states(&self) -> usize
+        ensures states { result ≡ length self.now.states }
+        ensures small { result < 2 ^ 63 }
+        ensures valid { IsValid self.now }
+    {
+        self.states.len()
+    }
+
+    /// The start states, in the order in which they were added.
+    pub fn starts(&self) -> &[usize]
+        ensures { result.now ≡ self.now.starts }
+    {
+        self.starts.as_slice()
+    }
+
+    /// Whether the state is there and accepts.
+    pub fn is_accepting(&self, state: usize) -> bool
+        ensures { result ≡ is_accepting self.now.states state }
+    {
+        match self.states.get(state) {
+            Some(found) => found.accepting,
+            None => false,
+        }
+    }
+
+    /// The edges that leave the state, each a label and a target, in the order in which they were added;
+    /// none where the state is not there.
+    pub fn edges(&self, state: usize) -> &[(Label, usize)]
+        ensures { result.now ≡ edges_of self.now.states state }
+    {
+        match self.states.get(state) {
+            Some(found) => found.edges.as_slice(),
+            None => &[],
+        }
+    }
+
+    /// A copy of the transducer.
+    pub fn copy(&self, alloc: Global) -> Result<Transducer, AllocError>
+        ensures { IfOk result (λ t. t ≡ self.now) }
+    {
+        let starts = Vec::from_slice(alloc, self.starts.as_slice())?;
+        let mut states = Vec::with_capacity(alloc, self.states.len())?;
+        'states: for state in &self.states {
+            let edges = Vec::from_slice(alloc, state.edges.as_slice())?;
+            states.push(State {
+                accepting: state.accepting,
+                edges,
+            })?;
+        }
+        Ok(Transducer {
+            letters: self.letters,
+            starts,
+            states,
+        })
+    }
+}
