@@ -1,5 +1,5 @@
 -- A deterministic automaton and its nondeterministic form accept the same words.
-use Rattle.std.proofs.Common.{◌≡◌, ℕ, zero, suc, ◌+◌, ◌<◌, ◌≤◌, Bool, true, false, List, [], ◌∷◌, ◌++◌, length, get_or, take, map, All, Option, Some, None, Contains, IsTrue, IfSome, ◌↔◌, ◌⊎◌, inl, inr, refl, sym, ap, subst, ◌∙◌, eqb, if◌then◌else◌, arith}
+use Rattle.std.proofs.Common.{◌≡◌, ℕ, zero, suc, ◌+◌, ◌<◌, ◌≤◌, Bool, true, false, List, [], ◌∷◌, ◌++◌, length, get_or, take, map, All, Option, Some, None, Contains, IsTrue, IfSome, ◌↔◌, inl, inr, refl, sym, ap, subst, ◌∙◌, eqb, if◌then◌else◌, arith}
 use Rattle.std.proofs.lemmas.Bool.{false≢true}
 use Rattle.std.proofs.lemmas.Bool.Decides.{nat_tests}
 use Rattle.std.proofs.lemmas.List.{get_or_default, length-map, get_or-map, take_more}
@@ -7,7 +7,6 @@ use Rattle.std.proofs.lemmas.List.Elements.{All-map, All-weaker}
 use Rattle.std.proofs.lemmas.Option.{same_Some}
 use Rattle.word_automata.specs.Path.{Node, edges_of, is_accepting, IsPath, spelled_one, spelled}
 use Rattle.word_automata.specs.Automaton.{Automaton, accepts, accepts_from, target, find_target, IsValid, HasIncreasingLetters}
-use Rattle.word_automata.specs.EdgeList.{IsEdgeAt}
 use Rattle.word_automata.specs.Nondeterministic.{NondeterministicAutomaton, Accepts, IsInRange, as_nondeterministic, lettered_edges, first_state}
 use Rattle.word_automata.proofs.Members.{Contains-map, Contains-map_cases, Contains-here, Contains-there, Contains-cases, Contains-none}
 use Rattle.word_automata.proofs.EdgeList.{find_target_at}

@@ -1,9 +1,9 @@
 -- The states that a nondeterministic automaton may be in, and the words that it accepts from them.
-use Rattle.std.proofs.Common.{◌≡◌, ℕ, zero, suc, ◌+◌, ◌<◌, ◌≤◌, Bool, List, [], ◌∷◌, ◌++◌, length, get_or, All, Option, Some, None, Contains, IsTrue, ◌↔◌, ◌⊎◌, inl, inr, refl, sym, ap, subst, ◌∙◌, arith}
+use Rattle.std.proofs.Common.{◌≡◌, ℕ, ◌+◌, ◌<◌, ◌≤◌, Bool, List, [], ◌∷◌, ◌++◌, length, get_or, All, Option, Some, None, Contains, IsTrue, ◌↔◌, ◌⊎◌, inl, inr, refl, sym, ap, subst, ◌∙◌, arith}
 use Rattle.std.proofs.lemmas.List.Elements.{Contains-append_left, Contains-get_or, All-contains, All-nil}
 use Rattle.std.proofs.lemmas.List.{get_or_append_left, get_or_default, append-nil, append_assoc, length-append}
 use Rattle.std.proofs.lemmas.Bool.{cases_lt}
-use Rattle.word_automata.specs.Path.{Node, edges_of, is_accepting, IsPath, spelled_one, spelled}
+use Rattle.word_automata.specs.Path.{edges_of, is_accepting, IsPath, spelled}
 use Rattle.word_automata.specs.Nondeterministic.{NondeterministicAutomaton, AcceptsFromAny, IsInRange}
 use Rattle.word_automata.specs.StateSets.{AreStates, AddsState, AddsTargets, IsClosed, LeadsSilently, IsClosure, IsStep}
 use Rattle.word_automata.proofs.Members.{Contains-none, All-from_contains, adds_state-member, adds_state-kept, adds_state-cases, adds_state-begins}

@@ -1,8 +1,7 @@
 use Rattle.std.proofs.Common.{◌≡◌, ◌↔◌, ℕ, List, [], ◌∷◌, ◌++◌, IsTrue, ap, sym, subst, ◌∙◌, arith}
 use Rattle.std.proofs.lemmas.List.{take_all, length-map}
-use Rattle.word_automata.specs.Path.{Node}
 use Rattle.word_automata.specs.Automaton.{accepts}
-use Rattle.word_automata.specs.Nondeterministic.{NondeterministicAutomaton, Accepts, IsInRange, as_nondeterministic, first_state, lettered_edges}
+use Rattle.word_automata.specs.Nondeterministic.{NondeterministicAutomaton, Accepts, IsInRange, as_nondeterministic, first_state}
 use Rattle.word_automata.proofs.AsNondeterministic.{lettered, lettered_more, assembled, first_state-some, first_state-none, same_language, in_range_lettered}
 use Rattle.word_automata.proofs.deterministic.Dfa.as_nfa.Goals as goal
 use Rattle.word_automata.proofs.deterministic.Dfa.as_nfa.Goals.{then-count-gt0+in_ok-push-2, else-count-gt0}

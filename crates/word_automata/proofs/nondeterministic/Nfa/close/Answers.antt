@@ -1,4 +1,4 @@
-use Rattle.std.proofs.Common.{List, Option, ℕ, None, get_or, ap, subst, refl, arith, rules}
+use Rattle.std.proofs.Common.{List, Option, ℕ, None, get_or, ap, subst, arith}
 use Rattle.word_automata.specs.StateSets.{AddsTargets}
 use Rattle.word_automata.proofs.StateSets.{partial_closure_more, partial_closure_all}
 use Rattle.word_automata.proofs.nondeterministic.Nfa.close.Goals as goal

@@ -1,7 +1,7 @@
-use Rattle.std.proofs.Common.{List, Option, ℕ, Some, sym, subst, refl, arith, rules}
+use Rattle.std.proofs.Common.{List, Option, ℕ, Some, subst, refl, arith}
 use Rattle.word_automata.specs.Nondeterministic.{IsInRange}
 use Rattle.word_automata.specs.StateSets.{AddsTargets}
-use Rattle.word_automata.proofs.StateSets.{IsPartialStep, partial_step_none, partial_step_more, partial_step_all, step_states}
+use Rattle.word_automata.proofs.StateSets.{partial_step_more, partial_step_all, step_states}
 use Rattle.word_automata.proofs.nondeterministic.Nfa.step.Goals as goal
 
 pub states-preserved : goal.states-preserved
