@@ -1,0 +1,7 @@
+use Rattle.std.proofs.Common.{◌∙◌}
+use Rattle.boolean_operations.specs.declared.products.Operation.TheVariants.{Difference}
+use Rattle.boolean_operations.proofs.ProductLanguages.{product_language}
+use Rattle.boolean_operations.proofs.products.difference.Goals as goal
+
+pub returns-clause-language : goal.returns-clause-language
+returns-clause-language c w = c.in_ok-explore.ensures.language w ∙ product_language Difference c.args.a.now c.args.b.now w

@@ -1,0 +1,5 @@
+pub mod Complements
+pub mod Equality
+pub mod LeastWords
+pub mod OptionalStates
+pub mod Products

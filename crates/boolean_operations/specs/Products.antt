@@ -1,0 +1,40 @@
+-- Products of two automata: their states are pairs of states that may be missing.
+use Rattle.std.specs.Prelude.{◌≡◌, ◌<◌, ◌++◌, ◌&&◌, ◌||◌, ℕ, Bool, not, List, Option, None, Some, Contains, is_some, if◌then◌else◌, map}
+use Rattle.std.specs.List.Sorted.{IsStrictlyIncreasing}
+use Rattle.word_automata.specs.Automaton.{Automaton, find_target}
+use Rattle.exploration.specs.System.{System}
+use Rattle.boolean_operations.specs.OptionalStates.{start_of, follow, accepts_at}
+use Rattle.boolean_operations.specs.declared.products.Operation.{Operation}
+use Rattle.boolean_operations.specs.declared.products.Operation.TheVariants.{Union, Intersection, Difference}
+
+-- whether a word is accepted, from whether each of two automata accepts it
+abbrev pub combine : Operation → Bool → Bool → Bool
+combine Union x y = x || y
+combine Intersection x y = x && y
+combine Difference x y = x && not y
+
+-- whether a word may still be accepted from the pair
+abbrev pub is_live : Operation → Option ℕ → Option ℕ → Bool
+is_live Union p q = is_some p || is_some q
+is_live Intersection p q = is_some p && is_some q
+is_live Difference p q = is_some p
+
+-- the pair, if a word may still be accepted from it
+abbrev pub pair_of : Operation → Option ℕ → Option ℕ → Option (Option ℕ × Option ℕ)
+pair_of operation p q = if is_live operation p q then Some (p, q) else None
+
+-- the product of two automata
+abbrev pub pair_system : Operation → Automaton → Automaton → System (Option ℕ × Option ℕ)
+pair_system operation left right = record {
+  letters = left.letters;
+  start = pair_of operation (start_of left.states) (start_of right.states);
+  step = λ state a. pair_of operation (follow left state.0 a) (follow right state.1 a);
+  accepting = λ state. combine operation (accepts_at left state.0) (accepts_at right state.1);
+}
+
+-- the letters of the edges of two lists, each once, in increasing order
+pub record AreLettersOf (left right : List (ℕ × ℕ)) (letters : List ℕ) : Type 0 where
+  pub increasing : IsStrictlyIncreasing letters
+  pub left_letters : (a r : ℕ) → find_target left a ≡ Some r → Contains letters a
+  pub right_letters : (a r : ℕ) → find_target right a ≡ Some r → Contains letters a
+  pub only_letters : (a : ℕ) → Contains letters a → Contains (map (λ edge. edge.0) (left ++ right)) a

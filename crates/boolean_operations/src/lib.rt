@@ -1,0 +1,11 @@
+//! Boolean operations on the languages of deterministic automata, and their least words.
+#![tactic(auto)]
+
+mod complementation;
+mod least_words;
+mod optional_states;
+mod products;
+
+pub use complementation::complement;
+pub use least_words::{is_empty, least_word};
+pub use products::{difference, intersect, union};

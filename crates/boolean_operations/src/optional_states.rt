@@ -1,0 +1,54 @@
+//! States of an automaton that may be missing: where no edge leads on, there is none, and no word is accepted from there.
+
+ghost use Rattle.std.specs.Prelude.{◌≡◌, ◌<◌, length};
+ghost use Rattle.word_automata.specs.Automaton.{Automaton, IsValid};
+ghost use Rattle.boolean_operations.specs.OptionalStates.{start_of, follow, accepts_at, edges_at, IsStateOrNone};
+
+use word_automata::Dfa;
+
+/// The start state, if there is a state.
+pub(crate) fn start_of(automaton: &Dfa) -> Option<usize>
+    ensures value { result ≡ start_of automaton.now.states }
+    ensures state { IsStateOrNone automaton.now result }
+    ensures valid { IsValid automaton.now }
+{
+    if automaton.states() == 0 {
+        None
+    } else {
+        Some(0)
+    }
+}
+
+/// Where the letter leads from the state, if anywhere.
+pub(crate) fn follow(automaton: &Dfa, state: Option<usize>, letter: u32) -> Option<usize>
+    requires { IsStateOrNone automaton.now state }
+    ensures value { result ≡ follow automaton.now state letter }
+    ensures state { IsStateOrNone automaton.now result }
+{
+    match state {
+        Some(state) => automaton.target(state, letter),
+        None => None,
+    }
+}
+
+/// Whether the state is there and accepts.
+pub(crate) fn accepts_at(automaton: &Dfa, state: Option<usize>) -> bool
+    requires { IsStateOrNone automaton.now state }
+    ensures { result ≡ accepts_at automaton.now state }
+{
+    match state {
+        Some(state) => automaton.accepting(state),
+        None => false,
+    }
+}
+
+/// The edges of the state, none where there is no state.
+pub(crate) fn edges_at(automaton: &Dfa, state: Option<usize>) -> &[(u32, usize)]
+    requires { IsStateOrNone automaton.now state }
+    ensures { result.now ≡ edges_at automaton.now state }
+{
+    match state {
+        Some(state) => automaton.edges_from(state),
+        None => &[],
+    }
+}

@@ -1,0 +1,164 @@
+//! Union, intersection and difference, as products of two automata.
+
+ghost use Rattle.std.specs.Prelude.{◌≡◌, ◌++◌, ◌&&◌, ◌||◌, ℕ, not, List, Option, map, IfOk, OnOk, IsTrue};
+ghost use Rattle.word_automata.specs.Automaton.{accepts, IsValid};
+ghost use Rattle.exploration.specs.System.{IsSuccessors};
+ghost use Rattle.boolean_operations.specs.OptionalStates.{IsStateOrNone};
+ghost use Rattle.boolean_operations.specs.Products.{combine, pair_of, is_live, pair_system, AreLettersOf};
+ghost use Rattle.boolean_operations.specs.Equality.{same_pairs};
+
+use crate::optional_states::{accepts_at, edges_at, follow, start_of};
+use exploration::{TransitionSystem, explore};
+use std::alloc::{AllocError, Global};
+use word_automata::Dfa;
+
+/// Which words a product accepts.
+#[derive(Clone, Copy)]
+enum Operation {
+    Union,
+    Intersection,
+    Difference,
+}
+
+/// A state of a product: a state of each automaton, or none.
+type Pair = (Option<usize>, Option<usize>);
+
+/// The product of two automata over the same letters.
+#[derive(Drop)]
+struct Product<'a> {
+    operation: Operation,
+    left: &'a Dfa,
+    right: &'a Dfa,
+    ghost same_letters: { left.now.letters ≡ right.now.letters },
+}
+
+impl Product<'_> {
+    /// The pair, if a word may still be accepted from it.
+    fn pair(&self, left: Option<usize>, right: Option<usize>) -> Option<Pair>
+        ensures { result ≡ pair_of self.now.operation left right }
+    {
+        let is_live = match self.operation {
+            Operation::Union => left.is_some() || right.is_some(),
+            Operation::Intersection => left.is_some() && right.is_some(),
+            Operation::Difference => left.is_some(),
+        };
+        if is_live { Some((left, right)) } else { None }
+    }
+}
+
+impl TransitionSystem for Product<'_> {
+    type State = Pair;
+
+    ghost system = { λ s. pair_system s.operation s.left.now s.right.now };
+
+    ghost is_state = { λ s pair. IsValid s.left.now × IsValid s.right.now × IsStateOrNone s.left.now pair.0 × IsStateOrNone s.right.now pair.1 };
+
+    fn letters(&self) -> u32 {
+        self.left.letters()
+    }
+
+    fn start(&self, _alloc: Global) -> Result<Option<Pair>, AllocError> {
+        Ok(self.pair(start_of(self.left), start_of(self.right)))
+    }
+
+    fn is_accepting(&self, state: &Pair) -> bool {
+        let left = accepts_at(self.left, state.0);
+        let right = accepts_at(self.right, state.1);
+        match self.operation {
+            Operation::Union => left || right,
+            Operation::Intersection => left && right,
+            Operation::Difference => left && !right,
+        }
+    }
+
+    fn successors(&self, alloc: Global, state: &Pair) -> Result<Vec<(u32, Pair)>, AllocError> {
+        let (left, right) = *state;
+        let letters = letters_of(
+            alloc,
+            edges_at(self.left, left),
+            edges_at(self.right, right),
+        )?;
+        let mut successors = Vec::new(alloc);
+        'letters: for letter in &letters {
+            let left_target = follow(self.left, left, *letter);
+            let right_target = follow(self.right, right, *letter);
+            if let Some(pair) = self.pair(left_target, right_target) {
+                successors.push((*letter, pair))?;
+            }
+        }
+        Ok(successors)
+    }
+
+    ghost equality = { same_pairs };
+}
+
+/// The letters of the edges of both lists, each once, in increasing order.
+fn letters_of(
+    alloc: Global,
+    left: &[(u32, usize)],
+    right: &[(u32, usize)],
+) -> Result<Vec<u32>, AllocError>
+    ensures { IfOk result (λ letters. AreLettersOf left.now right.now letters.items) }
+{
+    let mut letters = Vec::new(alloc);
+    push_letters(&mut letters, left)?;
+    push_letters(&mut letters, right)?;
+    letters.sort()?;
+    letters.dedup();
+    Ok(letters)
+}
+
+/// Adds the letters of the edges at the end.
+fn push_letters(letters: &mut Vec<u32>, edges: &[(u32, usize)]) -> Result<(), AllocError>
+    ensures { OnOk result (letters.new.items ≡ letters.old.items ++ map (λ edge. edge.0) edges.now) }
+{
+    'edges: for (letter, _) in edges {
+        letters.push(*letter)?;
+    }
+    Ok(())
+}
+
+/// An automaton that accepts the words that `a` or `b` accepts. Both have the same letters.
+pub fn union(alloc: Global, a: &Dfa, b: &Dfa) -> Result<Dfa, AllocError>
+    requires { a.now.letters ≡ b.now.letters }
+    ensures language { IfOk result (λ c. (w : List ℕ) → accepts c w ≡ (accepts a.now w || accepts b.now w)) }
+    ensures letters { IfOk result (λ c. c.letters ≡ a.now.letters) }
+    ensures valid { IfOk result IsValid }
+{
+    let product = Product {
+        operation: Operation::Union,
+        left: a,
+        right: b,
+    };
+    Ok(explore(alloc, &product)?)
+}
+
+/// An automaton that accepts the words that both `a` and `b` accept. Both have the same letters.
+pub fn intersect(alloc: Global, a: &Dfa, b: &Dfa) -> Result<Dfa, AllocError>
+    requires { a.now.letters ≡ b.now.letters }
+    ensures language { IfOk result (λ c. (w : List ℕ) → accepts c w ≡ (accepts a.now w && accepts b.now w)) }
+    ensures letters { IfOk result (λ c. c.letters ≡ a.now.letters) }
+    ensures valid { IfOk result IsValid }
+{
+    let product = Product {
+        operation: Operation::Intersection,
+        left: a,
+        right: b,
+    };
+    Ok(explore(alloc, &product)?)
+}
+
+/// An automaton that accepts the words that `a` accepts and `b` refuses. Both have the same letters.
+pub fn difference(alloc: Global, a: &Dfa, b: &Dfa) -> Result<Dfa, AllocError>
+    requires { a.now.letters ≡ b.now.letters }
+    ensures language { IfOk result (λ c. (w : List ℕ) → accepts c w ≡ (accepts a.now w && not (accepts b.now w))) }
+    ensures letters { IfOk result (λ c. c.letters ≡ a.now.letters) }
+    ensures valid { IfOk result IsValid }
+{
+    let product = Product {
+        operation: Operation::Difference,
+        left: a,
+        right: b,
+    };
+    Ok(explore(alloc, &product)?)
+}
