@@ -1,6 +1,6 @@
 -- Edges by letters, and the states that they lead to.
-use Rattle.std.proofs.Common.{◌≡◌, ◌<◌, ◌≤◌, ◌⊎◌, ℕ, zero, suc, Bool, true, false, List, [], ◌∷◌, Option, None, Some, length, slice_index, refl, sym, ap, subst, ◌∙◌, inl, inr, arith, All, slice_get}
-use Rattle.std.proofs.lemmas.Bool.{cases_eq, cases_order, true≢false}
+use Rattle.std.proofs.Common.{◌≡◌, ◌<◌, ◌≤◌, ◌⊎◌, ℕ, zero, suc, Bool, false, List, [], ◌∷◌, Option, None, Some, length, slice_index, refl, sym, ap, ◌∙◌, inl, inr, arith, All}
+use Rattle.std.proofs.lemmas.Bool.{cases_eq, cases_order}
 use Rattle.std.proofs.lemmas.List.{get_or_past}
 use Rattle.std.proofs.lemmas.List.Elements.{All-nil, All-weaker}
 use Rattle.std.proofs.lemmas.Option.{slice_get_past}

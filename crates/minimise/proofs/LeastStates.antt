@@ -1,14 +1,14 @@
 -- The quotient of an automaton by its classes accepts what the automaton does, and what is built from it is canonical.
-use Rattle.std.proofs.Common.{◌≡◌, ◌<◌, ◌≤◌, ◌⊎◌, inl, inr, slice_index_or, ℕ, zero, suc, Bool, true, false, List, [], ◌∷◌, ◌++◌, ◌+◌, take, get_or, Option, None, Some, length, slice_index, slice_get, refl, sym, ap, subst, ◌∙◌, arith, All, IsTrue}
+use Rattle.std.proofs.Common.{◌≡◌, ◌<◌, inl, inr, slice_index_or, ℕ, zero, suc, Bool, false, List, [], ◌∷◌, ◌++◌, ◌+◌, take, get_or, Option, None, Some, length, slice_index, slice_get, refl, sym, ap, subst, ◌∙◌, arith, All, IsTrue}
 use Rattle.std.proofs.lemmas.Bool.{true_from_ne_false, cases_lt}
 use Rattle.std.proofs.lemmas.List.Elements.{All-nil, filter_map-append}
 use Rattle.std.proofs.lemmas.List.{take_more, append-nil}
 use Rattle.std.specs.List.{filter_map, cons_option}
 use Rattle.std.specs.Option.{option_map, option_and_then}
-use Rattle.word_automata.specs.Path.{edges_of, is_accepting}
-use Rattle.word_automata.specs.Automaton.{Automaton, target, find_target, accepts, accepts_from, IsValid}
+use Rattle.word_automata.specs.Path.{edges_of}
+use Rattle.word_automata.specs.Automaton.{Automaton, target, accepts, accepts_from, IsValid}
 use Rattle.word_automata.proofs.Rows.{All-edges_of}
-use Rattle.exploration.specs.System.{System, accepts_by, accepts_by_from, IsSuccessors}
+use Rattle.exploration.specs.System.{accepts_by, accepts_by_from, IsSuccessors}
 use Rattle.exploration.specs.Numbering.{IsBreadthFirst, StandsFor}
 use Rattle.exploration.proofs.Lists.{slice_get-some}
 use Rattle.exploration.proofs.Successors.{look_up-edges, IsSuccessors-moved}

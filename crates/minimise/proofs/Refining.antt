@@ -1,5 +1,5 @@
 -- Rounds of refinement: different classes stay told apart by words, and at the end each class has one language.
-use Rattle.std.proofs.Common.{◌≡◌, ◌+◌, ◌-◌, ◌<◌, ◌≤◌, ◌⊎◌, ℕ, zero, suc, Bool, true, false, List, [], ◌∷◌, Option, None, Some, length, replicate, slice_index, get_or, refl, sym, ap, subst, ◌∙◌, inl, inr, arith}
+use Rattle.std.proofs.Common.{◌≡◌, ◌-◌, ◌<◌, ◌≤◌, ◌⊎◌, ℕ, zero, suc, Bool, true, false, List, [], ◌∷◌, length, replicate, slice_index, refl, sym, ap, ◌∙◌, inl, inr, arith}
 use Rattle.std.proofs.lemmas.Bool.{cases_eq, cases_lt, true≢false}
 use Rattle.std.proofs.lemmas.List.{length-replicate}
 use Rattle.std.proofs.lemmas.List.Sums.{sum_by-cons}
@@ -8,7 +8,7 @@ use Rattle.word_automata.specs.Path.{edges_of, is_accepting}
 use Rattle.word_automata.specs.Automaton.{Automaton, accepts_from, IsValid}
 use Rattle.exploration.specs.System.{look_up}
 use Rattle.minimise.specs.Signatures.{Signature}
-use Rattle.minimise.specs.Refinement.{live_class, live_edge, signature_of, IsSplit, AreCoarse, AreClasses, HasLeastStates}
+use Rattle.minimise.specs.Refinement.{live_class, live_edge, signature_of, IsSplit, AreCoarse, AreClasses}
 use Rattle.minimise.proofs.Edges.{edges_differ, next_state, accepts_from-next, class-past, look_up-live_edges, live_edges-increasing, live_class-same}
 
 index-zeros : (n q : ℕ) → slice_index (replicate n 0) q ≡ 0

@@ -1,12 +1,11 @@
 -- One round of refinement, state by state: each signature has the first state that it was found at.
-use Rattle.std.proofs.Common.{◌≡◌, ◌+◌, ◌<◌, ◌≤◌, ◌⊎◌, ℕ, zero, suc, Bool, true, false, List, [], ◌∷◌, ◌++◌, Option, None, Some, length, slice_index, get_or, take, refl, sym, ap, subst, ◌∙◌, inl, inr, arith, length-append}
+use Rattle.std.proofs.Common.{◌≡◌, ◌+◌, ◌<◌, ◌≤◌, ◌⊎◌, ℕ, zero, suc, true, false, List, [], ◌∷◌, ◌++◌, Option, None, Some, length, slice_index, get_or, take, refl, sym, ap, subst, ◌∙◌, inl, inr, arith, length-append}
 use Rattle.std.proofs.lemmas.Bool.{cases_eq, cases_lt, true≢false, cases_Bool}
 use Rattle.std.proofs.lemmas.List.{get_or_append_left, get_or_push, get_or_past, take_more, append-nil}
 use Rattle.std.proofs.lemmas.List.Elements.{filter_map-append}
 use Rattle.std.specs.List.{filter_map, cons_option}
 use Rattle.std.specs.Option.{option_map}
-use Rattle.word_automata.specs.Path.{edges_of, is_accepting}
-use Rattle.word_automata.specs.Automaton.{Automaton, IsValid}
+use Rattle.word_automata.specs.Automaton.{Automaton}
 use Rattle.minimise.specs.Signatures.{Signature, same_signature}
 use Rattle.minimise.specs.SignatureLaws.{same_signature-decides}
 use Rattle.minimise.specs.Refinement.{live_class, live_edge, signature_of, no_word, FindsClass, IsSplit}

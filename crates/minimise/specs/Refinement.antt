@@ -1,6 +1,6 @@
 -- Classes of states, and how a round of refinement splits them. A state's class is one more than the least state in it; class 0 is
 -- that of the states from which no word is accepted, and of the numbers that are no state.
-use Rattle.std.specs.Prelude.{◌≡◌, ◌<◌, ◌≤◌, ◌⊎◌, ℕ, zero, suc, Bool, false, List, [], Option, None, Some, length, slice_index}
+use Rattle.std.specs.Prelude.{◌≡◌, ◌<◌, ◌≤◌, ◌⊎◌, ℕ, zero, suc, false, List, [], Option, None, Some, length, slice_index}
 use Rattle.std.specs.List.{filter_map}
 use Rattle.std.specs.Option.{option_map}
 use Rattle.word_automata.specs.Path.{edges_of, is_accepting}

@@ -1,7 +1,6 @@
 -- What a round of refinement compares states by.
-use Rattle.std.specs.Prelude.{◌≡◌, ◌==◌, ◌&&◌, ℕ, Bool, false, List, [], nat_eq}
+use Rattle.std.specs.Prelude.{◌&&◌, ℕ, Bool, List, nat_eq}
 use Rattle.std.specs.Bool.{beq}
-use Rattle.std.specs.Cmp.{IsEquivalence, IsPartialEquivalence, partial_equiv_from_equiv}
 use Rattle.std.specs.Cmp.Lexicographic.{pointwise}
 
 -- a class, whether the state accepts, and for each letter that leads to a class other than 0 that class

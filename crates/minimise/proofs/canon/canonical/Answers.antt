@@ -1,8 +1,7 @@
-use Rattle.std.proofs.Common.{◌≡◌, List, ℕ, sym, subst, ◌∙◌}
+use Rattle.std.proofs.Common.{◌≡◌, sym, subst, ◌∙◌}
 use Rattle.word_automata.specs.Automaton.{accepts}
 use Rattle.exploration.specs.System.{accepts_by}
 use Rattle.exploration.specs.Numbering.{StandsFor}
-use Rattle.minimise.specs.Canonical.{IsCanonical}
 use Rattle.minimise.specs.Refinement.{HasLeastStates, quotient, IsLeastState}
 use Rattle.minimise.proofs.LeastStates.{quotient_language, quotient_canonical}
 use Rattle.minimise.proofs.canon.canonical.Goals as goal

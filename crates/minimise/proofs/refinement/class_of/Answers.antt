@@ -1,10 +1,8 @@
-use Rattle.std.proofs.Common.{◌≡◌, Bool, true, false, suc, Some, None, sym, ap, ◌∙◌, inl, inr, refl, add-one, cond}
+use Rattle.std.proofs.Common.{Some, sym, ap, ◌∙◌, inr, add-one}
 use Rattle.std.proofs.lemmas.Bool.{true≢false, false_from_ne_true}
 use Rattle.std.specs.Option.{option_copied}
-use Rattle.std.specs.HashMap.{get}
-use Rattle.minimise.specs.Signatures.{Signature, same_signature}
+use Rattle.minimise.specs.Signatures.{same_signature}
 use Rattle.minimise.specs.SignatureLaws.{same_signature-decides}
-use Rattle.minimise.specs.Refinement.{FindsClass, IsNewClass, no_word}
 use Rattle.minimise.proofs.refinement.class_of.Goals as goal
 
 pub returns : goal.returns

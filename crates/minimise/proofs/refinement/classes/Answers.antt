@@ -1,4 +1,4 @@
-use Rattle.std.proofs.Common.{◌≡◌, sym, subst, ap, ◌∙◌}
+use Rattle.std.proofs.Common.{subst}
 use Rattle.std.specs.Cmp.Lexicographic.{same_text, other_text}
 use Rattle.minimise.specs.Refinement.{IsSplit}
 use Rattle.minimise.proofs.Refining.{split_coarse, split_falls, stable}

@@ -1,4 +1,4 @@
-use Rattle.std.proofs.Common.{◌≡◌, ◌-◌, ℕ, length}
+use Rattle.std.proofs.Common.{◌-◌, length}
 use Rattle.std.specs.List.{sum_by}
 use Rattle.word_automata.specs.Automaton.{IsValid}
 use Rattle.minimise.specs.Refinement.{AreCoarse}

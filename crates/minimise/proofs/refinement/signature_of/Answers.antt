@@ -1,4 +1,4 @@
-use Rattle.std.proofs.Common.{◌≡◌, ap, ◌∙◌}
+use Rattle.std.proofs.Common.{ap, ◌∙◌}
 use Rattle.minimise.proofs.Splitting.{live_edge_more, dead_edge_more}
 use Rattle.minimise.proofs.refinement.signature_of.Goals as goal
 use Rattle.minimise.proofs.refinement.signature_of.Goals.{then-classes-to-ne0+in_ok-push, else-classes-to-ne0}

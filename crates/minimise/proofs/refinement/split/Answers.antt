@@ -1,7 +1,7 @@
-use Rattle.std.proofs.Common.{◌≡◌, ◌+◌, ◌<◌, ◌≤◌, ◌++◌, ◌∷◌, [], ℕ, suc, length, sym, subst, add-one, arith}
+use Rattle.std.proofs.Common.{◌≡◌, ◌+◌, ◌++◌, ◌∷◌, [], length, sym, subst, add-one, arith}
 use Rattle.std.specs.HashMap.{get}
 use Rattle.minimise.specs.Signatures.{same_signature}
-use Rattle.minimise.specs.Refinement.{signature_of, FindsClass, IsSplit}
+use Rattle.minimise.specs.Refinement.{FindsClass}
 use Rattle.minimise.proofs.Splitting.{IsSplitting, splitting_more, splitting_all}
 use Rattle.minimise.proofs.refinement.split.Goals as goal
 

@@ -1,4 +1,3 @@
-use Rattle.std.proofs.Common.{◌≡◌, length}
 use Rattle.std.specs.HashMap.{get}
 use Rattle.minimise.specs.Signatures.{same_signature}
 use Rattle.minimise.proofs.Splitting.{IsSplitting}
