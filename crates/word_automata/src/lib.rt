@@ -3,9 +3,11 @@
 
 mod deterministic;
 mod fault;
+mod nondeterministic;
 
 pub use deterministic::{Dfa, DfaBuilder};
 pub use fault::BuildFault;
+pub use nondeterministic::{Nfa, NfaBuilder};
 
 /// Asks for a type that threads may share and that may be moved between them.
 fn is_shared<T: Send + Sync>() {}
@@ -13,4 +15,8 @@ fn is_shared<T: Send + Sync>() {}
 /// Threads may share automata.
 pub fn automata_are_shared() {
     is_shared::<Dfa>();
+    is_shared::<Nfa>();
 }
+
+#[cfg(test)]
+mod tests;
