@@ -2,7 +2,8 @@
 use Rattle.std.proofs.Common.{◌≡◌, ◌⊎◌, ◌≤◌, ◌<◌, ◌+◌, ◌||◌, ◌==◌, ◌↔◌, ℕ, zero, suc, Bool, true, false, List, [], ◌∷◌, ◌++◌, Option, None, Some, refl, sym, ◌∙◌, ap, subst, arith, length, map, slice_get, nat_lt, not, inl, inr, if◌then◌else◌}
 use Rattle.std.proofs.lemmas.Bool.{ltb_from_iff}
 use Rattle.std.proofs.lemmas.Bool.Decides.{eqb_tells}
-use Rattle.std.specs.List.{AllByRecursion, range_with_len}
+use Rattle.std.proofs.lemmas.List.FromFn.{length-range_with_len}
+use Rattle.std.specs.List.{AllByRecursion, range_with_len, list_any, position_or_len}
 use Rattle.std.specs.Option.{option_or, option_map_or}
 use Rattle.std.specs.Str.{bytes_eq}
 use Rattle.protocol_syntax.specs.declared.protocol.Kind.TheVariants.{Array}
@@ -21,10 +22,11 @@ use Rattle.protocol_model.specs.declared.fault.ModelFault.TheVariants.{Unknown}
 use Rattle.protocol_model.specs.declared.system.Move.TheVariants.{At}
 use Rattle.protocol_model.specs.declared.system.Move.{Move}
 use Rattle.protocol_model.specs.declared.system.Row.{Row}
+use Rattle.protocol_model.specs.declared.system.Rule.{Rule}
 use Rattle.protocol_model.specs.Moves.{is_in}
 use Rattle.protocol_model.specs.Numbering.{system_of, section_of, row_of, rule_of, step_of, atom_of, section_names, number_of, letters_named, texts_of}
-use Rattle.protocol_model.specs.Faults.{first_fault, first_fault_of, is_among, unknown, row_fault, rule_fault, step_fault}
-use Rattle.protocol_model.specs.FirstForm.{IsFirstForm, IsFirstRule}
+use Rattle.protocol_model.specs.Faults.{first_fault, first_fault_of, is_among, unknown, section_fault, row_fault, part_fault, rule_fault, step_fault}
+use Rattle.protocol_model.specs.FirstForm.{IsFirstForm, IsFirstRule, only_row, somewhere_row, first_row}
 use Rattle.protocol_model.specs.FirstProtocol.{IsFirstProtocol, IsFirstRuleText, only_text, somewhere_text, one_part, anything}
 
 -- of a choice that is none, both are none
