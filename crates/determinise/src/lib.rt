@@ -4,6 +4,8 @@
 mod moves;
 mod subset;
 mod subsets;
+#[cfg(test)]
+mod tests;
 
 ghost use Rattle.std.specs.Prelude.{◌≡◌, ◌↔◌, List, ℕ, IsTrue, IfOk};
 ghost use Rattle.word_automata.specs.Automaton.{accepts, IsValid};
