@@ -23,20 +23,28 @@ edges_differ (e ∷ es) (f ∷ fs) h k = by (cases_order e.0 f.0) (edges_differ 
   where
     first : look_up (e ∷ es) e.0 ≡ Some e.1
     first = look_up-here e es e.0 refl
+
     less : (x y : ℕ × ℕ) (ys : List (ℕ × ℕ)) → x.0 < y.0 → All (λ later. y.0 < later.0) ys → look_up (y ∷ ys) x.0 ≡ None
     less x y ys l later =
         look_up-there y ys x.0 (λ e. absurd (omega arith))
         ∙ look_up-beneath ys x.0 (All-weaker (λ (z : ℕ × ℕ). y.0 < z.0) (λ (z : ℕ × ℕ). x.0 < z.0) (λ z m. omega arith) ys later)
+
     again : e.0 ≡ f.0 → e.1 ≡ f.1 → (es ≡ fs) ⊎ ((a : ℕ) × (look_up es a ≡ look_up fs a → ⊥)) → ((e ∷ es) ≡ (f ∷ fs)) ⊎ ((a : ℕ) × (look_up (e ∷ es) a ≡ look_up (f ∷ fs) a → ⊥))
     again p q (inl same) = inl (λ i. (p i, q i) ∷ same i)
-    again p q (inr (a, ne)) = inr (a, λ both. elim (cases_eq e.0 a) [
-        inl here ↦ ne (look_up-beneath es a (All-weaker (λ (z : ℕ × ℕ). e.0 < z.0) (λ (z : ℕ × ℕ). a < z.0) (λ z m. omega arith) es h.0)
+    again p q (inr (a, ne)) = inr (
+      a,
+      λ both. elim (cases_eq e.0 a) [
+        | inl here ↦ ne (look_up-beneath es a (All-weaker (λ (z : ℕ × ℕ). e.0 < z.0) (λ (z : ℕ × ℕ). a < z.0) (λ z m. omega arith) es h.0)
             ∙ sym (look_up-beneath fs a (All-weaker (λ (z : ℕ × ℕ). f.0 < z.0) (λ (z : ℕ × ℕ). a < z.0) (λ z m. omega arith) fs k.0)))
-      | inr there ↦ ne (sym (look_up-there e es a there) ∙ both ∙ look_up-there f fs a (λ x. there (p ∙ x))) ])
+        | inr there ↦ ne (sym (look_up-there e es a there) ∙ both ∙ look_up-there f fs a (λ x. there (p ∙ x)))
+      ],
+    )
+
     by : (e.0 ≡ f.0) ⊎ ((e.0 < f.0) ⊎ (f.0 < e.0)) → (es ≡ fs) ⊎ ((a : ℕ) × (look_up es a ≡ look_up fs a → ⊥)) → ((e ∷ es) ≡ (f ∷ fs)) ⊎ ((a : ℕ) × (look_up (e ∷ es) a ≡ look_up (f ∷ fs) a → ⊥))
     by (inl same) rest = elim (cases_eq e.1 f.1) [
-        inl q ↦ again same q rest
-      | inr ne ↦ inr (e.0, λ both. ne (let x = first in let s = look_up-here f fs e.0 (sym same) in cc)) ]
+      | inl q ↦ again same q rest
+      | inr ne ↦ inr (e.0, λ both. ne (let x = first in let s = look_up-here f fs e.0 (sym same) in cc))
+    ]
     by (inr (inl l)) rest = inr (e.0, λ both. let x = first in let s = less e f fs l k.0 in cc)
     by (inr (inr l)) rest = inr (f.0, λ both. let s = less f e es l h.0 in let t = look_up-here f fs f.0 refl in cc)
 

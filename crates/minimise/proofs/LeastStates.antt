@@ -32,8 +32,9 @@ module _ (m : Automaton) (classes : List ℕ) (count : length classes ≡ length
       let own : slice_index classes r ≡ suc r = l.1 in
       record {
         within = elim (cases_lt r (length m.states)) [
-            inl there ↦ there
-          | inr past ↦ let z = class-past m valid classes count r past in absurd (omega arith) ];
+          | inl there ↦ there
+          | inr past ↦ let z = class-past m valid classes count r past in absurd (omega arith)
+        ];
         own = own;
       }
 
@@ -52,7 +53,7 @@ module _ (m : Automaton) (classes : List ℕ) (count : length classes ≡ length
 module _ (m : Automaton) (classes : List ℕ) (are : AreClasses m classes) where
   -- from the least state of a class the quotient accepts what the automaton does from any state of it
   from_least : (w : List ℕ) → ((r : ℕ) → accepts_by_from (quotient m classes) r w ≡ accepts_from m r w) → (q : ℕ)
-    → (elim (least_state (slice_index classes q)) as (λ o. Bool) [ None ↦ false | Some r ↦ accepts_by_from (quotient m classes) r w ]) ≡ accepts_from m q w
+      → (elim (least_state (slice_index classes q)) as (λ o. Bool) [ None ↦ false | Some r ↦ accepts_by_from (quotient m classes) r w ]) ≡ accepts_from m q w
   from_least w again q = by (slice_index classes q) refl
     where
       by : (c : ℕ) → slice_index classes q ≡ c → (elim (least_state (slice_index classes q)) as (λ o. Bool) [ None ↦ false | Some r ↦ accepts_by_from (quotient m classes) r w ]) ≡ accepts_from m q w
@@ -68,7 +69,7 @@ module _ (m : Automaton) (classes : List ℕ) (are : AreClasses m classes) where
   quotient_from (a ∷ w) q = by (quotient_from w) (target m q a)
     where
       by : ((r : ℕ) → accepts_by_from (quotient m classes) r w ≡ accepts_from m r w) → (o : Option ℕ)
-        → (elim (elim o as (λ o. Option ℕ) [ None ↦ None | Some r ↦ least_state (slice_index classes r) ]) as (λ o. Bool) [ None ↦ false | Some r ↦ accepts_by_from (quotient m classes) r w ])
+          → (elim (elim o as (λ o. Option ℕ) [ None ↦ None | Some r ↦ least_state (slice_index classes r) ]) as (λ o. Bool) [ None ↦ false | Some r ↦ accepts_by_from (quotient m classes) r w ])
           ≡ (elim o as (λ o. Bool) [ None ↦ false | Some r ↦ accepts_from m r w ])
       by again None = refl
       by again (Some r) = from_least w again r
@@ -89,31 +90,31 @@ module _ (m : Automaton) (classes : List ℕ) (are : AreClasses m classes) where
 
   pub quotient_canonical : (built : Automaton) → StandsFor (quotient m classes) (IsLeastState m classes) built → IsBreadthFirst built → IsValid built → IsCanonical built
   quotient_canonical built stands breadth_first built_valid = record {
-      valid = built_valid;
-      breadth_first = breadth_first;
-      live = λ q l.
-          let s = slice_get-some stands.found q (let c = stands.count in omega arith) in
-          let more = least_live s.0 (stands.states q s.0 s.1) in
-          (more.0, stands.language q s.0 s.1 more.0 ∙ quotient_from more.0 s.0 ∙ more.1);
-      told_apart = λ p q l k.
-          let s = slice_get-some stands.found p (let c = stands.count in omega arith) in
-          let t = slice_get-some stands.found q (let c = stands.count in omega arith) in
-          let more = least_apart s.0 t.0 (stands.states p s.0 s.1) (stands.states q t.0 t.1)
-              (λ e. absurd (let same = stands.distinct p q s.0 s.1 (subst (λ x. slice_get stands.found q ≡ Some x) (sym e) t.1) in omega arith)) in
-          (more.0, λ e. more.1 (sym (stands.language p s.0 s.1 more.0 ∙ quotient_from more.0 s.0) ∙ e ∙ stands.language q t.0 t.1 more.0 ∙ quotient_from more.0 t.0));
-    }
+    valid = built_valid;
+    breadth_first = breadth_first;
+    live = λ q l.
+        let s = slice_get-some stands.found q (let c = stands.count in omega arith) in
+        let more = least_live s.0 (stands.states q s.0 s.1) in
+        (more.0, stands.language q s.0 s.1 more.0 ∙ quotient_from more.0 s.0 ∙ more.1);
+    told_apart = λ p q l k.
+        let s = slice_get-some stands.found p (let c = stands.count in omega arith) in
+        let t = slice_get-some stands.found q (let c = stands.count in omega arith) in
+        let more = least_apart s.0 t.0 (stands.states p s.0 s.1) (stands.states q t.0 t.1)
+        (λ e. absurd (let same = stands.distinct p q s.0 s.1 (subst (λ x. slice_get stands.found q ≡ Some x) (sym e) t.1) in omega arith)) in
+        (more.0, λ e. more.1 (sym (stands.language p s.0 s.1 more.0 ∙ quotient_from more.0 s.0) ∙ e ∙ stands.language q t.0 t.1 more.0 ∙ quotient_from more.0 t.0));
+  }
 
 -- the edges of the quotient, one after another
 module _ (classes : List ℕ) (edges : List (ℕ × ℕ)) (i : ℕ) (l : i < length edges) (done : List (ℕ × ℕ)) (h : done ≡ filter_map (least_edge classes) (take i edges)) where
   next_least_edge : (o : Option ℕ) → least_state (slice_index classes (get_or edges i (0, 0)).1) ≡ o
-    → filter_map (least_edge classes) (take (i + 1) edges) ≡ done ++ cons_option (option_map (λ r. ((get_or edges i (0, 0)).0, r)) o) []
+      → filter_map (least_edge classes) (take (i + 1) edges) ≡ done ++ cons_option (option_map (λ r. ((get_or edges i (0, 0)).0, r)) o) []
   next_least_edge o e =
       ap (filter_map (least_edge classes)) (take_more edges i (0, 0) l) ∙ filter_map-append (least_edge classes) (take i edges) (get_or edges i (0, 0) ∷ [])
       ∙ ap (λ xs. xs ++ cons_option (least_edge classes (get_or edges i (0, 0))) []) (sym h)
       ∙ ap (λ p. done ++ cons_option (option_map (λ r. ((get_or edges i (0, 0)).0, r)) p) []) e
 
   pub least_edge_more : (r : ℕ) → Some r ≡ least_state (slice_index classes (get_or edges i (0, 0)).1)
-    → done ++ ((get_or edges i (0, 0)).0, r) ∷ [] ≡ filter_map (least_edge classes) (take (i + 1) edges)
+      → done ++ ((get_or edges i (0, 0)).0, r) ∷ [] ≡ filter_map (least_edge classes) (take (i + 1) edges)
   least_edge_more r e = sym (next_least_edge (Some r) (sym e))
 
   pub no_edge_more : None ≡ least_state (slice_index classes (get_or edges i (0, 0)).1) → done ≡ filter_map (least_edge classes) (take (i + 1) edges)

@@ -19,11 +19,11 @@ module _ (classes : List ℕ) (edges : List (ℕ × ℕ)) (i : ℕ) (l : i < len
       ∙ ap (λ xs. xs ++ cons_option (live_edge classes (get_or edges i (0, 0))) []) (sym h)
 
   pub live_edge_more : (slice_index classes (get_or edges i (0, 0)).1 ≡ 0 → ⊥)
-    → done ++ ((get_or edges i (0, 0)).0, slice_index classes (get_or edges i (0, 0)).1) ∷ [] ≡ filter_map (live_edge classes) (take (i + 1) edges)
+      → done ++ ((get_or edges i (0, 0)).0, slice_index classes (get_or edges i (0, 0)).1) ∷ [] ≡ filter_map (live_edge classes) (take (i + 1) edges)
   live_edge_more ne = sym (next_edge ∙ by (slice_index classes (get_or edges i (0, 0)).1) refl)
     where
       by : (c : ℕ) → slice_index classes (get_or edges i (0, 0)).1 ≡ c
-        → done ++ cons_option (live_edge classes (get_or edges i (0, 0))) [] ≡ done ++ ((get_or edges i (0, 0)).0, slice_index classes (get_or edges i (0, 0)).1) ∷ []
+          → done ++ cons_option (live_edge classes (get_or edges i (0, 0))) [] ≡ done ++ ((get_or edges i (0, 0)).0, slice_index classes (get_or edges i (0, 0)).1) ∷ []
       by zero e = absurd (ne e)
       by (suc c) e =
           let edge = get_or edges i (0, 0) in
@@ -57,6 +57,7 @@ module _ (m : Automaton) (classes : List ℕ) where
       where
         same : slice_index (finer ++ c ∷ []) r ≡ slice_index finer r
         same = get_or_append_left finer (c ∷ []) 0 r (let e = s.count in omega arith)
+
         by : HasClass firsts finer r → HasClass more (finer ++ c ∷ []) r
         by (inl h) = inl (h.0, same ∙ h.1)
         by (inr h) = inr (h.0, h.1, keeps (signature_of m classes r) (suc h.1) h.2, same ∙ h.3, h.4, h.5)
@@ -66,10 +67,10 @@ module _ (m : Automaton) (classes : List ℕ) where
 
     pub splitting_more : FindsClass firsts more (signature_of m classes q) q c → IsSplitting more (finer ++ c ∷ []) (suc q)
     splitting_more found = record {
-        count = (let e = s.count in let a = length-append finer (c ∷ []) in omega arith);
-        known = known found;
-        done = λ r l. done found r (cases_eq r q) l;
-      }
+      count = (let e = s.count in let a = length-append finer (c ∷ []) in omega arith);
+      known = known found;
+      done = λ r l. done found r (cases_eq r q) l;
+    }
       where
         known : FindsClass firsts more (signature_of m classes q) q c → (t : Signature) (k : ℕ) → more t ≡ Some k → (r : ℕ) × (k ≡ suc r) × (r < suc q) × (signature_of m classes r ≡ t)
         known (inl f) t k h = let x = s.known t k (sym (f.same t) ∙ h) in (x.0, x.1, (let l = x.2 in omega arith), x.3)
@@ -84,45 +85,56 @@ module _ (m : Automaton) (classes : List ℕ) where
             by (inr e) =
                 let other = f.same t (λ same. true≢false (sym ((same_signature-decides (signature_of m classes q) t).1 same) ∙ e)) in
                 let x = s.known t k (sym other ∙ h) in (x.0, x.1, (let l = x.2 in omega arith), x.3)
+
         keeps : FindsClass firsts more (signature_of m classes q) q c → (t : Signature) (k : ℕ) → firsts t ≡ Some k → more t ≡ Some k
         keeps (inl f) t k h = f.same t ∙ h
         keeps (inr (inl f)) t k h = f.same t ∙ h
         keeps (inr (inr f)) t k h = f.same t (λ same. let a = ap firsts same in let b = f.unknown in cc) ∙ h
+
         last : FindsClass firsts more (signature_of m classes q) q c → HasClass more (finer ++ c ∷ []) q
         last (inl f) = inl (f.none, last_class ∙ f.class_is)
         last (inr (inl f)) =
             let x = s.known (signature_of m classes q) c f.known in
             inr (f.some, x.0, f.same (signature_of m classes q) ∙ f.known ∙ ap Some x.1, last_class ∙ x.1, (let l = x.2 in omega arith), x.3)
         last (inr (inr f)) = inr (f.some, q, f.added, last_class ∙ f.class_is, omega arith, refl)
+
         done : FindsClass firsts more (signature_of m classes q) q c → (r : ℕ) → (r ≡ q) ⊎ (r ≡ q → ⊥) → r < suc q → HasClass more (finer ++ c ∷ []) r
         done f r (inl same) l = subst (HasClass more (finer ++ c ∷ [])) (sym same) (last f)
         done f r (inr other) l = kept_class (keeps f) r (omega arith)
 
   pub splitting_all : (count : length classes ≡ length m.states) (firsts : Signature → Option ℕ) (finer : List ℕ) → IsSplitting firsts finer (length m.states) → IsSplit m classes finer
   splitting_all count firsts finer s = record {
-      count = s.count;
-      together = λ p q e. together p q e (status p) (status q);
-      apart = λ p q e. apart p q e (status p) (status q);
-      least = λ q r e. least q r e (status q);
-    }
+    count = s.count;
+    together = λ p q e. together p q e (status p) (status q);
+    apart = λ p q e. apart p q e (status p) (status q);
+    least = λ q r e. least q r e (status q);
+  }
     where
       status : (p : ℕ) → HasClass firsts finer p
       status p = elim (cases_lt p (length m.states)) [
-          inl there ↦ s.done p there
-        | inr past ↦ inl ((λ i. record {
-              class = get_or_past classes p 0 (omega arith) i;
-              accepting = is_accepting-past m.states p past i;
-              edges = live_edges-past classes m.states p past i }), get_or_past finer p 0 (let e = s.count in omega arith)) ]
+        | inl there ↦ s.done p there
+        | inr past ↦ inl (
+          (λ i. record {
+            class = get_or_past classes p 0 (omega arith) i;
+            accepting = is_accepting-past m.states p past i;
+            edges = live_edges-past classes m.states p past i;
+          }),
+          get_or_past finer p 0 (let e = s.count in omega arith),
+        )
+      ]
+
       together : (p q : ℕ) → signature_of m classes p ≡ signature_of m classes q → HasClass firsts finer p → HasClass firsts finer q → slice_index finer p ≡ slice_index finer q
       together p q e (inl h) (inl k) = h.1 ∙ sym k.1
       together p q e (inl h) (inr k) = absurd (k.0 (sym e ∙ h.0))
       together p q e (inr h) (inl k) = absurd (h.0 (e ∙ k.0))
       together p q e (inr h) (inr k) = let a = ap firsts e in let x = h.2 in let y = k.2 in let same : suc h.1 ≡ suc k.1 = cc in h.3 ∙ same ∙ sym k.3
+
       apart : (p q : ℕ) → slice_index finer p ≡ slice_index finer q → HasClass firsts finer p → HasClass firsts finer q → signature_of m classes p ≡ signature_of m classes q
       apart p q e (inl h) (inl k) = h.0 ∙ sym k.0
       apart p q e (inl h) (inr k) = absurd (let a = h.1 in let b = k.3 in omega arith)
       apart p q e (inr h) (inl k) = absurd (let a = h.3 in let b = k.1 in omega arith)
       apart p q e (inr h) (inr k) = let same : h.1 ≡ k.1 = (let a = h.3 in let b = k.3 in omega arith) in sym h.5 ∙ ap (signature_of m classes) same ∙ k.5
+
       least : (q r : ℕ) → slice_index finer q ≡ suc r → HasClass firsts finer q → (r ≤ q) × (signature_of m classes r ≡ signature_of m classes q)
       least q r e (inl h) = absurd (let a = h.1 in omega arith)
       least q r e (inr h) = let same : h.1 ≡ r = (let a = h.3 in omega arith) in ((let b = h.4 in omega arith), subst (λ k. signature_of m classes k ≡ signature_of m classes q) same h.5)

@@ -19,15 +19,17 @@ use Rattle.minimise.proofs.Edges.{accepts_from-past, edges_of-increasing, edges_
 -- a run that an accepted word goes on ends at a state
 run-live : (m : Automaton) (u w : List ℕ) (r : ℕ) → run_from m 0 u ≡ Some r → IsTrue (accepts m (u ++ w)) → r < length m.states
 run-live m u w r h k = elim (cases_lt r (length m.states)) [
-    inl there ↦ there
-  | inr past ↦ absurd (true≢false (sym k ∙ accepts_from-append m 0 u w r h ∙ accepts_from-past m r w past)) ]
+  | inl there ↦ there
+  | inr past ↦ absurd (true≢false (sym k ∙ accepts_from-append m 0 u w r h ∙ accepts_from-past m r w past))
+]
 
 -- states of a canonical automaton that accept the same words are one state
 same_state : (m : Automaton) → IsCanonical m → (p q : ℕ) → p < length m.states → q < length m.states → ((w : List ℕ) → accepts_from m p w ≡ accepts_from m q w) → p ≡ q
 same_state m c p q h k same = elim (cases_order p q) [
-    inl e ↦ e
+  | inl e ↦ e
   | inr (inl less) ↦ let a = c.told_apart p q less k in absurd (a.1 (same a.0))
-  | inr (inr more) ↦ let a = c.told_apart q p more h in absurd (a.1 (sym (same a.0))) ]
+  | inr (inr more) ↦ let a = c.told_apart q p more h in absurd (a.1 (sym (same a.0)))
+]
 
 module _ (m n : Automaton) (c : IsCanonical m) (same : SameLanguage m n) where
   -- states to which one word leads accept the same words
@@ -95,8 +97,9 @@ module _ (m n : Automaton) (c : IsCanonical m) (same : SameLanguage m n) where
         count = ap suc rest.count;
         distinct = (all_differ (partner k l) rest.partners (λ y among e. let j = rest.each y among in partner-apart j.0 k j.1 l j.2 (sym j.3 ∙ sym e)), rest.distinct);
         each = λ r e. elim (or_cases (nat_eq r (partner k l)) (list_any (nat_eq r) rest.partners) e) [
-            inl here ↦ (k, l, omega arith, eqb-true r (partner k l) here)
-          | inr there ↦ let j = rest.each r there in (j.0, j.1, (let b = j.2 in omega arith), j.3) ];
+          | inl here ↦ (k, l, omega arith, eqb-true r (partner k l) here)
+          | inr there ↦ let j = rest.each r there in (j.0, j.1, (let b = j.2 in omega arith), j.3)
+        ];
       }
 
   pub size-least : length m.states ≤ length n.states
@@ -109,11 +112,12 @@ module _ (m n : Automaton) (c : IsCanonical m) (same : SameLanguage m n) where
   module _ (d : IsCanonical n) where
     partner-ordered : (p q : ℕ) (h : p < length m.states) (l : q < length m.states) → p < q → partner p h < partner q l
     partner-ordered p q h l less = elim (cases_order (partner p h) (partner q l)) [
-        inl e ↦ absurd (partner-apart p q h l less e)
+      | inl e ↦ absurd (partner-apart p q h l less e)
       | inr (inl below) ↦ below
       | inr (inr above) ↦ absurd (is_before-asymmetric (least_word p h) (least_word q l)
-            (c.breadth_first.increasing p q (least_word p h) (least_word q l) less l (least_word-is p h) (least_word-is q l))
-            (d.breadth_first.increasing (partner q l) (partner p h) (least_word q l) (least_word p h) above (partner-below p h) (partner-least q l) (partner-least p h))) ]
+          (c.breadth_first.increasing p q (least_word p h) (least_word q l) less l (least_word-is p h) (least_word-is q l))
+          (d.breadth_first.increasing (partner q l) (partner p h) (least_word q l) (least_word p h) above (partner-below p h) (partner-least q l) (partner-least p h)))
+    ]
 
     partner-above : (q : ℕ) (l : q < length m.states) → q ≤ partner q l
     partner-above zero l = omega arith
@@ -144,9 +148,11 @@ module _ (m n : Automaton) (c : IsCanonical m) (d : IsCanonical n) (same : SameL
     where
       through : (x : Automaton) (o : Option ℕ) → target x q a ≡ o → (w : List ℕ) → accepts_from x q (a ∷ w) ≡ (elim o as (λ o. Bool) [ None ↦ false | Some r ↦ accepts_from x r w ])
       through x o e w = ap (λ o. elim o as (λ o. Bool) [ None ↦ false | Some r ↦ accepts_from x r w ]) e
+
       inside : (x : Automaton) → IsCanonical x → (r : ℕ) → target x q a ≡ Some r → r < length x.states
       inside x k r e = find_target_within (edges_of x.states q) (length x.states) a r
           (All-edges_of (λ edges. All (λ edge. edge.1 < length x.states) edges) x.states (All-nil (λ (edge : ℕ × ℕ). edge.1 < length x.states)) k.valid.targets_in_range q) e
+
       by : (o p : Option ℕ) → target m q a ≡ o → target n q a ≡ p → target m q a ≡ target n q a
       by None None e f = e ∙ sym f
       by None (Some s) e f =
@@ -163,8 +169,9 @@ module _ (m n : Automaton) (c : IsCanonical m) (d : IsCanonical n) (same : SameL
 
   same_edges : (q : ℕ) → q < length m.states → edges_of m.states q ≡ edges_of n.states q
   same_edges q l = elim (edges_differ (edges_of m.states q) (edges_of n.states q) (edges_of-increasing m c.valid q) (edges_of-increasing n d.valid q)) [
-      inl e ↦ e
-    | inr differ ↦ absurd (differ.1 (look_up-edges (edges_of m.states q) differ.0 ∙ same_target q differ.0 l ∙ sym (look_up-edges (edges_of n.states q) differ.0))) ]
+    | inl e ↦ e
+    | inr differ ↦ absurd (differ.1 (look_up-edges (edges_of m.states q) differ.0 ∙ same_target q differ.0 l ∙ sym (look_up-edges (edges_of n.states q) differ.0)))
+  ]
 
 -- lists of nodes are equal where their flags and edges are
 pub same_nodes : (xs ys : List (Node ℕ)) → length xs ≡ length ys → ((q : ℕ) → q < length xs → is_accepting xs q ≡ is_accepting ys q) → ((q : ℕ) → q < length xs → edges_of xs q ≡ edges_of ys q) → xs ≡ ys

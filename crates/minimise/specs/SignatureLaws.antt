@@ -20,6 +20,7 @@ same_edge-decides e f = (to, from)
     to : (same_edge e f ≡ true) → e ≡ f
     to h = let parts = and_parts (nat_eq e.0 f.0) (nat_eq e.1 f.1) h in
         let a = (Decides-eqb e.0 f.0).0 parts.0 in let b = (Decides-eqb e.1 f.1).0 parts.1 in λ i. (a i, b i)
+
     from : (e ≡ f) → same_edge e f ≡ true
     from h = and_from (nat_eq e.0 f.0) (nat_eq e.1 f.1) ((Decides-eqb e.0 f.0).1 (ap (λ x. x.0) h)) ((Decides-eqb e.1 f.1).1 (ap (λ x. x.1) h))
 
@@ -34,6 +35,7 @@ same_signature-decides s t = (to, from)
         let b = (beq-decides s.accepting t.accepting).0 more.0 in
         let c = (pointwise_decides same_edge-decides s.edges t.edges).0 more.1 in
         λ i. record { class = a i; accepting = b i; edges = c i }
+
     from : (s ≡ t) → same_signature s t ≡ true
     from h = and_from (nat_eq s.class t.class) (beq s.accepting t.accepting && pointwise same_edge s.edges t.edges) ((Decides-eqb s.class t.class).1 (ap (λ x. x.class) h))
         (and_from (beq s.accepting t.accepting) (pointwise same_edge s.edges t.edges) ((beq-decides s.accepting t.accepting).1 (ap (λ x. x.accepting) h))
@@ -42,10 +44,10 @@ same_signature-decides s t = (to, from)
 -- what decides equality is an equivalence
 equivalence_from_decides : {K : Type 0} (E : K → K → Bool) → ((x y : K) → Decides (E x y) (x ≡ y)) → IsEquivalence E
 equivalence_from_decides E d = record {
-    refl = λ x. (d x x).1 refl;
-    symm = λ x y. same_from_decides (E x y) (E y x) (d x y) ((λ h. sym ((d y x).0 h)), (λ h. (d y x).1 (sym h)));
-    congr = λ x y z h. ap (λ k. E k z) ((d x y).0 h);
-  }
+  refl = λ x. (d x x).1 refl;
+  symm = λ x y. same_from_decides (E x y) (E y x) (d x y) ((λ h. sym ((d y x).0 h)), (λ h. (d y x).1 (sym h)));
+  congr = λ x y z h. ap (λ k. E k z) ((d x y).0 h);
+}
 
 pub same_signature-equivalence : IsEquivalence same_signature
 same_signature-equivalence = equivalence_from_decides same_signature same_signature-decides

@@ -1,15 +1,17 @@
 //! Canonical automata.
 
-ghost use Rattle.std.specs.Prelude.{◌≡◌, ◌↔◌, ◌<◌, ◌^◌, IsTrue, IfOk, length};
+ghost use Rattle.std.specs.Prelude.{◌≡◌, ◌↔◌, ◌<◌, ◌^◌, List, ℕ, IsTrue, IfOk, length};
 ghost use Rattle.word_automata.specs.Automaton.{accepts};
+ghost use Rattle.word_automata.specs.Nondeterministic.{Accepts};
 ghost use Rattle.minimise.specs.Canonical.{IsCanonical, SameLanguage};
 
 use crate::quotient::Quotient;
 use crate::refinement::classes;
+use determinise::determinise;
 use exploration::explore;
 use std::alloc::{AllocError, Global};
 use std::marker::Model;
-use word_automata::Dfa;
+use word_automata::{Dfa, Nfa};
 
 /// A canonical automaton: each state is reached and reaches an accepting state, no two accept the same words, and states are
 /// numbered breadth first, letters in increasing order. The empty language has no state.
@@ -73,6 +75,16 @@ pub fn canonical(alloc: Global, automaton: &Dfa) -> Result<Canon, AllocError>
     let classes = classes(alloc, automaton)?;
     let dfa = explore(alloc, &Quotient::new(automaton, &classes))?;
     Ok(Canon { dfa })
+}
+
+/// The canonical automaton of the language of a nondeterministic automaton.
+pub fn canonical_nfa(alloc: Global, automaton: &Nfa) -> Result<Canon, AllocError>
+    ensures language { IfOk result (λ canon. (w : List ℕ) → IsTrue (accepts canon w) ↔ Accepts automaton.now w) }
+    ensures letters { IfOk result (λ canon. canon.letters ≡ automaton.now.letters) }
+    ensures canonical { IfOk result IsCanonical }
+{
+    let dfa = determinise(alloc, automaton)?;
+    Ok(canonical(alloc, &dfa)?)
 }
 
 /// Whether the two automata are equal as data, which they are exactly where their numbers of letters and their languages are.
