@@ -7,9 +7,9 @@ use Rattle.word_automata.specs.Path.{Node, edges_of, is_accepting}
 use Rattle.transducers.specs.declared.Label.{Label}
 use Rattle.transducers.specs.Transducer.{Transducer, IsEdge, Relates, RelatesFrom}
 use Rattle.transducers.specs.Builder.{without_states, with_state, with_start, with_edges}
-use Rattle.transducers.specs.Combination.{copy_edge, copy_edges}
+use Rattle.transducers.specs.Combination.{exchange, copy_edge, copy_edges}
 use Rattle.transducers.proofs.ListLemmas.{Contains-map_cases, Contains-map_image, Contains-range_cases, Contains-range}
-use Rattle.transducers.proofs.ExchangeLemmas.{exchange, Exchanges, HasExchanges, RelatesFrom-exchanges, exchanges_from_RelatesFrom}
+use Rattle.transducers.proofs.ExchangeLemmas.{Exchanges, HasExchanges, RelatesFrom-exchanges, exchanges_from_RelatesFrom}
 
 -- the letters from the offset on
 abbrev pub IsLetter : ℕ → ℕ → ℕ → Type 0
