@@ -1,9 +1,9 @@
 -- Lemmas on the machines for moves that change two positions.
-use Rattle.std.proofs.Common.{◌≡◌, ℕ, zero, suc, ◌+◌, ◌-◌, ◌<◌, ◌≤◌, Bool, true, false, List, [], ◌∷◌, ◌++◌, length, Some, Contains, refl, sym, ap, ◌∙◌, subst, inl, inr, arith, IsTrue, ◌⊎◌, true≢false, All}
+use Rattle.std.proofs.Common.{◌≡◌, ℕ, zero, suc, ◌+◌, ◌-◌, ◌<◌, ◌≤◌, false, List, [], ◌∷◌, ◌++◌, Contains, refl, sym, ap, ◌∙◌, subst, inl, inr, arith, IsTrue, ◌⊎◌, true≢false, All}
 use Rattle.std.proofs.lemmas.List.Elements.{All-from_recursion, All-append, Contains-append_cases, Contains-append_right}
 use Rattle.word_automata.specs.Path.{Node, edges_of, is_accepting, IsPath}
 use Rattle.transducers.specs.declared.Label.{Label}
-use Rattle.transducers.specs.Transducer.{Transducer, IsEdge, IsValid, Relates, RelatesFrom, IsAccessible, IsTrim}
+use Rattle.transducers.specs.Transducer.{IsEdge, IsValid, Relates, RelatesFrom, IsAccessible, IsTrim}
 use Rattle.transducers.specs.Combination.{exchange, copy_edges}
 use Rattle.transducers.proofs.ExchangeLemmas.{RelatesFrom-exchanges}
 use Rattle.transducers.proofs.CopyLemmas.{IsEdge-copies, exchange_from_copy, copy_from_edge, Contains-single, nothing_in_nil}
@@ -11,7 +11,7 @@ use Rattle.protocol_model.specs.System.{AllBelow}
 use Rattle.protocol_model.specs.Words.{raised}
 use Rattle.protocol_model.specs.Moves.{IsPairMove, IsRingMove, IsTwoMove, ChangesTwo}
 use Rattle.array_moves.specs.Compiled.{IsRaisedMove}
-use Rattle.array_moves.specs.Fixed.{exchange_edge, copying_node, pair_states, ring_states, two_states}
+use Rattle.array_moves.specs.Fixed.{exchange_edge, pair_states, ring_states, two_states}
 use Rattle.array_moves.proofs.LetterLemmas.{nothing_below_zero, AllBelow-left, AllBelow-right, same_exchange, HasLetters, Changes, exchanges_from_Changes, Relates-raised, Leaves, leave, stay, enter}
 
 -- an edge of a list of one or two
@@ -43,15 +43,15 @@ letters_of_node : (offset count copies to : ℕ) (further : List (Label × ℕ))
     → (edge : Label × ℕ) → Contains (copy_edges offset copies to ++ further) edge → IsLetterEdge offset count edge
 letters_of_node offset count copies to further le each edge h =
     elim (Contains-append_cases (copy_edges offset copies to) further edge h) [ inl copied ↦ letter_of_copy copied | inr other ↦ each edge other ]
-    where
-      letter_of_copy : Contains (copy_edges offset copies to) edge → IsLetterEdge offset count edge
-      letter_of_copy copied =
-          let e = exchange_from_copy offset copies to edge copied in
-          let there : Contains (copy_edges offset copies to) (exchange e.0 e.1, edge.1) = subst (λ l. Contains (copy_edges offset copies to) (l, edge.1)) e.2 copied in
-          let parts = copy_from_edge offset copies to e.0 e.1 edge.1 there in
-          let low : (e.0 - offset) + offset ≡ e.0 = omega (arith, parts.0.0) in
-          let high : e.0 - offset < count = omega (arith, parts.0.0, parts.0.1) in
-          (e.0 - offset, e.0 - offset, high, high, e.2 ∙ (λ i. exchange (sym low i) ((sym parts.1 ∙ sym low) i)))
+  where
+    letter_of_copy : Contains (copy_edges offset copies to) edge → IsLetterEdge offset count edge
+    letter_of_copy copied =
+        let e = exchange_from_copy offset copies to edge copied in
+        let there : Contains (copy_edges offset copies to) (exchange e.0 e.1, edge.1) = subst (λ l. Contains (copy_edges offset copies to) (l, edge.1)) e.2 copied in
+        let parts = copy_from_edge offset copies to e.0 e.1 edge.1 there in
+        let low : (e.0 - offset) + offset ≡ e.0 = omega (arith, parts.0.0) in
+        let high : e.0 - offset < count = omega (arith, parts.0.0, parts.0.1) in
+        (e.0 - offset, e.0 - offset, high, high, e.2 ∙ (λ i. exchange (sym low i) ((sym parts.1 ∙ sym low) i)))
 
 none_of_nil : (offset count : ℕ) (edge : Label × ℕ) → Contains [] edge → IsLetterEdge offset count edge
 none_of_nil offset count edge h = nothing_in_nil edge h
@@ -63,8 +63,8 @@ two_letters : (offset count x y to x' y' to' : ℕ) → x < count → y < count 
     → (edge : Label × ℕ) → Contains (exchange_edge offset x y to ∷ exchange_edge offset x' y' to' ∷ []) edge → IsLetterEdge offset count edge
 two_letters offset count x y to x' y' to' hx hy hx' hy' edge h =
     elim (Contains-pair (exchange_edge offset x y to) (exchange_edge offset x' y' to') edge h) [
-      inl e ↦ (x, y, hx, hy, sym (ap (λ e. e.0) e))
-    | inr e ↦ (x', y', hx', hy', sym (ap (λ e. e.0) e))
+      | inl e ↦ (x, y, hx, hy, sym (ap (λ e. e.0) e))
+      | inr e ↦ (x', y', hx', hy', sym (ap (λ e. e.0) e))
     ]
 
 -- an exchange at the same place in equal lists
@@ -102,7 +102,10 @@ module _ (offset : ℕ) (states : List (Node Label)) (p n x y q : ℕ) where
   leaves_by further s t l e =
       let same = same_edge offset x y q l.x l.y l.q e in
       record {
-        before = l.before; before_in_range = l.before_in_range; old_rest = l.old_rest; new_rest = l.new_rest;
+        before = l.before;
+        before_in_range = l.before_in_range;
+        old_rest = l.old_rest;
+        new_rest = l.new_rest;
         was = cut_is s l.before l.x x l.old_rest l.old_rest l.was same.0 refl;
         becomes = cut_is t l.before l.y y l.new_rest l.new_rest l.becomes same.1 refl;
         rest = subst (λ r. Changes offset states r l.old_rest l.new_rest) (sym same.2) l.rest;
@@ -120,34 +123,51 @@ module _ (a b c d offset count : ℕ) (valid : AllBelow count (a ∷ b ∷ c ∷
   pair_valid letters fits =
       record {
         starts_in_range = All-from_recursion (λ q. q < 3) (0 ∷ []) (omega arith, tt);
-        edges_in_range = All-from_recursion (λ node. All (IsEdge letters 3) node.edges) (pair_states a b c d offset count)
-          ((node_in_range letters offset count 3 fits count 0 (exchange_edge offset a c 1 ∷ []) (omega arith) (omega arith) (All-from_recursion (IsEdge letters 3) (exchange_edge offset a c 1 ∷ []) ((exchange_in_range letters offset count 3 fits a c 1 valid.0 valid.1.1.0 (omega arith)), tt))),
-          ((node_in_range letters offset count 3 fits 0 1 (exchange_edge offset b d 2 ∷ []) (omega arith) (omega arith) (All-from_recursion (IsEdge letters 3) (exchange_edge offset b d 2 ∷ []) ((exchange_in_range letters offset count 3 fits b d 2 valid.1.0 valid.1.1.1.0 (omega arith)), tt))),
-          ((node_in_range letters offset count 3 fits count 2 ([]) (omega arith) (omega arith) (All-from_recursion (IsEdge letters 3) ([]) tt)),
-          tt)));
+        edges_in_range = All-from_recursion (λ node. All (IsEdge letters 3) node.edges) (pair_states a b c d offset count) (
+          (node_in_range letters offset count 3 fits count 0 (exchange_edge offset a c 1 ∷ []) (omega arith) (omega arith) (All-from_recursion (IsEdge letters 3) (exchange_edge offset a c 1 ∷ []) ((exchange_in_range letters offset count 3 fits a c 1 valid.0 valid.1.1.0 (omega arith)), tt))),
+          (
+            (node_in_range letters offset count 3 fits 0 1 (exchange_edge offset b d 2 ∷ []) (omega arith) (omega arith) (All-from_recursion (IsEdge letters 3) (exchange_edge offset b d 2 ∷ []) ((exchange_in_range letters offset count 3 fits b d 2 valid.1.0 valid.1.1.1.0 (omega arith)), tt))),
+            (
+              (node_in_range letters offset count 3 fits count 2 ([]) (omega arith) (omega arith) (All-from_recursion (IsEdge letters 3) ([]) tt)),
+              tt,
+            ),
+          ),
+        );
       }
 
   pub ring_valid : (letters : ℕ) → offset + count ≤ letters → IsValid (record { letters = letters; starts = 0 ∷ []; states = ring_states a b c d offset count })
   ring_valid letters fits =
       record {
         starts_in_range = All-from_recursion (λ q. q < 3) (0 ∷ []) (omega arith, tt);
-        edges_in_range = All-from_recursion (λ node. All (IsEdge letters 3) node.edges) (ring_states a b c d offset count)
-          ((node_in_range letters offset count 3 fits 0 0 (exchange_edge offset b d 1 ∷ []) (omega arith) (omega arith) (All-from_recursion (IsEdge letters 3) (exchange_edge offset b d 1 ∷ []) ((exchange_in_range letters offset count 3 fits b d 1 valid.1.0 valid.1.1.1.0 (omega arith)), tt))),
-          ((node_in_range letters offset count 3 fits count 1 (exchange_edge offset a c 2 ∷ []) (omega arith) (omega arith) (All-from_recursion (IsEdge letters 3) (exchange_edge offset a c 2 ∷ []) ((exchange_in_range letters offset count 3 fits a c 2 valid.0 valid.1.1.0 (omega arith)), tt))),
-          ((node_in_range letters offset count 3 fits 0 2 ([]) (omega arith) (omega arith) (All-from_recursion (IsEdge letters 3) ([]) tt)),
-          tt)));
+        edges_in_range = All-from_recursion (λ node. All (IsEdge letters 3) node.edges) (ring_states a b c d offset count) (
+          (node_in_range letters offset count 3 fits 0 0 (exchange_edge offset b d 1 ∷ []) (omega arith) (omega arith) (All-from_recursion (IsEdge letters 3) (exchange_edge offset b d 1 ∷ []) ((exchange_in_range letters offset count 3 fits b d 1 valid.1.0 valid.1.1.1.0 (omega arith)), tt))),
+          (
+            (node_in_range letters offset count 3 fits count 1 (exchange_edge offset a c 2 ∷ []) (omega arith) (omega arith) (All-from_recursion (IsEdge letters 3) (exchange_edge offset a c 2 ∷ []) ((exchange_in_range letters offset count 3 fits a c 2 valid.0 valid.1.1.0 (omega arith)), tt))),
+            (
+              (node_in_range letters offset count 3 fits 0 2 ([]) (omega arith) (omega arith) (All-from_recursion (IsEdge letters 3) ([]) tt)),
+              tt,
+            ),
+          ),
+        );
       }
 
   pub two_valid : (letters : ℕ) → offset + count ≤ letters → IsValid (record { letters = letters; starts = 0 ∷ []; states = two_states a b c d offset count })
   two_valid letters fits =
       record {
         starts_in_range = All-from_recursion (λ q. q < 4) (0 ∷ []) (omega arith, tt);
-        edges_in_range = All-from_recursion (λ node. All (IsEdge letters 4) node.edges) (two_states a b c d offset count)
-          ((node_in_range letters offset count 4 fits count 0 (exchange_edge offset a c 1 ∷ exchange_edge offset b d 2 ∷ []) (omega arith) (omega arith) (All-from_recursion (IsEdge letters 4) (exchange_edge offset a c 1 ∷ exchange_edge offset b d 2 ∷ []) ((exchange_in_range letters offset count 4 fits a c 1 valid.0 valid.1.1.0 (omega arith)), ((exchange_in_range letters offset count 4 fits b d 2 valid.1.0 valid.1.1.1.0 (omega arith)), tt)))),
-          ((node_in_range letters offset count 4 fits count 1 (exchange_edge offset b d 3 ∷ []) (omega arith) (omega arith) (All-from_recursion (IsEdge letters 4) (exchange_edge offset b d 3 ∷ []) ((exchange_in_range letters offset count 4 fits b d 3 valid.1.0 valid.1.1.1.0 (omega arith)), tt))),
-          ((node_in_range letters offset count 4 fits count 2 (exchange_edge offset a c 3 ∷ []) (omega arith) (omega arith) (All-from_recursion (IsEdge letters 4) (exchange_edge offset a c 3 ∷ []) ((exchange_in_range letters offset count 4 fits a c 3 valid.0 valid.1.1.0 (omega arith)), tt))),
-          ((node_in_range letters offset count 4 fits count 3 ([]) (omega arith) (omega arith) (All-from_recursion (IsEdge letters 4) ([]) tt)),
-          tt))));
+        edges_in_range = All-from_recursion (λ node. All (IsEdge letters 4) node.edges) (two_states a b c d offset count) (
+          (node_in_range letters offset count 4 fits count 0 (exchange_edge offset a c 1 ∷ exchange_edge offset b d 2 ∷ []) (omega arith) (omega arith) (All-from_recursion (IsEdge letters 4) (exchange_edge offset a c 1 ∷ exchange_edge offset b d 2 ∷ []) ((exchange_in_range letters offset count 4 fits a c 1 valid.0 valid.1.1.0 (omega arith)), ((exchange_in_range letters offset count 4 fits b d 2 valid.1.0 valid.1.1.1.0 (omega arith)), tt)))),
+          (
+            (node_in_range letters offset count 4 fits count 1 (exchange_edge offset b d 3 ∷ []) (omega arith) (omega arith) (All-from_recursion (IsEdge letters 4) (exchange_edge offset b d 3 ∷ []) ((exchange_in_range letters offset count 4 fits b d 3 valid.1.0 valid.1.1.1.0 (omega arith)), tt))),
+            (
+              (node_in_range letters offset count 4 fits count 2 (exchange_edge offset a c 3 ∷ []) (omega arith) (omega arith) (All-from_recursion (IsEdge letters 4) (exchange_edge offset a c 3 ∷ []) ((exchange_in_range letters offset count 4 fits a c 3 valid.0 valid.1.1.0 (omega arith)), tt))),
+              (
+                (node_in_range letters offset count 4 fits count 3 ([]) (omega arith) (omega arith) (All-from_recursion (IsEdge letters 4) ([]) tt)),
+                tt,
+              ),
+            ),
+          ),
+        );
       }
 
   pair_letters : HasLetters offset count (pair_states a b c d offset count)
@@ -241,9 +261,9 @@ module _ (a b c d offset count : ℕ) (valid : AllBelow count (a ∷ b ∷ c ∷
       by : ((s ≡ t) × AllBelow count s × IsTrue (is_accepting (two_states a b c d offset count) 0)) ⊎ Leaves offset (two_states a b c d offset count) count (exchange_edge offset a c 1 ∷ exchange_edge offset b d 2 ∷ []) s t → IsTwoMove a b c d s t
       by (inl e) = absurd (true≢false (sym e.2))
       by (inr l) = elim (Contains-pair (exchange_edge offset a c 1) (exchange_edge offset b d 2) _ l.edge) [
-          inl e ↦ inl (two_rest a c b d 1 s t (leaves_by offset (two_states a b c d offset count) 0 count a c 1 _ s t l e) refl refl)
+        | inl e ↦ inl (two_rest a c b d 1 s t (leaves_by offset (two_states a b c d offset count) 0 count a c 1 _ s t l e) refl refl)
         | inr e ↦ inr (two_rest b d a c 2 s t (leaves_by offset (two_states a b c d offset count) 0 count b d 2 _ s t l e) refl refl)
-        ]
+      ]
 
   two_enter : (x y x' y' q : ℕ) (s t : List ℕ) → AllBelow count s → ChangesTwo x x' y y' s t → edges_of (two_states a b c d offset count) q ≡ copy_edges offset count q ++ (exchange_edge offset x' y' 3 ∷ [])
       → Contains (exchange_edge offset a c 1 ∷ exchange_edge offset b d 2 ∷ []) (exchange_edge offset x y q) → Changes offset (two_states a b c d offset count) 0 s t
@@ -294,15 +314,19 @@ module _ (a b c d letters offset count : ℕ) where
     where
       one : Contains (edges_of (pair_states a b c d offset count) 0) (exchange_edge offset a c 1)
       one = further_edge letters offset count (pair_states a b c d offset count) 0 count 0 (exchange_edge offset a c 1 ∷ []) (exchange_edge offset a c 1) refl (Contains-first (exchange_edge offset a c 1) [])
+
       two : Contains (edges_of (pair_states a b c d offset count) 1) (exchange_edge offset b d 2)
       two = further_edge letters offset count (pair_states a b c d offset count) 1 0 1 (exchange_edge offset b d 2 ∷ []) (exchange_edge offset b d 2) refl (Contains-first (exchange_edge offset b d 2) [])
+
       third : Changes offset (pair_states a b c d offset count) 2 [] []
       third = refl
+
       there : (p : ℕ) → p < 3 → IsAccessible (record { letters = letters; starts = 0 ∷ []; states = pair_states a b c d offset count }) p
       there zero h = reached letters offset count (pair_states a b c d offset count) 0 [] refl
       there (suc zero) h = reached letters offset count (pair_states a b c d offset count) 1 (exchange_edge offset a c 1 ∷ []) (one, refl)
       there (suc (suc zero)) h = reached letters offset count (pair_states a b c d offset count) 2 (exchange_edge offset a c 1 ∷ exchange_edge offset b d 2 ∷ []) (one, (two, refl))
       there (suc (suc (suc p))) h = absurd (omega arith)
+
       back : (p : ℕ) → p < 3 → (u w : List ℕ) × RelatesFrom (record { letters = letters; starts = 0 ∷ []; states = pair_states a b c d offset count }) p u w
       back zero h = live letters offset count (pair_states a b c d offset count) 0 (a ∷ b ∷ []) (c ∷ d ∷ []) (1, one, (2, two, third))
       back (suc zero) h = live letters offset count (pair_states a b c d offset count) 1 (b ∷ []) (d ∷ []) (2, two, third)
@@ -314,15 +338,19 @@ module _ (a b c d letters offset count : ℕ) where
     where
       one : Contains (edges_of (ring_states a b c d offset count) 0) (exchange_edge offset b d 1)
       one = further_edge letters offset count (ring_states a b c d offset count) 0 0 0 (exchange_edge offset b d 1 ∷ []) (exchange_edge offset b d 1) refl (Contains-first (exchange_edge offset b d 1) [])
+
       two : Contains (edges_of (ring_states a b c d offset count) 1) (exchange_edge offset a c 2)
       two = further_edge letters offset count (ring_states a b c d offset count) 1 count 1 (exchange_edge offset a c 2 ∷ []) (exchange_edge offset a c 2) refl (Contains-first (exchange_edge offset a c 2) [])
+
       third : Changes offset (ring_states a b c d offset count) 2 [] []
       third = refl
+
       there : (p : ℕ) → p < 3 → IsAccessible (record { letters = letters; starts = 0 ∷ []; states = ring_states a b c d offset count }) p
       there zero h = reached letters offset count (ring_states a b c d offset count) 0 [] refl
       there (suc zero) h = reached letters offset count (ring_states a b c d offset count) 1 (exchange_edge offset b d 1 ∷ []) (one, refl)
       there (suc (suc zero)) h = reached letters offset count (ring_states a b c d offset count) 2 (exchange_edge offset b d 1 ∷ exchange_edge offset a c 2 ∷ []) (one, (two, refl))
       there (suc (suc (suc p))) h = absurd (omega arith)
+
       back : (p : ℕ) → p < 3 → (u w : List ℕ) × RelatesFrom (record { letters = letters; starts = 0 ∷ []; states = ring_states a b c d offset count }) p u w
       back zero h = live letters offset count (ring_states a b c d offset count) 0 (b ∷ a ∷ []) (d ∷ c ∷ []) (1, one, (2, two, third))
       back (suc zero) h = live letters offset count (ring_states a b c d offset count) 1 (a ∷ []) (c ∷ []) (2, two, third)
@@ -334,20 +362,26 @@ module _ (a b c d letters offset count : ℕ) where
     where
       one : Contains (edges_of (two_states a b c d offset count) 0) (exchange_edge offset a c 1)
       one = further_edge letters offset count (two_states a b c d offset count) 0 count 0 (exchange_edge offset a c 1 ∷ exchange_edge offset b d 2 ∷ []) (exchange_edge offset a c 1) refl (Contains-first (exchange_edge offset a c 1) (exchange_edge offset b d 2 ∷ []))
+
       two : Contains (edges_of (two_states a b c d offset count) 0) (exchange_edge offset b d 2)
       two = further_edge letters offset count (two_states a b c d offset count) 0 count 0 (exchange_edge offset a c 1 ∷ exchange_edge offset b d 2 ∷ []) (exchange_edge offset b d 2) refl (Contains-second (exchange_edge offset a c 1) (exchange_edge offset b d 2) [])
+
       three : Contains (edges_of (two_states a b c d offset count) 1) (exchange_edge offset b d 3)
       three = further_edge letters offset count (two_states a b c d offset count) 1 count 1 (exchange_edge offset b d 3 ∷ []) (exchange_edge offset b d 3) refl (Contains-first (exchange_edge offset b d 3) [])
+
       four : Contains (edges_of (two_states a b c d offset count) 2) (exchange_edge offset a c 3)
       four = further_edge letters offset count (two_states a b c d offset count) 2 count 2 (exchange_edge offset a c 3 ∷ []) (exchange_edge offset a c 3) refl (Contains-first (exchange_edge offset a c 3) [])
+
       fourth : Changes offset (two_states a b c d offset count) 3 [] []
       fourth = refl
+
       there : (p : ℕ) → p < 4 → IsAccessible (record { letters = letters; starts = 0 ∷ []; states = two_states a b c d offset count }) p
       there zero h = reached letters offset count (two_states a b c d offset count) 0 [] refl
       there (suc zero) h = reached letters offset count (two_states a b c d offset count) 1 (exchange_edge offset a c 1 ∷ []) (one, refl)
       there (suc (suc zero)) h = reached letters offset count (two_states a b c d offset count) 2 (exchange_edge offset b d 2 ∷ []) (two, refl)
       there (suc (suc (suc zero))) h = reached letters offset count (two_states a b c d offset count) 3 (exchange_edge offset a c 1 ∷ exchange_edge offset b d 3 ∷ []) (one, (three, refl))
       there (suc (suc (suc (suc p)))) h = absurd (omega arith)
+
       back : (p : ℕ) → p < 4 → (u w : List ℕ) × RelatesFrom (record { letters = letters; starts = 0 ∷ []; states = two_states a b c d offset count }) p u w
       back zero h = live letters offset count (two_states a b c d offset count) 0 (a ∷ b ∷ []) (c ∷ d ∷ []) (1, one, (3, three, fourth))
       back (suc zero) h = live letters offset count (two_states a b c d offset count) 1 (b ∷ []) (d ∷ []) (3, three, fourth)

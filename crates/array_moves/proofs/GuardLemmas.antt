@@ -1,15 +1,14 @@
 -- Lemmas on guards and their flags: what the letters on both sides of the moving position meet.
-use Rattle.std.proofs.Common.{◌≡◌, ℕ, zero, suc, ◌+◌, ◌<◌, ◌≤◌, Bool, true, false, not, ◌&&◌, ◌||◌, List, [], ◌∷◌, ◌++◌, map, length, slice_get, Option, Some, None, refl, sym, ap, ◌∙◌, subst, inl, inr, arith, IsTrue, ◌⊎◌, true≢false, if◌then◌else◌, fold, cond}
-use Rattle.std.specs.List.{list_all, list_any, range_with_len}
+use Rattle.std.proofs.Common.{◌≡◌, ℕ, zero, suc, ◌<◌, Bool, true, false, not, ◌&&◌, ◌||◌, List, [], ◌∷◌, ◌++◌, slice_get, Option, Some, None, refl, sym, ap, ◌∙◌, subst, inl, inr, arith, ◌⊎◌, true≢false, if◌then◌else◌, fold}
+use Rattle.std.specs.List.{list_all, list_any}
 use Rattle.std.proofs.lemmas.List.Folds.{list_all-append, list_any-append}
-use Rattle.std.proofs.lemmas.Option.{same_Some, none-some, slice_get_within}
-use Rattle.transducers.proofs.ListLemmas.{slice_get-cases, slice_get-map_image, slice_get-map_cases}
+use Rattle.std.proofs.lemmas.Option.{same_Some, none-some}
+use Rattle.transducers.proofs.ListLemmas.{slice_get-cases}
 use Rattle.protocol_syntax.specs.declared.protocol.Region.{Region}
 use Rattle.protocol_syntax.specs.declared.protocol.Region.TheVariants.{Left, Right, Others}
 use Rattle.protocol_model.specs.declared.system.Guard.{Guard}
-use Rattle.protocol_model.specs.System.{AllBelow}
 use Rattle.protocol_model.specs.Moves.{is_in, region_letters, guard_holds}
-use Rattle.array_moves.specs.Flags.{flag, four_flags, no_flags, union_of, covers_one, covers, has_side, permits, meets, meets_at, effect_of, asks_at, required_of, widened, reach_of}
+use Rattle.array_moves.specs.Flags.{flag, four_flags, no_flags, union_of, covers_one, covers, permits, meets, meets_at, effect_of, asks_at, widened}
 
 -- conjunctions and disjunctions of tests
 pub both : (a b : Bool) → (a && b) ≡ true → (a ≡ true) × (b ≡ true)
@@ -73,7 +72,7 @@ all_permits Others letters before after h = all_parts (is_in letters) before aft
 -- a guard that asks for some letter holds exactly where a letter on one of the sides meets it
 some_met : (region : Region) (letters before after : List ℕ)
     → list_any (is_in letters) (region_letters region before after)
-      ≡ (list_any (meets (record { all = false; region = region; letters = letters }) false) before || list_any (meets (record { all = false; region = region; letters = letters }) true) after)
+    ≡ (list_any (meets (record { all = false; region = region; letters = letters }) false) before || list_any (meets (record { all = false; region = region; letters = letters }) true) after)
 some_met Left letters before after = or_false (list_any (is_in letters) before) (list_any (λ x. false) after) (any_of_false after)
   where
     or_false : (a b : Bool) → b ≡ false → a ≡ (a || b)
@@ -129,10 +128,13 @@ flag_from_covers a b h k lt e = at k lt e
   where
     first : (covers_one (flag a 0) (flag b 0) ≡ true) × ((covers_one (flag a 1) (flag b 1) && (covers_one (flag a 2) (flag b 2) && covers_one (flag a 3) (flag b 3))) ≡ true)
     first = both (covers_one (flag a 0) (flag b 0)) (covers_one (flag a 1) (flag b 1) && (covers_one (flag a 2) (flag b 2) && covers_one (flag a 3) (flag b 3))) h
+
     second : (covers_one (flag a 1) (flag b 1) ≡ true) × ((covers_one (flag a 2) (flag b 2) && covers_one (flag a 3) (flag b 3)) ≡ true)
     second = both (covers_one (flag a 1) (flag b 1)) (covers_one (flag a 2) (flag b 2) && covers_one (flag a 3) (flag b 3)) first.1
+
     third : (covers_one (flag a 2) (flag b 2) ≡ true) × (covers_one (flag a 3) (flag b 3) ≡ true)
     third = both (covers_one (flag a 2) (flag b 2)) (covers_one (flag a 3) (flag b 3)) second.1
+
     at : (k : ℕ) → k < 4 → flag b k ≡ true → flag a k ≡ true
     at zero lt e = covers_one-true (flag a 0) (flag b 0) first.0 e
     at (suc zero) lt e = covers_one-true (flag a 1) (flag b 1) second.0 e
@@ -143,9 +145,9 @@ flag_from_covers a b h k lt e = at k lt e
 pub covers_from_flags : (a b : List Bool) → ((k : ℕ) → k < 4 → flag b k ≡ true → flag a k ≡ true) → covers a b ≡ true
 covers_from_flags a b each =
     both_true (covers_one (flag a 0) (flag b 0)) _ (covers_one-from (flag a 0) (flag b 0) (each 0 (omega arith)))
-      (both_true (covers_one (flag a 1) (flag b 1)) _ (covers_one-from (flag a 1) (flag b 1) (each 1 (omega arith)))
-        (both_true (covers_one (flag a 2) (flag b 2)) (covers_one (flag a 3) (flag b 3)) (covers_one-from (flag a 2) (flag b 2) (each 2 (omega arith)))
-          (covers_one-from (flag a 3) (flag b 3) (each 3 (omega arith)))))
+    (both_true (covers_one (flag a 1) (flag b 1)) _ (covers_one-from (flag a 1) (flag b 1) (each 1 (omega arith)))
+    (both_true (covers_one (flag a 2) (flag b 2)) (covers_one (flag a 3) (flag b 3)) (covers_one-from (flag a 2) (flag b 2) (each 2 (omega arith)))
+    (covers_one-from (flag a 3) (flag b 3) (each 3 (omega arith)))))
 
 -- what an effect says: every guard permits the letter, and the flags are those of the guards that it meets
 pub permitted_from_effect : (guards : List Guard) (behind : Bool) (x : ℕ) (met : List Bool) → effect_of guards behind x ≡ Some met → (list_all (λ guard. permits guard behind x) guards ≡ true) × (met ≡ four_flags (meets_at guards behind x))
@@ -168,8 +170,8 @@ asks_at-there guards k guard e = rw (e, asks_at)
 pub guard_from_asks : (guards : List Guard) (k : ℕ) → asks_at guards k ≡ true → (guard : Guard) × (slice_get guards k ≡ Some guard) × (not guard.all ≡ true)
 guard_from_asks guards k h =
     elim (slice_get-cases guards k) [
-      inl found ↦ (found.0, found.1, sym (asks_at-there guards k found.0 found.1) ∙ h)
-    | inr none ↦ (let none' : asks_at guards k ≡ false = rw (none, asks_at) in absurd (true≢false (sym h ∙ none')))
+      | inl found ↦ (found.0, found.1, sym (asks_at-there guards k found.0 found.1) ∙ h)
+      | inr none ↦ (let none' : asks_at guards k ≡ false = rw (none, asks_at) in absurd (true≢false (sym h ∙ none')))
     ]
 
 -- the flags that the effects of a side may set
@@ -182,7 +184,7 @@ pub flag-reach : (effects : List (Option (List Bool))) (flags met : List Bool) (
 flag-reach [] flags met i k lt e h = absurd (none-some (Some met) e)
 flag-reach (effect ∷ effects) flags met zero k lt e h =
     subst (λ x. flag (fold widened (widened flags x) effects) k ≡ true) (sym (same_Some _ _ e))
-      (flag-fold effects (union_of flags met) k lt (flag-four (λ j. flag flags j || flag met j) k lt ∙ or_right (flag flags k) (flag met k) h))
+    (flag-fold effects (union_of flags met) k lt (flag-four (λ j. flag flags j || flag met j) k lt ∙ or_right (flag flags k) (flag met k) h))
 flag-reach (effect ∷ effects) flags met (suc i) k lt e h = flag-reach effects (widened flags effect) met i k lt e h
 
 -- a flag that may be set comes from some effect
@@ -193,6 +195,6 @@ effect_from_reach (None ∷ effects) flags k lt h =
     elim (effect_from_reach effects flags k lt h) [ inl old ↦ inl old | inr found ↦ inr (suc found.0, found.1, found.2, found.3) ]
 effect_from_reach (Some met ∷ effects) flags k lt h =
     elim (effect_from_reach effects (union_of flags met) k lt h) [
-      inl old ↦ (elim (either_of (flag flags k) (flag met k) (sym (flag-four (λ j. flag flags j || flag met j) k lt) ∙ old)) [ inl a ↦ inl a | inr b ↦ inr (0, met, refl, b) ])
-    | inr found ↦ inr (suc found.0, found.1, found.2, found.3)
+      | inl old ↦ (elim (either_of (flag flags k) (flag met k) (sym (flag-four (λ j. flag flags j || flag met j) k lt) ∙ old)) [ inl a ↦ inl a | inr b ↦ inr (0, met, refl, b) ])
+      | inr found ↦ inr (suc found.0, found.1, found.2, found.3)
     ]

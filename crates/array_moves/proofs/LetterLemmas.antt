@@ -1,5 +1,5 @@
 -- Lemmas on machines that read and write one letter of the section at each position.
-use Rattle.std.proofs.Common.{◌≡◌, ℕ, zero, suc, ◌+◌, ◌<◌, ◌≤◌, Bool, true, false, List, [], ◌∷◌, ◌++◌, map, length, Option, Some, None, Contains, refl, sym, ap, ◌∙◌, subst, inl, inr, arith, IsTrue, ◌⊎◌, true≢false}
+use Rattle.std.proofs.Common.{◌≡◌, ℕ, ◌+◌, ◌<◌, ◌≤◌, List, [], ◌∷◌, ◌++◌, Contains, refl, sym, ap, subst, inl, inr, arith, IsTrue, ◌⊎◌}
 use Rattle.std.proofs.lemmas.Option.{same_Some}
 use Rattle.std.proofs.lemmas.List.Elements.{Contains-append_left, Contains-append_right, Contains-append_cases}
 use Rattle.word_automata.specs.Path.{Node, edges_of, is_accepting}
@@ -7,7 +7,7 @@ use Rattle.transducers.specs.declared.Label.{Label}
 use Rattle.transducers.specs.Transducer.{Transducer, Relates, RelatesFrom}
 use Rattle.transducers.specs.Combination.{exchange, copy_edges}
 use Rattle.transducers.proofs.ExchangeLemmas.{Exchanges, HasExchanges, RelatesFrom-exchanges, exchanges_from_RelatesFrom}
-use Rattle.transducers.proofs.CopyLemmas.{copy_from_edge, copy_edge_from_letter, Contains-single, nothing_in_nil}
+use Rattle.transducers.proofs.CopyLemmas.{copy_from_edge, copy_edge_from_letter, Contains-single}
 use Rattle.protocol_model.specs.System.{AllBelow}
 use Rattle.protocol_model.specs.Words.{raised}
 use Rattle.array_moves.specs.Compiled.{IsRaisedMove}
@@ -91,16 +91,18 @@ module _ (offset count : ℕ) (states : List (Node Label)) (letters : HasLetters
   pub Relates-raised : (n : ℕ) (moves : List ℕ → List ℕ → Type 0) → ((s t : List ℕ) → Changes offset states 0 s t → moves s t)
       → ((s t : List ℕ) → AllBelow count s → AllBelow count t → moves s t → Changes offset states 0 s t)
       → (u w : List ℕ) → (Relates (record { letters = n; starts = 0 ∷ []; states = states }) u w → IsRaisedMove moves offset count u w)
-        × (IsRaisedMove moves offset count u w → Relates (record { letters = n; starts = 0 ∷ []; states = states }) u w)
+      × (IsRaisedMove moves offset count u w → Relates (record { letters = n; starts = 0 ∷ []; states = states }) u w)
   Relates-raised n moves there back u w = (to_move, from_move)
     where
       t : Transducer
       t = record { letters = n; starts = 0 ∷ []; states = states }
+
       to_move : Relates (record { letters = n; starts = 0 ∷ []; states = states }) u w → IsRaisedMove moves offset count u w
       to_move r =
           let run = subst (λ q. RelatesFrom (record { letters = n; starts = 0 ∷ []; states = states }) q u w) (sym (Contains-single 0 r.start r.is_start)) r.run in
           let c = IsChanged-exchanges u w 0 (exchanges_from_RelatesFrom (record { letters = n; starts = 0 ∷ []; states = states }) has_exchanges u w 0 run) in
           record { old = c.old; new = c.new; old_in_range = c.old_in_range; new_in_range = c.new_in_range; word_before = c.word_before; word_after = c.word_after; leads = there c.old c.new c.changes }
+
       from_move : IsRaisedMove moves offset count u w → Relates (record { letters = n; starts = 0 ∷ []; states = states }) u w
       from_move m =
           let run = RelatesFrom-exchanges (record { letters = n; starts = 0 ∷ []; states = states }) (raised offset m.old) (raised offset m.new) 0 (exchanges_from_Changes offset states m.old m.new 0 (back m.old m.new m.old_in_range m.new_in_range m.leads)) in
@@ -108,7 +110,7 @@ module _ (offset count : ℕ) (states : List (Node Label)) (letters : HasLetters
             start = 0;
             is_start = (0, omega arith, refl);
             run = subst (λ v. RelatesFrom (record { letters = n; starts = 0 ∷ []; states = states }) 0 v w) (sym m.word_before)
-              (subst (λ v. RelatesFrom (record { letters = n; starts = 0 ∷ []; states = states }) 0 (raised offset m.old) v) (sym m.word_after) run);
+                (subst (λ v. RelatesFrom (record { letters = n; starts = 0 ∷ []; states = states }) 0 (raised offset m.old) v) (sym m.word_after) run);
           }
 
 -- the lists have a common part over n letters, and then an edge of the list changes a letter
@@ -133,17 +135,27 @@ module _ (offset : ℕ) (states : List (Node Label)) (p n : ℕ) (further : List
   leave (x ∷ s) [] h = absurd h
   leave (x ∷ s) (y ∷ t) h =
       elim (Contains-append_cases (copy_edges offset n p) further (exchange (x + offset) (y + offset), h.0) (subst (λ es. Contains es (exchange (x + offset) (y + offset), h.0)) edges h.1)) [
-        inl copied ↦ (let c = copy_from_edge offset n p (x + offset) (y + offset) h.0 copied in
-          copies x y s t (omega (arith, c.0.1)) (let e : x + offset ≡ y + offset = c.1 in omega arith) (leave s t (subst (λ q. Changes offset states q s t) c.2 h.2)))
-      | inr edge ↦ inr (record { before = []; before_in_range = tt; x = x; y = y; q = h.0; old_rest = s; new_rest = t; was = refl; becomes = refl; edge = edge; rest = h.2 })
+        | inl copied ↦ (let c = copy_from_edge offset n p (x + offset) (y + offset) h.0 copied in
+            copies x y s t (omega (arith, c.0.1)) (let e : x + offset ≡ y + offset = c.1 in omega arith) (leave s t (subst (λ q. Changes offset states q s t) c.2 h.2)))
+        | inr edge ↦ inr (record { before = []; before_in_range = tt; x = x; y = y; q = h.0; old_rest = s; new_rest = t; was = refl; becomes = refl; edge = edge; rest = h.2 })
       ]
     where
       copies : (x y : ℕ) (s t : List ℕ) → x < n → x ≡ y → ((s ≡ t) × AllBelow n s × IsTrue (is_accepting states p)) ⊎ Leaves offset states n further s t
           → ((x ∷ s ≡ y ∷ t) × AllBelow n (x ∷ s) × IsTrue (is_accepting states p)) ⊎ Leaves offset states n further (x ∷ s) (y ∷ t)
       copies x y s t lt e (inl h) = inl ((λ i. e i ∷ h.0 i), (lt, h.1), h.2)
       copies x y s t lt e (inr l) = inr (record {
-          before = x ∷ l.before; before_in_range = (lt, l.before_in_range); x = l.x; y = l.y; q = l.q; old_rest = l.old_rest; new_rest = l.new_rest;
-          was = ap (λ v. x ∷ v) l.was; becomes = λ i. sym e i ∷ l.becomes i; edge = l.edge; rest = l.rest })
+        before = x ∷ l.before;
+        before_in_range = (lt, l.before_in_range);
+        x = l.x;
+        y = l.y;
+        q = l.q;
+        old_rest = l.old_rest;
+        new_rest = l.new_rest;
+        was = ap (λ v. x ∷ v) l.was;
+        becomes = λ i. sym e i ∷ l.becomes i;
+        edge = l.edge;
+        rest = l.rest;
+      })
 
   copy_step : (x : ℕ) (s t : List ℕ) → x < n → Changes offset states p s t → Changes offset states p (x ∷ s) (x ∷ t)
   copy_step x s t lt rest =

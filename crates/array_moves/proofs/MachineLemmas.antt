@@ -1,26 +1,25 @@
 -- Lemmas on the machine of an `at` move: it leads from one list to another exactly as the move does.
-use Rattle.std.proofs.Common.{◌≡◌, ℕ, zero, suc, ◌+◌, ◌^◌, ◌<◌, ◌≤◌, Bool, true, false, List, [], ◌∷◌, ◌++◌, map, length, slice_get, slice_index, get_or, Option, Some, None, Contains, All, refl, sym, ap, ◌∙◌, subst, inl, inr, arith, IsTrue, ◌⊎◌, true≢false, if◌then◌else◌}
+use Rattle.std.proofs.Common.{◌≡◌, ℕ, zero, suc, ◌+◌, ◌^◌, ◌<◌, ◌≤◌, Bool, true, false, List, [], ◌∷◌, ◌++◌, map, length, slice_get, slice_index, get_or, Some, Contains, All, refl, sym, ap, ◌∙◌, subst, inl, inr, arith, ◌⊎◌, true≢false}
 use Rattle.std.proofs.lemmas.Option.{same_Some, none-some, slice_get_within, slice_get-get_or}
-use Rattle.std.proofs.lemmas.List.Elements.{Contains-get_or, All-from_recursion}
+use Rattle.std.proofs.lemmas.List.Elements.{All-from_recursion}
 use Rattle.std.specs.List.{range_with_len}
 use Rattle.std.proofs.lemmas.List.{length-map}
 use Rattle.std.proofs.lemmas.List.FromFn.{length-range_with_len}
-use Rattle.word_automata.specs.Path.{Node, edges_of, is_accepting}
+use Rattle.word_automata.specs.Path.{Node}
 use Rattle.transducers.specs.declared.Label.{Label}
-use Rattle.transducers.specs.Transducer.{Transducer, IsEdge, IsValid, Relates, RelatesFrom}
+use Rattle.transducers.specs.Transducer.{IsEdge, IsValid, Relates}
 use Rattle.transducers.specs.Combination.{exchange}
 use Rattle.transducers.proofs.ListLemmas.{slice_get-within, slice_get-map_cases, Contains-from_place}
 use Rattle.transducers.proofs.PathLemmas.{edges_of-at, is_accepting-at, node_from_edge}
 use Rattle.transducers.proofs.CopyLemmas.{nothing_in_nil}
 use Rattle.protocol_model.specs.declared.system.Guard.{Guard}
 use Rattle.protocol_model.specs.System.{AllBelow, IsValidAt}
-use Rattle.protocol_model.specs.Words.{raised}
-use Rattle.protocol_model.specs.Moves.{table_value, guard_holds, IsAtMove}
+use Rattle.protocol_model.specs.Moves.{table_value, IsAtMove}
 use Rattle.array_moves.specs.declared.plan.Phase.{Phase}
 use Rattle.array_moves.specs.declared.plan.Plan.{Plan}
 use Rattle.array_moves.specs.Compiled.{IsRaisedMove}
-use Rattle.array_moves.specs.Flags.{no_flags, union_of, covers, effect_of, required_of}
-use Rattle.array_moves.specs.Phases.{IsPlan, first_phase, after_letter, can_end, after_move, is_final, HasRoom, starts_of, IsLetterEdge, IsMoveEdge, IsStateOf, AreStates, IsMachine}
+use Rattle.array_moves.specs.Flags.{no_flags, union_of, covers, effect_of}
+use Rattle.array_moves.specs.Phases.{IsPlan, first_phase, can_end, HasRoom, starts_of, IsLetterEdge, IsMoveEdge, IsStateOf, IsMachine}
 use Rattle.array_moves.proofs.LetterLemmas.{same_exchange, Changes, AllBelow-left, AllBelow-right, HasLetters, Relates-raised}
 use Rattle.array_moves.proofs.RunLemmas.{slice_get-range, Reads, guarded_from_Reads, Reads_from_guarded, table_value_in_range, image_is, effect_from_after, after_from_effect, phase_from_move, move_from_end, can_end-behind, can_end-first}
 
@@ -33,13 +32,13 @@ pub has_room : (f t : ℕ) (guards : List Guard) (table : List (ℕ × ℕ)) (of
 has_room f t guards table offset count plan is_plan valid fits =
     let images : List ℕ = map (table_value table) (range_with_len 0 count) in
     let each : All (λ y. y + offset < 2 ^ 32) images =
-      All-from_places (λ y. y + offset < 2 ^ 32) images (λ k y at.
-        let from = slice_get-map_cases (table_value table) (range_with_len 0 count) k y at in
-        let within : k < count = omega (arith, slice_get_within (range_with_len 0 count) k from.0 from.1, length-range_with_len 0 count) in
-        let x_is : k ≡ from.0 = same_Some _ _ (sym (slice_get-range count k within) ∙ from.1) in
-        let value : table_value table k < count = table_value_in_range count table k valid.table_in_range within in
-        let y_is : table_value table k ≡ y = ap (table_value table) x_is ∙ from.2 in
-        omega (arith, value, y_is, fits)) in
+    All-from_places (λ y. y + offset < 2 ^ 32) images (λ k y at.
+    let from = slice_get-map_cases (table_value table) (range_with_len 0 count) k y at in
+    let within : k < count = omega (arith, slice_get_within (range_with_len 0 count) k from.0 from.1, length-range_with_len 0 count) in
+    let x_is : k ≡ from.0 = same_Some _ _ (sym (slice_get-range count k within) ∙ from.1) in
+    let value : table_value table k < count = table_value_in_range count table k valid.table_in_range within in
+    let y_is : table_value table k ≡ y = ap (table_value table) x_is ∙ from.2 in
+    omega (arith, value, y_is, fits)) in
     record {
       each_image = ap length is_plan.images_are ∙ length-map (range_with_len 0 count) (table_value table) ∙ length-range_with_len 0 count;
       image_fits = subst (All (λ y. y + offset < 2 ^ 32)) (sym is_plan.images_are) each;
@@ -78,15 +77,16 @@ module _ (f t : ℕ) (guards : List Guard) (table : List (ℕ × ℕ)) (offset c
   after_there (x ∷ s) (y ∷ t') k met at h =
       let state = state_at k (record { moved = true; met = met }) at in
       elim (state.2.only (exchange (x + offset) (y + offset), h.0) (subst (λ es. Contains es (exchange (x + offset) (y + offset), h.0)) (edges_of-at states k state.0 state.1) h.1)) [
-        inl l ↦ (
-          let same = same_exchange x y l.x (slice_index plan.images.items l.x) offset l.label in
-          let e = effect_from_after f t guards table count plan is_plan true met l.x l.q l.in_range l.after in
-          let rest = after_there s t' h.0 (union_of met e.0) (l.number ∙ ap Some e.2) h.2 in
-          (rest.0,
-           (e.0, subst (λ n. n < count) (sym same.0) l.in_range, ap (effect_of guards true) same.0 ∙ e.1, rest.1),
-           (λ i. (same.1 ∙ image_is f t guards table count plan is_plan l.x l.in_range ∙ ap (table_value table) (sym same.0)) i ∷ rest.2 i),
-           rest.3))
-      | inr m ↦ absurd (none-some m.q m.after)
+        | inl l ↦ (
+            let same = same_exchange x y l.x (slice_index plan.images.items l.x) offset l.label in
+            let e = effect_from_after f t guards table count plan is_plan true met l.x l.q l.in_range l.after in
+            let rest = after_there s t' h.0 (union_of met e.0) (l.number ∙ ap Some e.2) h.2 in (
+              rest.0,
+              (e.0, subst (λ n. n < count) (sym same.0) l.in_range, ap (effect_of guards true) same.0 ∙ e.1, rest.1),
+              (λ i. (same.1 ∙ image_is f t guards table count plan is_plan l.x l.in_range ∙ ap (table_value table) (sym same.0)) i ∷ rest.2 i),
+              rest.3,
+            ))
+        | inr m ↦ absurd (none-some m.q m.after)
       ]
 
   before_there : (s t' : List ℕ) (k : ℕ) (met : List Bool) → slice_get phases k ≡ Some (record { moved = false; met = met }) → Changes offset states k s t' → Passes f t guards table count plan met s t'
@@ -98,36 +98,36 @@ module _ (f t : ℕ) (guards : List Guard) (table : List (ℕ × ℕ)) (offset c
   before_there (x ∷ s) (y ∷ t') k met at h =
       let state = state_at k (record { moved = false; met = met }) at in
       elim (state.2.only (exchange (x + offset) (y + offset), h.0) (subst (λ es. Contains es (exchange (x + offset) (y + offset), h.0)) (edges_of-at states k state.0 state.1) h.1)) [
-        inl l ↦ (
-          let same = same_exchange x y l.x (slice_index plan.images.items l.x) offset l.label in
-          let e = effect_from_after f t guards table count plan is_plan false met l.x l.q l.in_range l.after in
-          let rest = before_there s t' h.0 (union_of met e.0) (l.number ∙ ap Some e.2) h.2 in
-          record {
-            before = x ∷ rest.before;
-            after = rest.after;
-            middle = rest.middle;
-            last = rest.last;
-            was = ap (λ v. x ∷ v) rest.was;
-            becomes = λ i. (same.1 ∙ image_is f t guards table count plan is_plan l.x l.in_range ∙ ap (table_value table) (sym same.0)) i ∷ rest.becomes i;
-            first = (e.0, subst (λ n. n < count) (sym same.0) l.in_range, ap (effect_of guards false) same.0 ∙ e.1, rest.first);
-            second = rest.second;
-            covered = rest.covered;
-          })
-      | inr m ↦ (
-          let same = same_exchange x y plan.from plan.into offset m.label in
-          let q = phase_from_move f t guards table count plan is_plan met m.q m.after in
-          let rest = after_there s t' h.0 met (m.number ∙ ap Some q) h.2 in
-          record {
-            before = [];
-            after = s;
-            middle = met;
-            last = rest.0;
-            was = ap (λ v. v ∷ s) (same.0 ∙ is_plan.from_is);
-            becomes = λ i. (same.1 ∙ is_plan.into_is) i ∷ rest.2 i;
-            first = refl;
-            second = rest.1;
-            covered = rest.3;
-          })
+        | inl l ↦ (
+            let same = same_exchange x y l.x (slice_index plan.images.items l.x) offset l.label in
+            let e = effect_from_after f t guards table count plan is_plan false met l.x l.q l.in_range l.after in
+            let rest = before_there s t' h.0 (union_of met e.0) (l.number ∙ ap Some e.2) h.2 in
+            record {
+              before = x ∷ rest.before;
+              after = rest.after;
+              middle = rest.middle;
+              last = rest.last;
+              was = ap (λ v. x ∷ v) rest.was;
+              becomes = λ i. (same.1 ∙ image_is f t guards table count plan is_plan l.x l.in_range ∙ ap (table_value table) (sym same.0)) i ∷ rest.becomes i;
+              first = (e.0, subst (λ n. n < count) (sym same.0) l.in_range, ap (effect_of guards false) same.0 ∙ e.1, rest.first);
+              second = rest.second;
+              covered = rest.covered;
+            })
+        | inr m ↦ (
+            let same = same_exchange x y plan.from plan.into offset m.label in
+            let q = phase_from_move f t guards table count plan is_plan met m.q m.after in
+            let rest = after_there s t' h.0 met (m.number ∙ ap Some q) h.2 in
+            record {
+              before = [];
+              after = s;
+              middle = met;
+              last = rest.0;
+              was = ap (λ v. v ∷ s) (same.0 ∙ is_plan.from_is);
+              becomes = λ i. (same.1 ∙ is_plan.into_is) i ∷ rest.2 i;
+              first = refl;
+              second = rest.1;
+              covered = rest.3;
+            })
       ]
 
   pub after_back : (s : List ℕ) (k : ℕ) (met last : List Bool) → slice_get phases k ≡ Some (record { moved = true; met = met }) → Reads guards count true met s last → covers last plan.required ≡ true
@@ -212,9 +212,9 @@ module _ (f t : ℕ) (guards : List Guard) (table : List (ℕ × ℕ)) (offset c
     pub has_letters : HasLetters offset count states
     has_letters = record {
       each = λ p edge h.
-        let node = node_from_edge states p edge h in
-        let phase = phase_at p node.0 node.1 in
-        letters_of_edge phase.0 edge (phase.1.only edge node.2);
+          let node = node_from_edge states p edge h in
+          let phase = phase_at p node.0 node.1 in
+          letters_of_edge phase.0 edge (phase.1.only edge node.2);
     }
 
     edge_in_range : (letters : ℕ) → offset + count ≤ letters → (p : Phase) (edge : Label × ℕ) → IsLetterEdge plan offset count phases p edge ⊎ IsMoveEdge plan offset phases p edge → IsEdge letters (length states) edge
@@ -230,8 +230,8 @@ module _ (f t : ℕ) (guards : List Guard) (table : List (ℕ × ℕ)) (offset c
         record {
           starts_in_range = subst (All (λ q. q < length states)) (sym is) (in_range (length states) refl);
           edges_in_range = All-from_places (λ node. All (IsEdge letters (length states)) node.edges) states (λ k node at.
-            let phase = phase_at k node at in
-            All-from_places (IsEdge letters (length states)) node.edges (λ j edge there. edge_in_range letters fits phase.0 edge (phase.1.only edge (Contains-from_place node.edges j edge there))));
+              let phase = phase_at k node at in
+              All-from_places (IsEdge letters (length states)) node.edges (λ j edge there. edge_in_range letters fits phase.0 edge (phase.1.only edge (Contains-from_place node.edges j edge there))));
         }
       where
         in_range : (n : ℕ) → length states ≡ n → All (λ q. q < length states) (starts_of n)
@@ -240,26 +240,29 @@ module _ (f t : ℕ) (guards : List Guard) (table : List (ℕ × ℕ)) (offset c
 
     pub at_relates : (letters : ℕ) (starts : List ℕ) → starts ≡ starts_of (length states) → (u w : List ℕ)
         → (Relates (record { letters = letters; starts = starts; states = states }) u w → IsRaisedMove (IsAtMove f t guards table) offset count u w)
-          × (IsRaisedMove (IsAtMove f t guards table) offset count u w → Relates (record { letters = letters; starts = starts; states = states }) u w)
+        × (IsRaisedMove (IsAtMove f t guards table) offset count u w → Relates (record { letters = letters; starts = starts; states = states }) u w)
     at_relates letters starts is u w = by (can_end plan first_phase) refl
       where
         limit : length guards ≤ 4
         limit = valid.guards_limit
+
         some_start : (n : ℕ) → 0 < n → starts_of n ≡ 0 ∷ []
         some_start zero h = absurd (omega arith)
         some_start (suc n) h = refl
+
         by : (b : Bool) → can_end plan first_phase ≡ b
             → (Relates (record { letters = letters; starts = starts; states = states }) u w → IsRaisedMove (IsAtMove f t guards table) offset count u w)
-              × (IsRaisedMove (IsAtMove f t guards table) offset count u w → Relates (record { letters = letters; starts = starts; states = states }) u w)
+            × (IsRaisedMove (IsAtMove f t guards table) offset count u w → Relates (record { letters = letters; starts = starts; states = states }) u w)
         by true e =
             let first = machine.first e in
             let some : 0 < length states = omega (arith, slice_get_within phases 0 first_phase first, machine.same_length) in
             let one : starts ≡ 0 ∷ [] = is ∙ some_start (length states) some in
             subst (λ l. (Relates (record { letters = letters; starts = l; states = states }) u w → IsRaisedMove (IsAtMove f t guards table) offset count u w)
-                × (IsRaisedMove (IsAtMove f t guards table) offset count u w → Relates (record { letters = letters; starts = l; states = states }) u w)) (sym one)
-              (Relates-raised offset count states has_letters letters (IsAtMove f t guards table) (move_from_changes limit first) (changes_from_move limit) u w)
+            × (IsRaisedMove (IsAtMove f t guards table) offset count u w → Relates (record { letters = letters; starts = l; states = states }) u w)) (sym one)
+            (Relates-raised offset count states has_letters letters (IsAtMove f t guards table) (move_from_changes limit first) (changes_from_move limit) u w)
         by false e =
             let empty : length states ≡ 0 = machine.same_length ∙ ap length (machine.none e) in
-            let nil : starts ≡ [] = is ∙ ap starts_of empty in
-            (λ r. nothing_in_nil r.start (subst (λ l. Contains l r.start) nil r.is_start),
-             λ m. absurd (true≢false (sym (can_end_from_move limit m.old m.new m.old_in_range m.leads) ∙ e)))
+            let nil : starts ≡ [] = is ∙ ap starts_of empty in (
+              λ r. nothing_in_nil r.start (subst (λ l. Contains l r.start) nil r.is_start),
+              λ m. absurd (true≢false (sym (can_end_from_move limit m.old m.new m.old_in_range m.leads) ∙ e)),
+            )

@@ -1,5 +1,5 @@
 -- Lemmas on the numbering of phases and on the states made of them.
-use Rattle.std.proofs.Common.{◌≡◌, ℕ, zero, suc, ◌+◌, ◌<◌, ◌≤◌, Bool, true, false, List, [], ◌∷◌, ◌++◌, length, slice_get, slice_index, Option, Some, None, Contains, refl, sym, ap, ◌∙◌, subst, inl, inr, arith, IsTrue, ◌⊎◌, true≢false, length-append, if◌then◌else◌, ◌||◌}
+use Rattle.std.proofs.Common.{◌≡◌, ℕ, zero, suc, ◌+◌, ◌<◌, ◌≤◌, Bool, true, false, List, [], ◌∷◌, ◌++◌, length, slice_get, slice_index, Some, None, Contains, refl, sym, ap, ◌∙◌, subst, inl, inr, arith, IsTrue, ◌⊎◌, true≢false, length-append, if◌then◌else◌, ◌||◌}
 use mathlib.Core.Bool.{beq}
 use Rattle.std.specs.List.{list_any, AllByRecursion, IsDistinct}
 use Rattle.std.proofs.lemmas.Bool.{cases_lt}
@@ -13,7 +13,7 @@ use Rattle.transducers.proofs.ListLemmas.{slice_get-append_left, slice_get-push_
 use Rattle.transducers.proofs.CopyLemmas.{nothing_in_nil}
 use Rattle.array_moves.specs.declared.plan.Phase.{Phase}
 use Rattle.array_moves.specs.declared.plan.Plan.{Plan}
-use Rattle.array_moves.specs.Phases.{first_phase, after_letter, after_move, can_end, is_final, Numbers, IsLetterEdge, IsMoveEdge, IsPhaseEdge, HasLetterEdges, HasMoveEdge, LetterEdges, PhaseEdges, IsStateOf, IsTarget, AreStates, HasFirst, IsMachine}
+use Rattle.array_moves.specs.Phases.{first_phase, after_letter, after_move, can_end, is_final, Numbers, IsLetterEdge, IsMoveEdge, LetterEdges, PhaseEdges, IsStateOf, IsTarget, AreStates, HasFirst, IsMachine}
 
 -- the test whether two truth values are equal
 pub beq_decides : (x y : Bool) → (beq x y ≡ true → x ≡ y) × (x ≡ y → beq x y ≡ true)
@@ -39,12 +39,15 @@ Numbers-insert_key eq same old p q j at is = by (list_any (eq p) old) refl
   where
     numbered : slice_get (insert_key eq old p) j ≡ Some p
     numbered = at ∙ ap Some (sym (same p q is))
+
     inside' : (xs : List Phase) (k : ℕ) (r : Phase) → k < length xs → slice_get (xs ++ p ∷ []) k ≡ Some r → slice_get xs k ≡ Some r
     inside' [] k r lt h = absurd (omega arith)
     inside' (x ∷ xs) zero r lt h = h
     inside' (x ∷ xs) (suc k) r lt h = inside' xs k r (omega arith) h
+
     inside : (k : ℕ) (r : Phase) → k < length old → slice_get (old ++ p ∷ []) k ≡ Some r → slice_get old k ≡ Some r
     inside k r lt h = inside' old k r lt h
+
     by : (b : Bool) → list_any (eq p) old ≡ b → Numbers old (insert_key eq old p) p j
     by true e =
         let there : insert_key eq old p ≡ old = ap (λ c. if c then old else old ++ p ∷ []) e in
@@ -62,14 +65,14 @@ Numbers-insert_key eq same old p q j at is = by (list_any (eq p) old) refl
           stays = λ k r h. subst (λ l. slice_get l k ≡ Some r) (sym there) (slice_get-append_left old (p ∷ []) k r h);
           numbered = numbered;
           fresh = λ k h.
-            let k_within : k < length old + 1 = omega (arith, subst (λ l. k < length l) there h, longer) in
-            elim (cases_lt k (length old)) [
-              inl lt ↦ inl lt
-            | inr ge ↦ (elim (cases_lt j (length old)) [
-                inl j_lt ↦ absurd (true≢false (sym (found_by eq p q old j (inside j q j_lt at_end) is) ∙ e))
-              | inr j_ge ↦ inr (omega arith)
-              ])
-            ];
+              let k_within : k < length old + 1 = omega (arith, subst (λ l. k < length l) there h, longer) in
+              elim (cases_lt k (length old)) [
+                | inl lt ↦ inl lt
+                | inr ge ↦ (elim (cases_lt j (length old)) [
+                  | inl j_lt ↦ absurd (true≢false (sym (found_by eq p q old j (inside j q j_lt at_end) is) ∙ e))
+                  | inr j_ge ↦ inr (omega arith)
+                ])
+              ];
         }
 
 module _ (plan : Plan) (offset : ℕ) (p : Phase) where
@@ -89,9 +92,9 @@ module _ (plan : Plan) (offset : ℕ) (p : Phase) where
           stays = so.stays;
           only = λ edge h. let e = so.only edge h in record { x = e.x; in_range = omega (arith, e.in_range); q = e.q; after = e.after; number = e.number; label = e.label };
           all = λ x q h after. elim (cases_lt x count) [
-              inl lt ↦ so.all x q lt after
+            | inl lt ↦ so.all x q lt after
             | inr ge ↦ (let is : x ≡ count = omega arith in absurd (none-some q (sym none ∙ ap (λ y. after_letter plan p y) (sym is) ∙ after)))
-            ];
+          ];
           fresh = so.fresh;
         }
 
@@ -103,20 +106,20 @@ module _ (plan : Plan) (offset : ℕ) (p : Phase) where
         record {
           stays = λ k r h. numbers.stays k r (so.stays k r h);
           only = λ edge h. elim (Contains-push_cases edges last edge h) [
-              inl before ↦ (let e = so.only edge before in record { x = e.x; in_range = omega (arith, e.in_range); q = e.q; after = e.after; number = numbers.stays edge.1 e.q e.number; label = e.label })
+            | inl before ↦ (let e = so.only edge before in record { x = e.x; in_range = omega (arith, e.in_range); q = e.q; after = e.after; number = numbers.stays edge.1 e.q e.number; label = e.label })
             | inr is ↦ subst (IsLetterEdge plan offset (count + 1) new p) is (record { x = count; in_range = omega arith; q = q; after = after; number = numbers.numbered; label = ap (λ y. exchange (count + offset) (y + offset)) is_image })
-            ];
+          ];
           all = λ x r h after_x. elim (cases_lt x count) [
-              inl lt ↦ (let found = so.all x r lt after_x in (found.0, numbers.stays found.0 r found.1, Contains-append_left edges (last ∷ []) _ found.2))
+            | inl lt ↦ (let found = so.all x r lt after_x in (found.0, numbers.stays found.0 r found.1, Contains-append_left edges (last ∷ []) _ found.2))
             | inr ge ↦ (let is : count ≡ x = omega arith in
                 let same : q ≡ r = same_Some _ _ (sym after ∙ ap (λ y. after_letter plan p y) is ∙ after_x) in
                 let label : last ≡ (exchange (x + offset) (slice_index plan.images.items x + offset), j) = (λ i. (exchange (is i + offset) ((is_image ∙ ap (λ y. slice_index plan.images.items y) is) i + offset), j)) in
                 (j, numbers.numbered ∙ ap Some same, subst (Contains (edges ++ last ∷ [])) label (Contains-push edges last)))
-            ];
+          ];
           fresh = λ k h. elim (numbers.fresh k h) [
-              inl lt ↦ (elim (so.fresh k lt) [ inl earlier ↦ inl earlier | inr target ↦ inr (target.0, Contains-append_left edges (last ∷ []) _ target.1) ])
+            | inl lt ↦ (elim (so.fresh k lt) [ inl earlier ↦ inl earlier | inr target ↦ inr (target.0, Contains-append_left edges (last ∷ []) _ target.1) ])
             | inr is ↦ inr (exchange (count + offset) (image + offset), subst (λ n. Contains (edges ++ last ∷ []) (exchange (count + offset) (image + offset), n)) (sym is) (Contains-push edges last))
-            ];
+          ];
         }
 
     -- the phase has no move
@@ -132,15 +135,15 @@ module _ (plan : Plan) (offset : ℕ) (p : Phase) where
         record {
           stays = λ k r h. numbers.stays k r (so.stays k r h);
           only = λ edge h. elim (Contains-push_cases edges last edge h) [
-              inl before ↦ inl (IsLetterEdge-grows count mid new edge numbers.stays (so.only edge before))
+            | inl before ↦ inl (IsLetterEdge-grows count mid new edge numbers.stays (so.only edge before))
             | inr is ↦ inr (subst (IsMoveEdge plan offset new p) is (record { q = q; after = after; number = numbers.numbered; label = refl }))
-            ];
+          ];
           letters = λ x r h after_x. let found = so.all x r h after_x in (found.0, numbers.stays found.0 r found.1, Contains-append_left edges (last ∷ []) _ found.2);
           move = λ r h. (j, numbers.numbered ∙ ap Some (same_Some _ _ (sym after ∙ h)), Contains-push edges last);
           fresh = λ k h. elim (numbers.fresh k h) [
-              inl lt ↦ (elim (so.fresh k lt) [ inl earlier ↦ inl earlier | inr target ↦ inr (target.0, Contains-append_left edges (last ∷ []) _ target.1) ])
+            | inl lt ↦ (elim (so.fresh k lt) [ inl earlier ↦ inl earlier | inr target ↦ inr (target.0, Contains-append_left edges (last ∷ []) _ target.1) ])
             | inr is ↦ inr (exchange (plan.from + offset) (plan.into + offset), subst (λ n. Contains (edges ++ last ∷ []) (exchange (plan.from + offset) (plan.into + offset), n)) (sym is) (Contains-push edges last))
-            ];
+          ];
         }
 
 module _ (plan : Plan) (offset count : ℕ) where
@@ -150,9 +153,9 @@ module _ (plan : Plan) (offset count : ℕ) where
       record {
         accepts = so.accepts;
         only = λ edge h. elim (so.only edge h) [
-            inl letter ↦ inl (IsLetterEdge-grows plan offset p count old new edge stays letter)
+          | inl letter ↦ inl (IsLetterEdge-grows plan offset p count old new edge stays letter)
           | inr move ↦ inr (record { q = move.q; after = move.after; number = stays edge.1 move.q move.number; label = move.label })
-          ];
+        ];
         letters = λ x q h after. let found = so.letters x q h after in (found.0, stays found.0 q found.1, found.2);
         move = λ q after. let found = so.move q after in (found.0, stays found.0 q found.1, found.2);
       }
@@ -182,8 +185,10 @@ module _ (plan : Plan) (offset count : ℕ) where
     where
       longer : length (states ++ node ∷ []) ≡ length states + 1
       longer = length-append states (node ∷ [])
+
       old_within : length states < length old
       old_within = slice_get_within old (length states) p at
+
       earlier_state : (k : ℕ) (q : Phase) (other : Node Label) → k < length states → slice_get new k ≡ Some q → slice_get (states ++ node ∷ []) k ≡ Some other → IsStateOf plan offset count new q other
       earlier_state k q other lt h there =
           let state = slice_get-within states k lt in
@@ -191,6 +196,7 @@ module _ (plan : Plan) (offset count : ℕ) where
           let same_state : state.0 ≡ other = same_Some _ _ (sym (slice_get-append_left states (node ∷ []) k state.0 state.1) ∙ there) in
           let same_phase : phase.0 ≡ q = same_Some _ _ (sym (edges.stays k phase.0 phase.1) ∙ h) in
           subst (λ r. IsStateOf plan offset count new r other) same_phase (subst (IsStateOf plan offset count new phase.0) same_state (IsStateOf-grows old new phase.0 state.0 edges.stays (so.each k phase.0 state.0 phase.1 state.1)))
+
       last_state : (k : ℕ) (q : Phase) (other : Node Label) → length states ≤ k → slice_get new k ≡ Some q → slice_get (states ++ node ∷ []) k ≡ Some other → IsStateOf plan offset count new q other
       last_state k q other ge h there =
           let is : length states ≡ k = omega (arith, slice_get_within (states ++ node ∷ []) k other there, longer) in
@@ -198,11 +204,13 @@ module _ (plan : Plan) (offset count : ℕ) where
           let same_phase : p ≡ q = same_Some _ _ (sym (edges.stays (length states) p at) ∙ ap (λ n. slice_get new n) is ∙ h) in
           let made : IsStateOf plan offset count new p node = record { accepts = accepts; only = edges.only; letters = edges.letters; move = edges.move } in
           subst (λ r. IsStateOf plan offset count new r other) same_phase (subst (IsStateOf plan offset count new p) same_state made)
+
       earlier_phase : (k : ℕ) → k < length old → (k ≡ 0) ⊎ IsTarget (states ++ node ∷ []) k
       earlier_phase k lt = elim (so.reached k lt) [
-          inl zero_is ↦ inl zero_is
+        | inl zero_is ↦ inl zero_is
         | inr target ↦ inr (record { j = target.j; node = target.node; l = target.l; smaller = target.smaller; is_there = slice_get-append_left states (node ∷ []) target.j target.node target.is_there; edge = target.edge })
-        ]
+      ]
+
       new_phase : (k : ℕ) → length old ≤ k → (k < length old) ⊎ ((l : Label) × Contains node.edges (l, k)) → (k ≡ 0) ⊎ IsTarget (states ++ node ∷ []) k
       new_phase k ge (inl lt) = absurd (omega arith)
       new_phase k ge (inr target) = inr (record { j = length states; node = node; l = target.0; smaller = omega (arith, old_within, ge); is_there = slice_get-push_last states node; edge = target.1 })

@@ -1,21 +1,16 @@
 -- Lemmas on reading lists in phases: what the letters before and behind the moving position do, and what the machine of a move leads to.
-use Rattle.std.proofs.Common.{◌≡◌, ℕ, zero, suc, ◌+◌, ◌<◌, ◌≤◌, Bool, true, false, not, ◌&&◌, ◌||◌, List, [], ◌∷◌, ◌++◌, map, length, slice_get, slice_index, get_or, Option, Some, None, Contains, refl, sym, ap, ◌∙◌, subst, inl, inr, arith, IsTrue, ◌⊎◌, true≢false, if◌then◌else◌, fold, zero-add, ◌==◌}
+use Rattle.std.proofs.Common.{◌≡◌, ℕ, ◌<◌, ◌≤◌, Bool, true, false, ◌&&◌, ◌||◌, List, [], ◌∷◌, map, length, slice_get, slice_index, get_or, Option, Some, None, refl, sym, ap, ◌∙◌, inl, inr, arith, ◌⊎◌, true≢false, if◌then◌else◌, zero-add, ◌==◌}
 use Rattle.std.specs.List.{list_all, list_any, range_with_len, AllByRecursion}
 use Rattle.std.proofs.lemmas.List.FromFn.{length-range_with_len, get_or-range_with_len}
 use Rattle.std.proofs.lemmas.Option.{same_Some, none-some, slice_get_within, slice_get-get_or, get_or_from_slice_get}
-use Rattle.word_automata.specs.Path.{Node, edges_of, is_accepting}
-use Rattle.transducers.specs.declared.Label.{Label}
-use Rattle.transducers.specs.Combination.{exchange}
-use Rattle.transducers.proofs.ListLemmas.{slice_get-within, slice_get-map_image}
-use Rattle.transducers.proofs.PathLemmas.{edges_of-at, is_accepting-at}
+use Rattle.transducers.proofs.ListLemmas.{slice_get-map_image}
 use Rattle.protocol_model.specs.declared.system.Guard.{Guard}
-use Rattle.protocol_model.specs.System.{AllBelow, IsValidAt}
-use Rattle.protocol_model.specs.Moves.{table_value, guard_holds, IsAtMove}
+use Rattle.protocol_model.specs.System.{AllBelow}
+use Rattle.protocol_model.specs.Moves.{table_value, guard_holds}
 use Rattle.array_moves.specs.declared.plan.Phase.{Phase}
 use Rattle.array_moves.specs.declared.plan.Plan.{Plan}
-use Rattle.array_moves.specs.Flags.{flag, four_flags, no_flags, union_of, covers, permits, meets, meets_at, effect_of, asks_at, required_of, widened, reach_of}
-use Rattle.array_moves.specs.Phases.{IsPlan, first_phase, listed, with_effect, after_letter, can_end, after_move, is_final, IsLetterEdge, IsMoveEdge, IsStateOf, AreStates, IsMachine}
-use Rattle.array_moves.proofs.LetterLemmas.{same_exchange, Changes, AllBelow-left, AllBelow-right}
+use Rattle.array_moves.specs.Flags.{flag, four_flags, no_flags, union_of, covers, permits, meets, meets_at, effect_of, asks_at, required_of, reach_of}
+use Rattle.array_moves.specs.Phases.{IsPlan, first_phase, listed, with_effect, after_letter, can_end, after_move}
 use Rattle.array_moves.proofs.GuardLemmas.{either_of, or_left, or_right, all_at, all_from_each, both_true, IsSatisfied, satisfied_from_holds, holds_from_satisfied, flag-four, flag-none, flag_from_covers, covers_from_flags, permitted_from_effect, effect_from_permitted, meets_at-there, asks_at-there, guard_from_asks, flag-reach}
 
 or_with_false : (a : Bool) → a ≡ (a || false)
@@ -45,16 +40,16 @@ module _ (guards : List Guard) (count : ℕ) (behind : Bool) where
       let e = permitted_from_effect guards behind x h.0 h.2 in
       let one : flag h.0 k ≡ meets_at guards behind x k = ap (λ f. flag f k) e.1 ∙ flag-four (meets_at guards behind x) k lt in
       flag-Reads s (union_of met h.0) last k lt h.3
-        ∙ ap (λ b. b || list_any (λ x. meets_at guards behind x k) s) (flag-four (λ j. flag met j || flag h.0 j) k lt ∙ ap (λ b. flag met k || b) one)
-        ∙ or_regrouped (flag met k) (meets_at guards behind x k) (list_any (λ x. meets_at guards behind x k) s)
+      ∙ ap (λ b. b || list_any (λ x. meets_at guards behind x k) s) (flag-four (λ j. flag met j || flag h.0 j) k lt ∙ ap (λ b. flag met k || b) one)
+      ∙ or_regrouped (flag met k) (meets_at guards behind x k) (list_any (λ x. meets_at guards behind x k) s)
 
   -- every guard permits the letters that were read
   pub permits-Reads : (s : List ℕ) (met last : List Bool) (k : ℕ) (guard : Guard) → slice_get guards k ≡ Some guard → Reads guards count behind met s last → list_all (permits guard behind) s ≡ true
   permits-Reads [] met last k guard at h = refl
   permits-Reads (x ∷ s) met last k guard at h =
       both_true (permits guard behind x) (list_all (permits guard behind) s)
-        (all_at (λ g. permits g behind x) guards k guard (permitted_from_effect guards behind x h.0 h.2).0 at)
-        (permits-Reads s (union_of met h.0) last k guard at h.3)
+      (all_at (λ g. permits g behind x) guards k guard (permitted_from_effect guards behind x h.0 h.2).0 at)
+      (permits-Reads s (union_of met h.0) last k guard at h.3)
 
   -- letters that every guard permits can be read
   pub Reads-permitted : (s : List ℕ) (met : List Bool) → AllBelow count s → ((k : ℕ) (guard : Guard) → slice_get guards k ≡ Some guard → list_all (permits guard behind) s ≡ true)
@@ -75,11 +70,11 @@ module _ (guards : List Guard) (count : ℕ) (behind : Bool) where
   reach-Reads [] met last k lt h set = inl (ap (λ f. flag f k) h ∙ set)
   reach-Reads (x ∷ s) met last k lt h set =
       elim (reach-Reads s (union_of met h.0) last k lt h.3 set) [
-        inl now ↦ (elim (either_of (flag met k) (flag h.0 k) (sym (flag-four (λ j. flag met j || flag h.0 j) k lt) ∙ now)) [
-            inl before ↦ inl before
+        | inl now ↦ (elim (either_of (flag met k) (flag h.0 k) (sym (flag-four (λ j. flag met j || flag h.0 j) k lt) ∙ now)) [
+          | inl before ↦ inl before
           | inr new ↦ inr (flag-reach (map (effect_of guards behind) (range_with_len 0 count)) no_flags h.0 x k lt (slice_get-map_image (effect_of guards behind) (range_with_len 0 count) x x (slice_get-range count x h.1) ∙ ap Some h.2) new)
-          ])
-      | inr reach ↦ inr reach
+        ])
+        | inr reach ↦ inr reach
       ]
 
 listed-map : (count : ℕ) (g : ℕ → Option (List Bool)) (x : ℕ) → x < count → listed (map g (range_with_len 0 count)) x ≡ g x
@@ -94,31 +89,36 @@ module _ (guards : List Guard) (count : ℕ) (limit : length guards ≤ 4) (befo
       → flag last k ≡ (list_any (meets guard false) before || list_any (meets guard true) after)
   flags_of_both middle last k guard lt at first second =
       flag-Reads guards count true after middle last k lt second
-        ∙ (λ i. (flag-Reads guards count false before no_flags middle k lt first ∙ ap (λ b. b || list_any (λ x. meets_at guards false x k) before) (flag-none k)) i || met_on_side true after k guard at i)
-        ∙ ap (λ b. b || list_any (meets guard true) after) (met_on_side false before k guard at)
+      ∙ (λ i. (flag-Reads guards count false before no_flags middle k lt first ∙ ap (λ b. b || list_any (λ x. meets_at guards false x k) before) (flag-none k)) i || met_on_side true after k guard at i)
+      ∙ ap (λ b. b || list_any (meets guard true) after) (met_on_side false before k guard at)
 
   pub guarded_from_Reads : (middle last : List Bool) → Reads guards count false no_flags before middle → Reads guards count true middle after last → covers last (required_of guards) ≡ true
       → list_all (guard_holds before after) guards ≡ true
   guarded_from_Reads middle last first second covered =
       all_from_each (guard_holds before after) guards (λ k guard at.
-        let lt : k < 4 = omega (arith, slice_get_within guards k guard at) in
-        holds_from_satisfied guard.all guard.region guard.letters before after (record {
-          permitted_before = permits-Reads guards count false before no_flags middle k guard at first;
-          permitted_after = permits-Reads guards count true after middle last k guard at second;
-          met = λ asks. sym (flags_of_both middle last k guard lt at first second)
+      let lt : k < 4 = omega (arith, slice_get_within guards k guard at) in
+      holds_from_satisfied guard.all guard.region guard.letters before after (record {
+        permitted_before = permits-Reads guards count false before no_flags middle k guard at first;
+        permitted_after = permits-Reads guards count true after middle last k guard at second;
+        met = λ asks. sym (flags_of_both middle last k guard lt at first second)
             ∙ flag_from_covers last (required_of guards) covered k lt (flag-four (asks_at guards) k lt ∙ asks_at-there guards k guard at ∙ asks);
-        }))
+      }))
 
   pub Reads_from_guarded : AllBelow count before → AllBelow count after → list_all (guard_holds before after) guards ≡ true
       → (middle last : List Bool) × Reads guards count false no_flags before middle × Reads guards count true middle after last × (covers last (required_of guards) ≡ true)
   Reads_from_guarded before_below after_below holds =
       let each : (k : ℕ) (guard : Guard) → slice_get guards k ≡ Some guard → IsSatisfied guard before after =
-          λ k guard at. satisfied_from_holds guard.all guard.region guard.letters before after (all_at (guard_holds before after) guards k guard holds at) in
+      λ k guard at. satisfied_from_holds guard.all guard.region guard.letters before after (all_at (guard_holds before after) guards k guard holds at) in
       let first = Reads-permitted guards count false before no_flags before_below (λ k guard at. (each k guard at).permitted_before) in
-      let second = Reads-permitted guards count true after first.0 after_below (λ k guard at. (each k guard at).permitted_after) in
-      (first.0, second.0, first.1, second.1, covers_from_flags second.0 (required_of guards) (λ k lt set.
-        let found = guard_from_asks guards k (sym (flag-four (asks_at guards) k lt) ∙ set) in
-        flags_of_both first.0 second.0 k found.0 lt found.1 first.1 second.1 ∙ (each k found.0 found.1).met found.2))
+      let second = Reads-permitted guards count true after first.0 after_below (λ k guard at. (each k guard at).permitted_after) in (
+        first.0,
+        second.0,
+        first.1,
+        second.1,
+        covers_from_flags second.0 (required_of guards) (λ k lt set.
+            let found = guard_from_asks guards k (sym (flag-four (asks_at guards) k lt) ∙ set) in
+            flags_of_both first.0 second.0 k found.0 lt found.1 first.1 second.1 ∙ (each k found.0 found.1).met found.2),
+      )
 
 -- the letters that a table gives are in range
 pub table_value_in_range : (count : ℕ) (table : List (ℕ × ℕ)) (x : ℕ) → AllByRecursion (λ entry. (entry.0 < count) × (entry.1 < count)) table → x < count → table_value table x < count
@@ -168,22 +168,22 @@ module _ (f t : ℕ) (guards : List Guard) (table : List (ℕ × ℕ)) (count : 
   pub can_end-behind : (met last : List Bool) (s : List ℕ) → Reads guards count true met s last → covers last plan.required ≡ true → can_end plan (record { moved = true; met = met }) ≡ true
   can_end-behind met last s reads covered =
       covers_from_flags (union_of met plan.reach_behind) plan.required (λ k lt set.
-        flag-four (λ j. flag met j || flag plan.reach_behind j) k lt
-          ∙ elim (reach-Reads guards count true s met last k lt reads (flag_from_covers last plan.required covered k lt set)) [
-              inl before ↦ or_left (flag met k) (flag plan.reach_behind k) before
-            | inr reach ↦ or_right (flag met k) (flag plan.reach_behind k) (ap (λ r. flag r k) is_plan.reach_behind_is ∙ reach)
-            ])
+      flag-four (λ j. flag met j || flag plan.reach_behind j) k lt
+      ∙ elim (reach-Reads guards count true s met last k lt reads (flag_from_covers last plan.required covered k lt set)) [
+        | inl before ↦ or_left (flag met k) (flag plan.reach_behind k) before
+        | inr reach ↦ or_right (flag met k) (flag plan.reach_behind k) (ap (λ r. flag r k) is_plan.reach_behind_is ∙ reach)
+      ])
 
   pub can_end-first : (middle last : List Bool) (s s' : List ℕ) → Reads guards count false no_flags s middle → Reads guards count true middle s' last → covers last plan.required ≡ true → can_end plan first_phase ≡ true
   can_end-first middle last s s' first second covered =
       covers_from_flags (union_of (union_of no_flags plan.reach_before) plan.reach_behind) plan.required (λ k lt set.
-        flag-four (λ j. flag (union_of no_flags plan.reach_before) j || flag plan.reach_behind j) k lt
-          ∙ elim (reach-Reads guards count true s' middle last k lt second (flag_from_covers last plan.required covered k lt set)) [
-              inl earlier ↦ or_left (flag (union_of no_flags plan.reach_before) k) (flag plan.reach_behind k)
-                (flag-four (λ j. flag no_flags j || flag plan.reach_before j) k lt
-                  ∙ elim (reach-Reads guards count false s no_flags middle k lt first earlier) [
-                      inl none ↦ absurd (true≢false (sym none ∙ flag-none k))
-                    | inr reach ↦ or_right (flag no_flags k) (flag plan.reach_before k) (ap (λ r. flag r k) is_plan.reach_before_is ∙ reach)
-                    ])
-            | inr reach ↦ or_right (flag (union_of no_flags plan.reach_before) k) (flag plan.reach_behind k) (ap (λ r. flag r k) is_plan.reach_behind_is ∙ reach)
+      flag-four (λ j. flag (union_of no_flags plan.reach_before) j || flag plan.reach_behind j) k lt
+      ∙ elim (reach-Reads guards count true s' middle last k lt second (flag_from_covers last plan.required covered k lt set)) [
+        | inl earlier ↦ or_left (flag (union_of no_flags plan.reach_before) k) (flag plan.reach_behind k)
+            (flag-four (λ j. flag no_flags j || flag plan.reach_before j) k lt
+            ∙ elim (reach-Reads guards count false s no_flags middle k lt first earlier) [
+              | inl none ↦ absurd (true≢false (sym none ∙ flag-none k))
+              | inr reach ↦ or_right (flag no_flags k) (flag plan.reach_before k) (ap (λ r. flag r k) is_plan.reach_before_is ∙ reach)
             ])
+        | inr reach ↦ or_right (flag (union_of no_flags plan.reach_before) k) (flag plan.reach_behind k) (ap (λ r. flag r k) is_plan.reach_behind_is ∙ reach)
+      ])

@@ -1,16 +1,15 @@
 -- Lemmas on the states of the machine of an `at` move: each is reached and can end, and there are 32 at most.
-use Rattle.std.proofs.Common.{◌≡◌, ℕ, zero, suc, ◌+◌, ◌*◌, ◌<◌, ◌≤◌, Bool, true, false, List, [], ◌∷◌, ◌++◌, map, length, slice_get, Option, Some, None, Contains, refl, sym, ap, ◌∙◌, subst, inl, inr, arith, IsTrue, ◌⊎◌, true≢false, eqb, ◌||◌, if◌then◌else◌}
+use Rattle.std.proofs.Common.{◌≡◌, ℕ, zero, suc, ◌+◌, ◌*◌, ◌<◌, ◌≤◌, Bool, true, false, List, [], ◌∷◌, ◌++◌, map, length, slice_get, Option, Some, None, Contains, refl, sym, ap, ◌∙◌, subst, inl, inr, arith, ◌⊎◌, true≢false, eqb, ◌||◌, if◌then◌else◌}
 use Rattle.std.specs.List.{list_any, range_with_len, AllByRecursion, IsDistinct}
 use Rattle.std.proofs.lemmas.Bool.{cases_lt, eqb-true, ne_eqb}
 use Rattle.std.proofs.lemmas.List.{length-map}
 use Rattle.std.proofs.lemmas.List.FromFn.{length-range_with_len}
-use Rattle.std.proofs.lemmas.List.Elements.{Contains-append_left}
 use Rattle.std.proofs.lemmas.Map.Steps.{length-le_from_distinct_below}
 use Rattle.std.proofs.lemmas.Option.{same_Some, none-some, slice_get_within}
 use Rattle.word_automata.specs.Path.{Node, edges_of, IsPath}
 use Rattle.transducers.specs.declared.Label.{Label}
-use Rattle.transducers.specs.Transducer.{Transducer, RelatesFrom, IsAccessible, IsTrim}
-use Rattle.transducers.proofs.ListLemmas.{slice_get-within, slice_get-map_cases, Contains-from_place}
+use Rattle.transducers.specs.Transducer.{RelatesFrom, IsAccessible, IsTrim}
+use Rattle.transducers.proofs.ListLemmas.{slice_get-within, slice_get-map_cases}
 use Rattle.transducers.proofs.PathLemmas.{edges_of-at}
 use Rattle.transducers.proofs.ExchangeLemmas.{RelatesFrom-exchanges}
 use Rattle.protocol_model.specs.declared.system.Guard.{Guard}
@@ -20,10 +19,10 @@ use Rattle.protocol_model.specs.Moves.{table_value}
 use Rattle.array_moves.specs.declared.plan.Phase.{Phase}
 use Rattle.array_moves.specs.declared.plan.Plan.{Plan}
 use Rattle.array_moves.specs.Flags.{flag, four_flags, no_flags, union_of, covers, effect_of, reach_of}
-use Rattle.array_moves.specs.Phases.{IsPlan, first_phase, after_letter, can_end, after_move, starts_of, IsLetterEdge, IsMoveEdge, IsStateOf, IsTarget, IsMachine}
+use Rattle.array_moves.specs.Phases.{IsPlan, first_phase, can_end, after_move, starts_of, IsLetterEdge, IsMoveEdge, IsMachine}
 use Rattle.array_moves.proofs.LetterLemmas.{Changes, exchanges_from_Changes}
 use Rattle.array_moves.proofs.GuardLemmas.{either_of, or_left, or_right, flag-four, flag-none, flag_from_covers, covers_from_flags, effect_from_reach}
-use Rattle.array_moves.proofs.RunLemmas.{Reads, slice_get-range, effect_from_after, phase_from_move, move_from_end}
+use Rattle.array_moves.proofs.RunLemmas.{Reads, slice_get-range, effect_from_after}
 use Rattle.array_moves.proofs.MachineLemmas.{phase_at, after_back, before_back}
 
 -- flags that have more cover more
@@ -49,10 +48,10 @@ can_end-letter : (plan : Plan) (moved : Bool) (met e : List Bool) → can_end pl
 can_end-letter plan true met e h = widen met (union_of met e) plan.reach_behind plan.required (λ k lt set. union_left met e k lt set) h
 can_end-letter plan false met e h =
     widen (union_of met plan.reach_before) (union_of (union_of met e) plan.reach_before) plan.reach_behind plan.required
-      (λ k lt set. elim (union_cases met plan.reach_before k lt set) [
-          inl x ↦ union_left (union_of met e) plan.reach_before k lt (union_left met e k lt x)
-        | inr y ↦ union_right (union_of met e) plan.reach_before k lt y
-        ]) h
+    (λ k lt set. elim (union_cases met plan.reach_before k lt set) [
+      | inl x ↦ union_left (union_of met e) plan.reach_before k lt (union_left met e k lt x)
+      | inr y ↦ union_right (union_of met e) plan.reach_before k lt y
+    ]) h
 
 -- what the move gives, by the test
 move_at : (plan : Plan) (met : List Bool) → can_end plan (record { moved = true; met = met }) ≡ true → after_move plan (record { moved = false; met = met }) ≡ Some (record { moved = true; met = met })
@@ -93,11 +92,14 @@ sets_all guards count behind (suc n) met h =
     by : (o : Option (List Bool)) → effect_of guards behind n ≡ o → SetsAll guards count behind n met → ((e : List Bool) → SetsAll guards count behind n (union_of met e)) → SetsAll guards count behind (suc n) met
     by None is here more =
         record {
-          s = here.s; last = here.last; reads = here.reads; keeps = here.keeps;
+          s = here.s;
+          last = here.last;
+          reads = here.reads;
+          keeps = here.keeps;
           sets = λ x e k lt effect k_lt set. elim (cases_lt x n) [
-              inl x_lt ↦ here.sets x e k x_lt effect k_lt set
+            | inl x_lt ↦ here.sets x e k x_lt effect k_lt set
             | inr ge ↦ (let same : x ≡ n = omega arith in absurd (none-some e (sym is ∙ ap (effect_of guards behind) (sym same) ∙ effect)))
-            ];
+          ];
         }
     by (Some now) is here more =
         let rest = more now in
@@ -108,23 +110,23 @@ sets_all guards count behind (suc n) met h =
           reads = (now, n_lt, is, rest.reads);
           keeps = λ k lt set. rest.keeps k lt (union_left met now k lt set);
           sets = λ x e k lt effect k_lt set. elim (cases_lt x n) [
-              inl x_lt ↦ rest.sets x e k x_lt effect k_lt set
+            | inl x_lt ↦ rest.sets x e k x_lt effect k_lt set
             | inr ge ↦ (let same : x ≡ n = omega arith in
                 let e_is : now ≡ e = same_Some _ _ (sym is ∙ ap (effect_of guards behind) (sym same) ∙ effect) in
                 rest.keeps k k_lt (union_right met now k k_lt (ap (λ f. flag f k) e_is ∙ set)))
-            ];
+          ];
         }
 
 sets_reach : (guards : List Guard) (count : ℕ) (behind : Bool) (met : List Bool) (all : SetsAll guards count behind count met) (k : ℕ) → k < 4
     → flag (reach_of (map (effect_of guards behind) (range_with_len 0 count))) k ≡ true → flag all.last k ≡ true
 sets_reach guards count behind met all k lt h =
     elim (effect_from_reach (map (effect_of guards behind) (range_with_len 0 count)) no_flags k lt h) [
-      inl none ↦ absurd (true≢false (sym none ∙ flag-none k))
-    | inr found ↦ (
-        let from = slice_get-map_cases (effect_of guards behind) (range_with_len 0 count) found.0 (Some found.1) found.2 in
-        let within : found.0 < count = omega (arith, slice_get_within (range_with_len 0 count) found.0 from.0 from.1, length-range_with_len 0 count) in
-        let x_is : found.0 ≡ from.0 = same_Some _ _ (sym (slice_get-range count found.0 within) ∙ from.1) in
-        all.sets found.0 found.1 k within (ap (effect_of guards behind) x_is ∙ from.2) lt found.3)
+      | inl none ↦ absurd (true≢false (sym none ∙ flag-none k))
+      | inr found ↦ (
+          let from = slice_get-map_cases (effect_of guards behind) (range_with_len 0 count) found.0 (Some found.1) found.2 in
+          let within : found.0 < count = omega (arith, slice_get_within (range_with_len 0 count) found.0 from.0 from.1, length-range_with_len 0 count) in
+          let x_is : found.0 ≡ from.0 = same_Some _ _ (sym (slice_get-range count found.0 within) ∙ from.1) in
+          all.sets found.0 found.1 k within (ap (effect_of guards behind) x_is ∙ from.2) lt found.3)
     ]
 
 -- a path, one edge longer
@@ -198,8 +200,8 @@ found_at : (xs : List ℕ) (q : ℕ) → list_any (eqb q) xs ≡ true → (k : �
 found_at [] q h = absurd (true≢false (sym h))
 found_at (x ∷ xs) q h =
     elim (either_of (eqb q x) (list_any (eqb q) xs) h) [
-      inl here ↦ (0, ap Some (sym (eqb-true q x here)))
-    | inr there ↦ (let rest = found_at xs q there in (suc rest.0, rest.1))
+      | inl here ↦ (0, ap Some (sym (eqb-true q x here)))
+      | inr there ↦ (let rest = found_at xs q there in (suc rest.0, rest.1))
     ]
 
 module _ (f t : ℕ) (guards : List Guard) (table : List (ℕ × ℕ)) (offset count : ℕ) (plan : Plan) (phases : List Phase) (states : List (Node Label))
@@ -229,10 +231,10 @@ module _ (f t : ℕ) (guards : List Guard) (table : List (ℕ × ℕ)) (offset c
   all_live zero k h p at = absurd (omega arith)
   all_live (suc n) k h p at =
       elim (machine.are_states.reached k (slice_get_within phases k p at)) [
-        inl zero_is ↦ first_live p (subst (λ j. slice_get phases j ≡ Some p) zero_is at)
-      | inr target ↦ (
-          let before = phase_at f t guards table offset count plan phases states is_plan machine valid target.j target.node target.is_there in
-          live_step before.0 p (target.l, k) (all_live n target.j (omega (arith, target.smaller)) before.0 before.2) at (before.1.only (target.l, k) target.edge))
+        | inl zero_is ↦ first_live p (subst (λ j. slice_get phases j ≡ Some p) zero_is at)
+        | inr target ↦ (
+            let before = phase_at f t guards table offset count plan phases states is_plan machine valid target.j target.node target.is_there in
+            live_step before.0 p (target.l, k) (all_live n target.j (omega (arith, target.smaller)) before.0 before.2) at (before.1.only (target.l, k) target.edge))
       ]
 
   -- the machine's size
@@ -241,13 +243,13 @@ module _ (f t : ℕ) (guards : List Guard) (table : List (ℕ × ℕ)) (offset c
       let codes : List ℕ = map code phases in
       let live : (k : ℕ) (p : Phase) → slice_get phases k ≡ Some p → IsLive plan p = λ k p at. all_live (suc k) k (omega arith) p at in
       let apart : (j k x : ℕ) → slice_get codes j ≡ Some x → slice_get codes k ≡ Some x → j ≡ k =
-        λ j k x a b.
-          let p = slice_get-map_cases code phases j x a in
-          let q = slice_get-map_cases code phases k x b in
-          let same : p.0 ≡ q.0 = same_code p.0 q.0 (live j p.0 p.1).four (live k q.0 q.1).four (p.2 ∙ sym q.2) in
-          machine.distinct j k q.0 (p.1 ∙ ap Some same) q.1 in
+      λ j k x a b.
+      let p = slice_get-map_cases code phases j x a in
+      let q = slice_get-map_cases code phases k x b in
+      let same : p.0 ≡ q.0 = same_code p.0 q.0 (live j p.0 p.1).four (live k q.0 q.1).four (p.2 ∙ sym q.2) in
+      machine.distinct j k q.0 (p.1 ∙ ap Some same) q.1 in
       let small : (q : ℕ) → list_any (eqb q) codes ≡ true → q < 32 =
-        λ q h. let at = found_at codes q h in let from = slice_get-map_cases code phases at.0 q at.1 in subst (λ n. n < 32) from.2 (code_small from.0) in
+      λ q h. let at = found_at codes q h in let from = slice_get-map_cases code phases at.0 q at.1 in subst (λ n. n < 32) from.2 (code_small from.0) in
       omega (arith, length-le_from_distinct_below codes 32 (distinct_from_places codes apart) small, length-map phases code, machine.same_length)
 
   module _ (letters : ℕ) where
@@ -255,11 +257,11 @@ module _ (f t : ℕ) (guards : List Guard) (table : List (ℕ × ℕ)) (offset c
     accessible zero k h within = absurd (omega arith)
     accessible (suc n) k h within =
         elim (machine.are_states.reached k (omega (arith, within, machine.same_length))) [
-          inl zero_is ↦ record { start = 0; is_start = (0, omega arith, refl); moves = []; path = sym zero_is }
-        | inr target ↦ (
-            let before = accessible n target.j (omega (arith, target.smaller)) (slice_get_within states target.j target.node target.is_there) in
-            let edge = subst (λ es. Contains es (target.l, k)) (sym (edges_of-at states target.j target.node target.is_there)) target.edge in
-            record { start = before.start; is_start = before.is_start; moves = before.moves ++ (target.l, k) ∷ []; path = IsPath-push states before.moves before.start target.j k target.l before.path edge })
+          | inl zero_is ↦ record { start = 0; is_start = (0, omega arith, refl); moves = []; path = sym zero_is }
+          | inr target ↦ (
+              let before = accessible n target.j (omega (arith, target.smaller)) (slice_get_within states target.j target.node target.is_there) in
+              let edge = subst (λ es. Contains es (target.l, k)) (sym (edges_of-at states target.j target.node target.is_there)) target.edge in
+              record { start = before.start; is_start = before.is_start; moves = before.moves ++ (target.l, k) ∷ []; path = IsPath-push states before.moves before.start target.j k target.l before.path edge })
         ]
 
     -- from a live phase some list can be read to the end
@@ -268,24 +270,26 @@ module _ (f t : ℕ) (guards : List Guard) (table : List (ℕ × ℕ)) (offset c
     changes_from_live k true met at ends =
         let all = sets_all guards count true count met (omega arith) in
         let covered : covers all.last plan.required ≡ true = covers_wider (union_of met plan.reach_behind) all.last plan.required (λ j lt set.
-          elim (union_cases met plan.reach_behind j lt set) [
-            inl kept ↦ all.keeps j lt kept
+        elim (union_cases met plan.reach_behind j lt set) [
+          | inl kept ↦ all.keeps j lt kept
           | inr reach ↦ sets_reach guards count true met all j lt (ap (λ r. flag r j) (sym is_plan.reach_behind_is) ∙ reach)
-          ]) ends in
+        ]) ends in
         (all.s, map (table_value table) all.s, after_back f t guards table offset count plan phases states is_plan machine all.s k met all.last at all.reads covered)
     changes_from_live k false met at ends =
         let first = sets_all guards count false count met (omega arith) in
         let second = sets_all guards count true count first.last (omega arith) in
         let covered : covers second.last plan.required ≡ true = covers_wider (union_of (union_of met plan.reach_before) plan.reach_behind) second.last plan.required (λ j lt set.
-          elim (union_cases (union_of met plan.reach_before) plan.reach_behind j lt set) [
-            inl earlier ↦ (elim (union_cases met plan.reach_before j lt earlier) [
-                inl kept ↦ second.keeps j lt (first.keeps j lt kept)
-              | inr reach ↦ second.keeps j lt (sets_reach guards count false met first j lt (ap (λ r. flag r j) (sym is_plan.reach_before_is) ∙ reach))
-              ])
+        elim (union_cases (union_of met plan.reach_before) plan.reach_behind j lt set) [
+          | inl earlier ↦ (elim (union_cases met plan.reach_before j lt earlier) [
+            | inl kept ↦ second.keeps j lt (first.keeps j lt kept)
+            | inr reach ↦ second.keeps j lt (sets_reach guards count false met first j lt (ap (λ r. flag r j) (sym is_plan.reach_before_is) ∙ reach))
+          ])
           | inr reach ↦ sets_reach guards count true first.last second j lt (ap (λ r. flag r j) (sym is_plan.reach_behind_is) ∙ reach)
-          ]) ends in
-        (first.s ++ f ∷ second.s, map (table_value table) first.s ++ t ∷ map (table_value table) second.s,
-         before_back f t guards table offset count plan phases states is_plan machine first.s second.s k met first.last second.last at first.reads second.reads covered)
+        ]) ends in (
+          first.s ++ f ∷ second.s,
+          map (table_value table) first.s ++ t ∷ map (table_value table) second.s,
+          before_back f t guards table offset count plan phases states is_plan machine first.s second.s k met first.last second.last at first.reads second.reads covered,
+        )
 
     coaccessible : (k : ℕ) → k < length states → (u w : List ℕ) × RelatesFrom (record { letters = letters; starts = 0 ∷ []; states = states }) k u w
     coaccessible k within =
@@ -300,7 +304,9 @@ module _ (f t : ℕ) (guards : List Guard) (table : List (ℕ × ℕ)) (offset c
         some_start : (n k : ℕ) → k < n → starts_of n ≡ 0 ∷ []
         some_start zero k h = absurd (omega arith)
         some_start (suc n) k h = refl
+
         trim : IsTrim (record { letters = letters; starts = 0 ∷ []; states = states })
         trim = record { accessible = λ k h. accessible (suc k) k (omega arith) h; coaccessible = coaccessible }
+
         at_start : (k : ℕ) → k < length states → IsTrim (record { letters = letters; starts = starts; states = states })
         at_start k h = subst (λ l. IsTrim (record { letters = letters; starts = l; states = states })) (sym (is ∙ some_start (length states) k h)) trim

@@ -7,10 +7,9 @@ ghost use Rattle.transducers.specs.Transducer.{Relates, IsTrim};
 ghost use Rattle.array_moves.specs.Compiled.{IsRaisedMove};
 ghost use Rattle.array_moves.specs.Fixed.{exchange_edge, copying_node, pair_states, ring_states, two_states};
 
+use crate::Alphabet;
 use std::alloc::{AllocError, Global};
 use transducers::{Label, State, Transducer, copy_edges};
-
-use crate::Alphabet;
 
 /// The machine for `pair a b -> c d`: two neighbours `a b` become `c d`.
 pub(crate) fn compile_pair(
@@ -76,7 +75,14 @@ pub(crate) fn compile_two(
 }
 
 /// Before the first of the two neighbours, between them, and after them.
-fn pair_states(alloc: Global, a: u32, b: u32, c: u32, d: u32, alphabet: Alphabet) -> Result<Vec<State>, AllocError>
+fn pair_states(
+    alloc: Global,
+    a: u32,
+    b: u32,
+    c: u32,
+    d: u32,
+    alphabet: Alphabet,
+) -> Result<Vec<State>, AllocError>
     requires valid { AllBelow alphabet.count (a ∷ b ∷ c ∷ d ∷ []) }
     requires fits { alphabet.offset + alphabet.count < 2 ^ 32 }
     ensures { IfOk result (λ states. states.items ≡ pair_states a b c d alphabet.offset alphabet.count) }
@@ -90,7 +96,14 @@ fn pair_states(alloc: Global, a: u32, b: u32, c: u32, d: u32, alphabet: Alphabet
 }
 
 /// Before the first position, after it, and after the last one.
-fn ring_states(alloc: Global, a: u32, b: u32, c: u32, d: u32, alphabet: Alphabet) -> Result<Vec<State>, AllocError>
+fn ring_states(
+    alloc: Global,
+    a: u32,
+    b: u32,
+    c: u32,
+    d: u32,
+    alphabet: Alphabet,
+) -> Result<Vec<State>, AllocError>
     requires valid { AllBelow alphabet.count (a ∷ b ∷ c ∷ d ∷ []) }
     requires fits { alphabet.offset + alphabet.count < 2 ^ 32 }
     ensures { IfOk result (λ states. states.items ≡ ring_states a b c d alphabet.offset alphabet.count) }
@@ -104,7 +117,14 @@ fn ring_states(alloc: Global, a: u32, b: u32, c: u32, d: u32, alphabet: Alphabet
 }
 
 /// No position has changed, that of `a` has, that of `b` has, and both have.
-fn two_states(alloc: Global, a: u32, b: u32, c: u32, d: u32, alphabet: Alphabet) -> Result<Vec<State>, AllocError>
+fn two_states(
+    alloc: Global,
+    a: u32,
+    b: u32,
+    c: u32,
+    d: u32,
+    alphabet: Alphabet,
+) -> Result<Vec<State>, AllocError>
     requires valid { AllBelow alphabet.count (a ∷ b ∷ c ∷ d ∷ []) }
     requires fits { alphabet.offset + alphabet.count < 2 ^ 32 }
     ensures { IfOk result (λ states. states.items ≡ two_states a b c d alphabet.offset alphabet.count) }

@@ -9,13 +9,12 @@ ghost use Rattle.array_moves.specs.Compiled.{IsRaisedMove};
 ghost use Rattle.array_moves.specs.declared.plan.Phase.{Phase};
 ghost use Rattle.array_moves.specs.Phases.{HasRoom, HasFirst, Numbers, LetterEdges, PhaseEdges, IsMachine, starts_of};
 
+use crate::Alphabet;
+use crate::plan::{Phase, Plan, plan_of};
 use indexmap::IndexSet;
 use protocol_model::Guard;
 use std::alloc::{AllocError, Global};
 use transducers::{Label, State, Transducer};
-
-use crate::Alphabet;
-use crate::plan::{Phase, Plan, plan_of};
 
 /// The machine for an `at` move: a position changes from `from` to `into` where every guard holds, and the table changes
 /// all others. Its states are the phases that can be reached and from which the guards can still be met.
@@ -44,7 +43,11 @@ pub(crate) fn compile_at(
 fn starts(alloc: Global, states: &[State]) -> Result<Vec<usize>, AllocError>
     ensures { IfOk result (λ starts. starts.items ≡ starts_of (length states.now)) }
 {
-    if states.is_empty() { Ok(Vec::new(alloc)) } else { Ok(vec![in alloc; 0]?) }
+    if states.is_empty() {
+        Ok(Vec::new(alloc))
+    } else {
+        Ok(vec![in alloc; 0]?)
+    }
 }
 
 /// The states of the phases that can be reached, by their numbers.

@@ -11,13 +11,12 @@ ghost use Rattle.protocol_model.specs.Moves.{IsMove};
 ghost use Rattle.transducers.specs.Transducer.{Relates, IsTrim};
 ghost use Rattle.array_moves.specs.Compiled.{IsRaisedMove};
 
+use fixed::{compile_pair, compile_ring, compile_two};
+use guarded::compile_at;
 use protocol_model::Move;
 use protocol_syntax::Kind;
 use std::alloc::{AllocError, Global};
 use transducers::Transducer;
-
-use fixed::{compile_pair, compile_ring, compile_two};
-use guarded::compile_at;
 
 /// The letters of a section among those of a transducer: the transducer's number of letters, the section's first
 /// letter, and the section's number of letters.
@@ -52,8 +51,20 @@ pub fn compile_array(
         count,
     };
     match step {
-        Move::At { from, to, guards, map } => {
-            compile_at(alloc, *from, *to, guards.as_slice(), map.as_slice(), alphabet)
+        Move::At {
+            from,
+            to,
+            guards,
+            map,
+        } => {
+            compile_at(
+                alloc,
+                *from,
+                *to,
+                guards.as_slice(),
+                map.as_slice(),
+                alphabet,
+            )
         }
         Move::Pair { a, b, c, d } => compile_pair(alloc, *a, *b, *c, *d, alphabet),
         Move::Ring { a, b, c, d } => compile_ring(alloc, *a, *b, *c, *d, alphabet),

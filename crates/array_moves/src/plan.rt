@@ -44,7 +44,11 @@ impl Plan {
     pub(crate) fn after_letter(&self, phase: Phase, letter: u32) -> Option<Phase>
         ensures { result ≡ after_letter self.now phase letter }
     {
-        let effects = if phase.moved { &self.behind } else { &self.before };
+        let effects = if phase.moved {
+            &self.behind
+        } else {
+            &self.before
+        };
         match effects.get(letter as usize) {
             Some(Some(met)) => Some(Phase {
                 moved: phase.moved,
@@ -70,7 +74,11 @@ impl Plan {
     pub(crate) fn can_end(&self, phase: Phase) -> bool
         ensures { result ≡ can_end self.now phase }
     {
-        let met = if phase.moved { phase.met } else { union(phase.met, self.reach_before) };
+        let met = if phase.moved {
+            phase.met
+        } else {
+            union(phase.met, self.reach_before)
+        };
         covers(union(met, self.reach_behind), self.required)
     }
 
@@ -114,7 +122,9 @@ pub(crate) fn plan_of(
 fn images(alloc: Global, table: &[(u32, u32)], count: u32) -> Result<Vec<u32>, AllocError>
     ensures { IfOk result (λ images. images.items ≡ map (table_value table.now) (range_with_len 0 count)) }
 {
-    (0..count).map(|letter| table_value(table, letter)).collect(alloc)
+    (0..count)
+        .map(|letter| table_value(table, letter))
+        .collect(alloc)
 }
 
 /// What the table makes of the letter; one that is not on its left side stays.
@@ -130,10 +140,17 @@ fn table_value(table: &[(u32, u32)], letter: u32) -> u32
 }
 
 /// Which guards each letter meets on one side of the moving position.
-fn effects(alloc: Global, guards: &[Guard], behind: bool, count: u32) -> Result<Vec<Option<[bool; 4]>>, AllocError>
+fn effects(
+    alloc: Global,
+    guards: &[Guard],
+    behind: bool,
+    count: u32,
+) -> Result<Vec<Option<[bool; 4]>>, AllocError>
     ensures { IfOk result (λ effects. effects.items ≡ map (effect_of guards.now behind) (range_with_len 0 count)) }
 {
-    (0..count).map(|letter| effect_of(guards, behind, letter)).collect(alloc)
+    (0..count)
+        .map(|letter| effect_of(guards, behind, letter))
+        .collect(alloc)
 }
 
 /// Which guards the letter meets on one side of the moving position; nothing where a guard forbids it there.
@@ -257,7 +274,10 @@ fn union(a: [bool; 4], b: [bool; 4]) -> [bool; 4]
 fn covers(a: [bool; 4], b: [bool; 4]) -> bool
     ensures { result ≡ covers a b }
 {
-    covers_one(a[0], b[0]) && covers_one(a[1], b[1]) && covers_one(a[2], b[2]) && covers_one(a[3], b[3])
+    covers_one(a[0], b[0])
+        && covers_one(a[1], b[1])
+        && covers_one(a[2], b[2])
+        && covers_one(a[3], b[3])
 }
 
 /// Whether the first flag is set if the second one is.

@@ -1,5 +1,5 @@
 -- Transducers and the words that they relate.
-use Rattle.std.specs.Prelude.{◌≡◌, ◌<◌, ℕ, List, [], ◌∷◌, Option, IfSome, IsSome, IsTrue, ◌⊎◌, All, Contains, length}
+use Rattle.std.specs.Prelude.{◌≡◌, ◌<◌, ℕ, List, Option, IfSome, IsSome, IsTrue, ◌⊎◌, All, Contains, length}
 use Rattle.word_automata.specs.Path.{Node, IsPath, is_accepting, spelled}
 use Rattle.transducers.specs.declared.Label.{Label}
 

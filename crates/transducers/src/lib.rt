@@ -10,13 +10,12 @@ ghost use Rattle.std.specs.Prelude.{◌≡◌, ◌<◌, ◌^◌, IfOk, length};
 ghost use Rattle.word_automata.specs.Path.{edges_of, is_accepting};
 ghost use Rattle.transducers.specs.Combination.{exchange};
 
-use std::alloc::{AllocError, Global};
-use std::marker::Model;
-
 pub use builder::TransducerBuilder;
 pub use combination::{either, inverse};
 pub use copies::{copy_any, copy_edges, copy_one};
 pub use search::relates;
+use std::alloc::{AllocError, Global};
+use std::marker::Model;
 
 /// What an edge reads and what it writes: a letter each, or nothing. Each edge does at least one of the two.
 #[derive(Clone, Copy, PartialEq, Eq, Debug)]

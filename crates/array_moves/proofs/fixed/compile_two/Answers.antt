@@ -13,8 +13,8 @@ is_machine c = c.from_states.ensures ∙ (λ i. record { letters = c.args.alphab
 pub from_states-requires : goal.from_states-requires
 from_states-requires c =
     subst (λ starts. IsValid (record { letters = c.args.alphabet.letters; starts = starts; states = c.in_ok-states.states.items })) (sym c.in_ok-starts.ensures.items)
-      (subst (λ states. IsValid (record { letters = c.args.alphabet.letters; starts = 0 ∷ []; states = states })) (sym c.in_ok-states.ensures)
-        (two_valid c.args.a c.args.b c.args.c c.args.d c.args.alphabet.offset c.args.alphabet.count c.requires.valid c.args.alphabet.letters c.requires.fits))
+    (subst (λ states. IsValid (record { letters = c.args.alphabet.letters; starts = 0 ∷ []; states = states })) (sym c.in_ok-states.ensures)
+    (two_valid c.args.a c.args.b c.args.c c.args.d c.args.alphabet.offset c.args.alphabet.count c.requires.valid c.args.alphabet.letters c.requires.fits))
 
 pub returns-clause-trim : goal.returns-clause-trim
 returns-clause-trim c = subst IsTrim (sym (is_machine c)) (two_trim c.args.a c.args.b c.args.c c.args.d c.args.alphabet.letters c.args.alphabet.offset c.args.alphabet.count)
@@ -22,5 +22,5 @@ returns-clause-trim c = subst IsTrim (sym (is_machine c)) (two_trim c.args.a c.a
 pub returns-clause-relates : goal.returns-clause-relates
 returns-clause-relates c u w =
     subst (λ t. (Relates t u w → IsRaisedMove (IsTwoMove c.args.a c.args.b c.args.c c.args.d) c.args.alphabet.offset c.args.alphabet.count u w)
-          × (IsRaisedMove (IsTwoMove c.args.a c.args.b c.args.c c.args.d) c.args.alphabet.offset c.args.alphabet.count u w → Relates t u w))
-      (sym (is_machine c)) (two_relates c.args.a c.args.b c.args.c c.args.d c.args.alphabet.offset c.args.alphabet.count c.requires.valid c.args.alphabet.letters u w)
+    × (IsRaisedMove (IsTwoMove c.args.a c.args.b c.args.c c.args.d) c.args.alphabet.offset c.args.alphabet.count u w → Relates t u w))
+    (sym (is_machine c)) (two_relates c.args.a c.args.b c.args.c c.args.d c.args.alphabet.offset c.args.alphabet.count c.requires.valid c.args.alphabet.letters u w)

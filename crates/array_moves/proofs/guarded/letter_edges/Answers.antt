@@ -8,16 +8,16 @@ use Rattle.array_moves.proofs.guarded.letter_edges.Goals.{in-Some+in_ok-target+i
 pub letters-preserved : goal.letters-preserved
 letters-preserved c =
     elim c.match-after_letter.branch [
-      in-Some+in_ok-target+in_ok-push w ↦
-        let images = c.args.plan.now.images.items in
-        let lt : c.letters.letter < length images = omega (arith, c.requires.each_image, c.letters-test.true) in
-        let read = slice_get_read images (length images) c.letters.letter w.index-image.result.now refl lt w.index-image.ensures in
-        let image = sym (get_or_from_slice_get images c.letters.letter w.index-image.result.now 0 read) in
-        rw (w.phases-is, w.edges-is)
+      | in-Some+in_ok-target+in_ok-push w ↦
+          let images = c.args.plan.now.images.items in
+          let lt : c.letters.letter < length images = omega (arith, c.requires.each_image, c.letters-test.true) in
+          let read = slice_get_read images (length images) c.letters.letter w.index-image.result.now refl lt w.index-image.ensures in
+          let image = sym (get_or_from_slice_get images c.letters.letter w.index-image.result.now 0 read) in
+          rw (w.phases-is, w.edges-is)
           (subst (LetterEdges c.args.plan.now c.args.alphabet.offset (c.letters.letter + 1) c.args.phase c.args.phases.now.keys w.number.new.phases.keys)
-            (sym (w.in_ok-push.ensures.items ∙ ap (λ l. c.letters.edges.items ++ (l, w.in_ok-target.target) ∷ []) w.exchange-label.ensures))
-            (LetterEdges-allowed c.args.plan.now c.args.alphabet.offset c.args.phase c.letters.letter _ _ _ c.letters.invariant _ _ _ w.index-image.result.now (sym w.in-Some.ensures) w.in_ok-target.ensures image))
-    | in_default w ↦ rw (w.phases-is, w.edges-is) (LetterEdges-forbidden c.args.plan.now c.args.alphabet.offset c.args.phase c.letters.letter _ _ _ c.letters.invariant (sym w.in_default.ensures))
+          (sym (w.in_ok-push.ensures.items ∙ ap (λ l. c.letters.edges.items ++ (l, w.in_ok-target.target) ∷ []) w.exchange-label.ensures))
+          (LetterEdges-allowed c.args.plan.now c.args.alphabet.offset c.args.phase c.letters.letter _ _ _ c.letters.invariant _ _ _ w.index-image.result.now (sym w.in-Some.ensures) w.in_ok-target.ensures image))
+      | in_default w ↦ rw (w.phases-is, w.edges-is) (LetterEdges-forbidden c.args.plan.now c.args.alphabet.offset c.args.phase c.letters.letter _ _ _ c.letters.invariant (sym w.in_default.ensures))
     ]
 
 pub returns : goal.returns

@@ -1,4 +1,4 @@
-use Rattle.std.proofs.Common.{◌≡◌, Bool, true, false, ◌&&◌, List, refl, sym, ap, ◌∙◌, subst, Some, slice_get, true≢false}
+use Rattle.std.proofs.Common.{◌≡◌, Bool, true, false, ◌&&◌, refl, sym, subst, Some, slice_get, true≢false}
 use mathlib.Core.Bool.{beq}
 use lib.Pointwise.{pointwise, pointwise_decides}
 use Rattle.array_moves.specs.contracts.plan.PhasePartialEq.TheImpl.{eq-value}
@@ -23,4 +23,4 @@ returns c =
     let e = c.in_ok-number.ensures in
     let at = subst (λ l. slice_get l c.in_ok-number.number ≡ Some e.stored.0) e.keys e.stored.1 in
     subst (λ new. Numbers c.args.phases.now.keys new c.args.phase c.in_ok-number.number) (sym e.keys)
-      (Numbers-insert_key eq-value.it same c.args.phases.now.keys c.args.phase e.stored.0 c.in_ok-number.number at e.stored.2)
+    (Numbers-insert_key eq-value.it same c.args.phases.now.keys c.args.phase e.stored.0 c.in_ok-number.number at e.stored.2)

@@ -1,5 +1,4 @@
-use Rattle.std.proofs.Common.{◌-◌, ◌^◌, ◌≡◌, IsTrue, false, slice_get, Some, [], length}
-use Rattle.array_moves.specs.Phases.{AreStates, can_end, first_phase}
+use Rattle.std.proofs.Common.{◌-◌, ◌^◌, length}
 use Rattle.array_moves.proofs.PhaseLemmas.{IsGrowing}
 use Rattle.array_moves.proofs.guarded.states.Given as goal
 
