@@ -1,13 +1,13 @@
 ghost use Rattle.std.specs.Prelude.{◌≡◌, IfOk};
 
 use super::*;
-
 use std::alloc::Global;
 use std::test::Fail;
 use word_automata::{Dfa, DfaBuilder};
 
 // The letters of a ring in which a token is passed: a process without it and one with it.
 const WITHOUT: u32 = 0;
+
 const WITH: u32 = 1;
 
 /// The words with one token.
@@ -52,7 +52,10 @@ fn combines_languages(rt: HostRuntime) -> Result<(), Fail> {
     assert!(rt; all.accepts(&[WITH, WITHOUT, WITH]));
     assert!(rt; !all.accepts(&[2]));
     let refused = complement(alloc, &safe)?;
-    assert_eq!(rt; least_word(alloc, &refused)?.ok_or("no word")?.as_slice(), [].as_slice());
+    assert_eq!(rt;
+        least_word(alloc, &refused)?.ok_or("no word")?.as_slice(),
+        [].as_slice()
+    );
     assert!(rt; least_word(alloc, &intersect(alloc, &safe, &bad)?)?.is_none());
     assert!(rt; is_empty(alloc, &difference(alloc, &safe, &refused)?)? == is_empty(alloc, &safe)?);
     Ok(())
