@@ -1,9 +1,9 @@
 -- Products of two automata: their states are pairs of states that may be missing.
 use Rattle.std.specs.Prelude.{◌≡◌, ◌<◌, ◌++◌, ◌&&◌, ◌||◌, ℕ, Bool, not, List, Option, None, Some, Contains, is_some, if◌then◌else◌, map}
 use Rattle.std.specs.List.Sorted.{IsStrictlyIncreasing}
-use Rattle.word_automata.specs.Automaton.{Automaton, find_target}
+use Rattle.word_automata.specs.Automaton.{Automaton, find_target, IsValid}
 use Rattle.exploration.specs.System.{System}
-use Rattle.boolean_operations.specs.OptionalStates.{start_of, follow, accepts_at}
+use Rattle.boolean_operations.specs.OptionalStates.{start_of, follow, accepts_at, IsStateOrNone}
 use Rattle.boolean_operations.specs.declared.products.Operation.{Operation}
 use Rattle.boolean_operations.specs.declared.products.Operation.TheVariants.{Union, Intersection, Difference}
 
@@ -38,3 +38,7 @@ pub record AreLettersOf (left right : List (ℕ × ℕ)) (letters : List ℕ) : 
   pub left_letters : (a r : ℕ) → find_target left a ≡ Some r → Contains letters a
   pub right_letters : (a r : ℕ) → find_target right a ≡ Some r → Contains letters a
   pub only_letters : (a : ℕ) → Contains letters a → Contains (map (λ edge. edge.0) (left ++ right)) a
+
+-- both automata are valid, and the pair has a state of each or none
+abbrev pub IsPairOfStates : Automaton → Automaton → Option ℕ × Option ℕ → Type 0
+IsPairOfStates left right pair = IsValid left × IsValid right × IsStateOrNone left pair.0 × IsStateOrNone right pair.1

@@ -9,3 +9,6 @@ mod products;
 pub use complementation::complement;
 pub use least_words::{is_empty, least_word};
 pub use products::{difference, intersect, union};
+
+#[cfg(test)]
+mod tests;

@@ -3,8 +3,7 @@
 ghost use Rattle.std.specs.Prelude.{◌≡◌, ◌++◌, ◌&&◌, ◌||◌, ℕ, not, List, Option, map, IfOk, OnOk, IsTrue};
 ghost use Rattle.word_automata.specs.Automaton.{accepts, IsValid};
 ghost use Rattle.exploration.specs.System.{IsSuccessors};
-ghost use Rattle.boolean_operations.specs.OptionalStates.{IsStateOrNone};
-ghost use Rattle.boolean_operations.specs.Products.{combine, pair_of, is_live, pair_system, AreLettersOf};
+ghost use Rattle.boolean_operations.specs.Products.{IsPairOfStates, combine, pair_of, is_live, pair_system, AreLettersOf};
 ghost use Rattle.boolean_operations.specs.Equality.{same_pairs};
 
 use crate::optional_states::{accepts_at, edges_at, follow, start_of};
@@ -51,7 +50,7 @@ impl TransitionSystem for Product<'_> {
 
     ghost system = { λ s. pair_system s.operation s.left.now s.right.now };
 
-    ghost is_state = { λ s pair. IsValid s.left.now × IsValid s.right.now × IsStateOrNone s.left.now pair.0 × IsStateOrNone s.right.now pair.1 };
+    ghost is_state = { λ s pair. IsPairOfStates s.left.now s.right.now pair };
 
     fn letters(&self) -> u32 {
         self.left.letters()

@@ -4,7 +4,7 @@ ghost use Rattle.std.specs.Prelude.{◌≡◌, ◌↔◌, ◌+◌, ◌^◌, ◌<
 ghost use Rattle.std.specs.List.{insert};
 ghost use Rattle.word_automata.specs.Path.{Node, edges_of, is_accepting};
 ghost use Rattle.word_automata.specs.Automaton.{Automaton, accepts, target, IsValid, HasIncreasingLetters};
-ghost use Rattle.word_automata.specs.Building.{empty_automaton, with_state, edge_count, IsEdgeInRange, AddsEdge, MakesAccepting};
+ghost use Rattle.word_automata.specs.Building.{empty_automaton, with_state, edge_count, IsEdgeInRange, IsSecondEdge, AddsEdge, MakesAccepting};
 ghost use Rattle.word_automata.specs.EdgeList.{IsEdgeAt, IsGapFor};
 
 use crate::fault::BuildFault;
@@ -280,7 +280,7 @@ impl DfaBuilder {
     pub fn edge(&mut self, from: usize, letter: u32, to: usize) -> Result<(), BuildFault>
         ensures ok { OnOk result (AddsEdge self.old self.new from letter to) }
         ensures out_of_range { (result ≡ Err BuildFault.OutOfRange) ↔ (IsEdgeInRange self.old from letter to → ⊥) }
-        ensures two_edges { (result ≡ Err BuildFault.TwoEdges) ↔ (IsEdgeInRange self.old from letter to × IsSome (target self.old from letter)) }
+        ensures two_edges { (result ≡ Err BuildFault.TwoEdges) ↔ IsSecondEdge self.old from letter to }
         ensures added { OnOk result (IsEdgeInRange self.old from letter to × (target self.old from letter ≡ None)) }
         ensures err { OnErr result (self.new ≡ self.old) }
     {
