@@ -1,0 +1,208 @@
+-- What the lines that were read determine, line by line.
+use Rattle.std.proofs.Common.{◌≡◌, ◌≢◌, ℕ, suc, ◌+◌, ◌≤◌, ◌&&◌, true, eqb, List, [], ◌∷◌, ◌++◌, Option, Some, None, IsSome}
+use Rattle.std.proofs.Common.{Contains, AllPairs, length, get_or, codes, refl, sym, ap, subst, ◌∙◌, arith, inl, inr, ◌⊎◌}
+use Rattle.std.specs.List.{AllByRecursion}
+use Rattle.std.proofs.lemmas.List.{append_assoc, append-nil, length-append, get_or_at, get_or_append_left}
+use Rattle.std.proofs.lemmas.List.Elements.{Contains-append_left, Contains-push, Contains-push_cases}
+use Rattle.std.proofs.lemmas.Bool.{cases_eq, eq-eqb, ne_eqb, cond-true, cond-false, and_from, and_left, and_right}
+use Rattle.std.proofs.lemmas.Option.{same_Some, none-some}
+use Rattle.word_automata.specs.Automaton.{Automaton, target}
+use Rattle.word_automata.specs.Building.{AddsEdge, MakesAccepting}
+use Rattle.protocol_model.specs.System.{SystemData, IsValid}
+use Rattle.protocol_model.specs.Words.{automata_letters}
+use Rattle.certificate.specs.declared.lines.Line.{Line}
+use Rattle.certificate.specs.declared.lines.Line.TheVariants.{Final, Edge}
+use Rattle.certificate.specs.Bytes.{Lacks, IsCutAt}
+use Rattle.certificate.specs.Numbers.{beyond}
+use Rattle.certificate.specs.SafeText.{line_text, IsInRange, AreNoTwoEdges, IsAutomatonOf}
+use Rattle.certificate.specs.Reading.{AddsLine, IsSecondEdge, HasLines, lines_text, body_text, GoesOn}
+use Rattle.certificate.proofs.TextLemmas.{cut_unique, no_cut}
+use Rattle.certificate.proofs.LineLemmas.{line_text-no_line_feed}
+
+-- texts of lines
+pub body_text-cons : (s : SystemData) (x : Line) (later : List Line) → body_text s (x ∷ later) ≡ line_text s x ++ 10 ∷ body_text s later
+body_text-cons s x later = append_assoc (line_text s x) (10 ∷ []) (body_text s later)
+
+pub body_text-append : (s : SystemData) (lines later : List Line) → body_text s (lines ++ later) ≡ lines_text s lines ++ body_text s later
+body_text-append s [] later = refl
+body_text-append s (x ∷ lines) later =
+    ap (λ text. (line_text s x ++ 10 ∷ []) ++ text) (body_text-append s lines later)
+    ∙ sym (append_assoc (line_text s x ++ 10 ∷ []) (lines_text s lines) (body_text s later))
+
+pub lines_text-push : (s : SystemData) (lines : List Line) (x : Line) (after : List ℕ)
+    → lines_text s lines ++ (line_text s x ++ 10 ∷ after) ≡ lines_text s (lines ++ x ∷ []) ++ after
+lines_text-push s [] x after =
+    sym (ap (λ text. text ++ after) (append-nil (line_text s x ++ 10 ∷ [])) ∙ append_assoc (line_text s x) (10 ∷ []) after)
+lines_text-push s (y ∷ lines) x after =
+    append_assoc (line_text s y ++ 10 ∷ []) (lines_text s lines) (line_text s x ++ 10 ∷ after)
+    ∙ ap (λ text. (line_text s y ++ 10 ∷ []) ++ text) (lines_text-push s lines x after)
+    ∙ sym (append_assoc (line_text s y ++ 10 ∷ []) (lines_text s (lines ++ x ∷ [])) after)
+
+-- facts on the elements of a list
+pub AllByRecursion-middle : {X : Type 0} (P : X → Type 0) (xs : List X) (x : X) (ys : List X) → AllByRecursion P (xs ++ x ∷ ys) → P x
+AllByRecursion-middle P [] x ys h = h.0
+AllByRecursion-middle P (y ∷ xs) x ys h = AllByRecursion-middle P xs x ys h.1
+
+pub AllByRecursion-push : {X : Type 0} (P : X → Type 0) (xs : List X) (x : X) → AllByRecursion P xs → P x → AllByRecursion P (xs ++ x ∷ [])
+AllByRecursion-push P [] x h p = (p, tt)
+AllByRecursion-push P (y ∷ xs) x h p = (h.0, AllByRecursion-push P xs x h.1 p)
+
+pub AllPairs-middle : {X : Type 0} (R : X → X → Type 0) (xs : List X) (x : X) (ys : List X) (y : X) → AllPairs R (xs ++ x ∷ ys)
+    → Contains xs y → R y x
+AllPairs-middle R xs x ys y h at =
+    let e : length (xs ++ x ∷ ys) ≡ length xs + suc (length ys) = length-append xs (x ∷ ys) in
+    let pair = h at.0 (length xs) y at.1 (omega arith) in
+    subst (λ b. R y b) (get_or_at xs x ys y (length xs) refl)
+    (subst (λ b. R b (get_or (xs ++ x ∷ ys) (length xs) y)) (get_or_append_left xs (x ∷ ys) y at.0 at.1 ∙ at.2) pair)
+
+-- a line with few states is in range of more
+pub IsInRange-weaken : (letters few many : ℕ) → few ≤ many → (x : Line) → IsInRange letters few x → IsInRange letters many x
+IsInRange-weaken letters few many le (Final q) h = omega arith
+IsInRange-weaken letters few many le (Edge p a q) h = (omega (arith, h.0), h.1, omega (arith, h.2))
+
+-- two places are one or apart
+same_place : (p q a b : ℕ) → ((p ≡ q) × (a ≡ b)) ⊎ ((p ≢ q) ⊎ (a ≢ b))
+same_place p q a b =
+    elim (cases_eq p q) [
+      | inl state ↦ elim (cases_eq a b) [ inl letter ↦ inl (state, letter) | inr differs ↦ inr (inr differs) ]
+      | inr differs ↦ inr (inl differs)
+    ]
+
+some_value : {X : Type 0} (o : Option X) → IsSome o → (x : X) × (o ≡ Some x)
+some_value None h = cc h
+some_value (Some x) h = (x, refl)
+
+-- how a text begins that goes on: with the line `end` alone, or with a line after which it goes on
+pub data Begins (s : SystemData) (count : ℕ) (lines : List Line) (line after : List ℕ) (m : Automaton) : Type 0 where
+  ends : line ≡ codes "end" → after ≡ [] → Begins s count lines line after m
+  continues : (x : Line) → line ≡ line_text s x → IsInRange (automata_letters s) count x → GoesOn s count (lines ++ x ∷ []) after m
+      → Begins s count lines line after m
+
+module _ (s : SystemData) (valid : IsValid s) (count : ℕ) (few : count ≤ beyond) (lines : List Line) (rest line after : List ℕ)
+    (m : Automaton) (cut : IsCutAt 10 rest line after) where
+  begins_with : (later : List Line) → rest ≡ body_text s later → AllByRecursion (IsInRange (automata_letters s) count) (lines ++ later)
+      → AllPairs AreNoTwoEdges (lines ++ later)
+      → IsAutomatonOf (automata_letters s) count (lines ++ later) m → Begins s count lines line after m
+  begins_with [] spelled in_range no_two automaton =
+      let parts = cut_unique 10 line (codes "end") after [] cut.first (omega arith, (omega arith, (omega arith, tt))) (sym cut.joined
+      ∙ spelled) in
+      ends parts.0 parts.1
+  begins_with (x ∷ later) spelled in_range no_two automaton =
+      let range = AllByRecursion-middle (IsInRange (automata_letters s) count) lines x later in_range in
+      let lacks = line_text-no_line_feed s valid x (IsInRange-weaken (automata_letters s) count beyond few x range) in
+      let parts = cut_unique 10 line (line_text s x) after (body_text s later) cut.first lacks (sym cut.joined ∙ spelled
+      ∙ body_text-cons s x later) in
+      let regrouped : lines ++ x ∷ later ≡ (lines ++ x ∷ []) ++ later = sym (append_assoc lines (x ∷ []) later) in
+      continues x parts.0 range (record {
+        later = later;
+        spelled = parts.1;
+        in_range = subst (AllByRecursion (IsInRange (automata_letters s) count)) regrouped in_range;
+        no_two_edges = subst (AllPairs AreNoTwoEdges) regrouped no_two;
+        automaton = subst (λ all. IsAutomatonOf (automata_letters s) count all m) regrouped automaton;
+      })
+
+  pub GoesOn-begins : GoesOn s count lines rest m → Begins s count lines line after m
+  GoesOn-begins h = begins_with h.later h.spelled h.in_range h.no_two_edges h.automaton
+
+-- a text that goes on has a line feed
+pub GoesOn-has_line_feed : (s : SystemData) (count : ℕ) (lines : List Line) (rest : List ℕ) (m : Automaton) → Lacks 10 rest
+    → GoesOn s count lines rest m → ⊥
+GoesOn-has_line_feed s count lines rest m lacks h = no_body h.later (subst (Lacks 10) h.spelled lacks)
+  where
+    no_body : (later : List Line) → Lacks 10 (body_text s later) → ⊥
+    no_body [] l = l.1.1.1.0 refl
+    no_body (x ∷ later) l = no_cut 10 (line_text s x) (body_text s later) (subst (Lacks 10) (body_text-cons s x later) l)
+
+-- an accepting state is a line's; a line more makes its state accepting
+module _ (size count : ℕ) (lines : List Line) (old new : Automaton) (h : HasLines size count lines old) where
+  HasLines-final : (q : ℕ) → MakesAccepting old new q → HasLines size count (lines ++ Final q ∷ []) new
+  HasLines-final q made = record {
+    letters_are = made.same_letters ∙ h.letters_are;
+    states_are = made.same_size ∙ h.states_are;
+    final_lines = λ p. (
+      λ accepts. elim (cases_eq p q) [
+        | inl same ↦ subst (λ state. Contains (lines ++ Final q ∷ []) (Final state)) (sym same) (Contains-push lines (Final q))
+        | inr differs ↦
+            Contains-append_left lines (Final q ∷ []) (Final p)
+            ((h.final_lines p).0 (sym (made.acceptance p ∙ cond-false (eqb p q) true _ (ne_eqb p q differs)) ∙ accepts))
+      ],
+      λ among. elim (cases_eq p q) [
+        | inl same ↦ made.acceptance p ∙ cond-true (eqb p q) true _ (eq-eqb p q same)
+        | inr differs ↦ elim (Contains-push_cases lines (Final q) (Final p) among) [
+          | inl earlier ↦ made.acceptance p ∙ cond-false (eqb p q) true _ (ne_eqb p q differs) ∙ (h.final_lines p).1 earlier
+          | inr same ↦ absurd (differs cc)
+        ]
+      ],
+    );
+    edge_lines = λ p a r. (
+      λ leads. Contains-append_left lines (Final q ∷ []) (Edge p a r) ((h.edge_lines p a r).0 (sym (made.same_targets p a) ∙ leads)),
+      λ among. elim (Contains-push_cases lines (Final q) (Edge p a r) among) [
+        | inl earlier ↦ made.same_targets p a ∙ (h.edge_lines p a r).1 earlier
+        | inr same ↦ absurd cc
+      ],
+    );
+  }
+
+  HasLines-edge : (p a q : ℕ) → target old p a ≡ None → AddsEdge old new p a q → HasLines size count (lines ++ Edge p a q ∷ []) new
+  HasLines-edge p a q none added =
+      let here : (p' a' : ℕ) → p' ≡ p → a' ≡ a → target new p' a' ≡ Some q
+      = λ p' a' same_state same_letter. added.targets p' a'
+      ∙ cond-true (eqb p' p && eqb a' a) _ _ (and_from (eqb p' p) (eqb a' a) (eq-eqb p' p same_state) (eq-eqb a' a same_letter)) in
+      let elsewhere : (p' a' : ℕ) → (p' ≢ p) ⊎ (a' ≢ a) → target new p' a' ≡ target old p' a'
+      = λ p' a' apart. added.targets p' a' ∙ cond-false (eqb p' p && eqb a' a) _ _ (elim apart [
+        | inl state ↦ and_left (eqb p' p) (eqb a' a) (ne_eqb p' p state)
+        | inr letter ↦ and_right (eqb p' p) (eqb a' a) (ne_eqb a' a letter)
+      ]) in
+      record {
+        letters_are = added.same_letters ∙ h.letters_are;
+        states_are = added.same_size ∙ h.states_are;
+        final_lines = λ r. (
+          λ accepts. Contains-append_left lines (Edge p a q ∷ []) (Final r) ((h.final_lines r).0 (sym (added.same_acceptance r) ∙ accepts)),
+          λ among. elim (Contains-push_cases lines (Edge p a q) (Final r) among) [
+            | inl earlier ↦ added.same_acceptance r ∙ (h.final_lines r).1 earlier
+            | inr same ↦ absurd cc
+          ],
+        );
+        edge_lines = λ p' a' r. (
+          λ leads. elim (same_place p' p a' a) [
+            | inl place ↦
+                let target_is : q ≡ r = same_Some q r (sym (here p' a' place.0 place.1) ∙ leads) in
+                let line_is : Edge p a q ≡ Edge p' a' r = cc (target_is, place.0, place.1) in
+                subst (Contains (lines ++ Edge p a q ∷ [])) line_is (Contains-push lines (Edge p a q))
+            | inr apart ↦ Contains-append_left lines (Edge p a q ∷ []) (Edge p' a' r)
+                ((h.edge_lines p' a' r).0 (sym (elsewhere p' a' apart) ∙ leads))
+          ],
+          λ among. elim (same_place p' p a' a) [
+            | inl place ↦ elim (Contains-push_cases lines (Edge p a q) (Edge p' a' r) among) [
+              | inl earlier ↦
+                  let leads = (h.edge_lines p' a' r).1 earlier in
+                  absurd (none-some r (sym none ∙ sym (ap (λ b. target old p b) place.1) ∙ sym (ap (λ b. target old b a') place.0) ∙ leads))
+              | inr same ↦
+                  let target_is : q ≡ r = cc in
+                  here p' a' place.0 place.1 ∙ ap Some target_is
+            ]
+            | inr apart ↦ elim (Contains-push_cases lines (Edge p a q) (Edge p' a' r) among) [
+              | inl earlier ↦ elsewhere p' a' apart ∙ (h.edge_lines p' a' r).1 earlier
+              | inr same ↦
+                  let state : p' ≡ p = cc in
+                  let letter : a' ≡ a = cc in
+                  absurd (elim apart [ inl differs ↦ differs state | inr differs ↦ differs letter ])
+            ]
+          ],
+        );
+      }
+
+  pub HasLines-push : (x : Line) → AddsLine old new x → HasLines size count (lines ++ x ∷ []) new
+  HasLines-push (Final q) added = HasLines-final q added.1
+  HasLines-push (Edge p a q) added = HasLines-edge p a q added.1 added.2
+
+-- no text goes on after a second edge with one source and one letter
+pub second_edge_ends : (s : SystemData) (count : ℕ) (lines : List Line) (old : Automaton) (x : Line) (rest : List ℕ) (m : Automaton)
+    → HasLines (automata_letters s) count lines old
+    → IsSecondEdge old x → GoesOn s count (lines ++ x ∷ []) rest m → ⊥
+second_edge_ends s count lines old (Final q) rest m h second onward = second
+second_edge_ends s count lines old (Edge p a q) rest m h second onward =
+    let first = some_value (target old p a) second in
+    AllPairs-middle AreNoTwoEdges lines (Edge p a q) onward.later (Edge p a first.0)
+    (subst (AllPairs AreNoTwoEdges) (append_assoc lines (Edge p a q ∷ []) onward.later) onward.no_two_edges)
+    ((h.edge_lines p a first.0).0 first.1) refl refl

@@ -1,0 +1,33 @@
+-- The letters of a system's automata, found by their texts.
+use Rattle.std.specs.Prelude.{◌≡◌, ℕ, List, [], ◌∷◌, ◌++◌, Option, Some, Vec, IfSome, IsSome, map, codes, slice_get, bytes_eq, flat_map}
+use Rattle.std.specs.HashMap.{HashMap, get_by}
+use Rattle.protocol_model.specs.declared.system.Section.{Section}
+use Rattle.protocol_model.specs.System.{SystemData, IsValid}
+use Rattle.protocol_model.specs.Words.{automata_letters}
+
+-- the texts of a section's letters, in their order
+abbrev pub section_texts : Section → List (List ℕ)
+section_texts section = map (λ letter. section.name ++ codes "." ++ letter) section.letters
+
+-- the texts of all letters, in the order of their numbers
+abbrev pub letter_texts : List Section → List (List ℕ)
+letter_texts sections = flat_map section_texts sections ++ codes "|" ∷ []
+
+-- the lists in vectors
+abbrev pub lists_of : {Y : Type 0} → List (Vec ℕ Y) → List (List ℕ)
+lists_of vectors = map (λ vector. vector.items) vectors
+
+-- the value of the key with these bytes
+abbrev pub get_by_bytes : {X Y S : Type 0} → HashMap (Vec ℕ Y) X S → List ℕ → Option X
+get_by_bytes m bytes = get_by (λ key. bytes_eq bytes key.items) m
+
+-- the map has each of the texts, and for each text that it has a place at which the text stands
+pub record IsIndexOf {Y S : Type 0} (texts : List (List ℕ)) (places : HashMap (Vec ℕ Y) ℕ S) : Type 0 where
+  pub each : (text : List ℕ) (place : ℕ) → slice_get texts place ≡ Some text → IsSome (get_by_bytes places text)
+  pub place : (text : List ℕ) → IfSome (get_by_bytes places text) (λ place. slice_get texts place ≡ Some text)
+
+-- the numbers and the size are those of the letters of the system's automata
+pub record IsAlphabetOf {Y S : Type 0} (s : SystemData) (numbers : HashMap (Vec ℕ Y) ℕ S) (size : ℕ) : Type 0 where
+  pub valid : IsValid s
+  pub index : IsIndexOf (letter_texts s.sections) numbers
+  pub counted : size ≡ automata_letters s

@@ -1,0 +1,12 @@
+-- Parts of a text.
+use Rattle.std.specs.Prelude.{◌≡◌, ◌≢◌, ℕ, List, ◌∷◌, ◌++◌}
+use Rattle.std.specs.List.{AllByRecursion}
+
+-- the byte is not one of the text's
+abbrev pub Lacks : ℕ → List ℕ → Type 0
+Lacks byte text = AllByRecursion (λ b. b ≢ byte) text
+
+-- the text is cut at its first separator
+pub record IsCutAt (separator : ℕ) (text before after : List ℕ) : Type 0 where
+  pub joined : text ≡ before ++ separator ∷ after
+  pub first : Lacks separator before

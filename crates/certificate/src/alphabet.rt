@@ -1,0 +1,115 @@
+//! The letters of a system's automata, found by their texts.
+
+ghost use Rattle.std.specs.Prelude.{◌≡◌, ◌++◌, ◌+◌, ◌^◌, ◌<◌, ℕ, IfOk, OnOk, IfSome, Some, codes, length};
+ghost use Rattle.protocol_model.specs.System.{IsValid};
+ghost use Rattle.protocol_model.specs.Words.{automata_letters};
+ghost use Rattle.certificate.specs.SafeText.{letter_text};
+ghost use Rattle.certificate.specs.Alphabet.{section_texts, letter_texts, lists_of, IsIndexOf};
+
+use protocol_model::{Section, System};
+use std::alloc::{AllocError, Global};
+use std::collections::HashMap;
+use std::marker::Model;
+
+/// The letters of a system's automata. The text of a letter is the name of its section and its own name with a dot
+/// between them, and `|` for the separator.
+#[derive(Drop)]
+pub struct Alphabet<'a> {
+    system: &'a System,
+    numbers: HashMap<Vec<u8>, u32>,
+    size: u32,
+}
+
+impl<'a> Model for Alphabet<'a> {
+    ghost use Rattle.protocol_model.specs.System.{SystemData};
+    ghost use Rattle.certificate.specs.Alphabet.{IsAlphabetOf};
+
+    ghost Value = { SystemData };
+
+    ghost view = { λ alphabet. alphabet.system.now };
+
+    ghost invariant = { λ alphabet. IsAlphabetOf alphabet.system.now alphabet.numbers alphabet.size };
+}
+
+impl<'a> Alphabet<'a> {
+    /// The letters of the automata of this system.
+    pub fn new(alloc: Global, system: &'a System) -> Result<Alphabet<'a>, AllocError>
+        ensures same { IfOk result (λ alphabet. alphabet ≡ system.now) }
+        ensures valid { OnOk result (IsValid system.now) }
+    {
+        let texts = letter_texts(alloc, system)?;
+        let size = texts.len() as u32;
+        Ok(Alphabet {
+            system,
+            numbers: index_of(alloc, texts)?,
+            size,
+        })
+    }
+
+    /// The number of letters.
+    pub fn size(&self) -> u32
+        ensures { result ≡ automata_letters self.now }
+    {
+        self.size
+    }
+
+    /// The letter with this text, if there is one.
+    pub fn letter(&self, text: &[u8]) -> Option<u32>
+        ensures in_range { IfSome result (λ a. a < automata_letters self.now) }
+        ensures found { IfSome result (λ a. text.now ≡ letter_text self.now.sections a) }
+        ensures only { (a : ℕ) → a < automata_letters self.now → text.now ≡ letter_text self.now.sections a → result ≡ Some a }
+    {
+        self.numbers.get(text).copied()
+    }
+}
+
+/// The texts of all letters, in the order of their numbers.
+fn letter_texts(alloc: Global, system: &System) -> Result<Vec<Vec<u8>>, AllocError>
+    ensures texts { IfOk result (λ texts. lists_of texts.items ≡ letter_texts system.now.sections) }
+    ensures valid { IsValid system.now }
+{
+    let mut texts = Vec::new(alloc);
+    'sections: for section in system.sections.as_slice() {
+        push_section(alloc, &mut texts, section)?;
+    }
+    texts.push(Vec::from_slice(alloc, b"|")?)?;
+    Ok(texts)
+}
+
+/// Adds the texts of the section's letters.
+fn push_section(
+    alloc: Global,
+    texts: &mut Vec<Vec<u8>>,
+    section: &Section,
+) -> Result<(), AllocError>
+    ensures { OnOk result (lists_of texts.new.items ≡ lists_of texts.old.items ++ section_texts section.now) }
+{
+    'letters: for letter in section.letters.as_slice() {
+        texts.push(joined(alloc, section.name.as_str(), letter.as_str())?)?;
+    }
+    Ok(())
+}
+
+/// The text of a letter: its section's name and its own, with a dot between them.
+fn joined(alloc: Global, section: &str, letter: &str) -> Result<Vec<u8>, AllocError>
+    ensures { IfOk result (λ text. text.items ≡ section.now ++ codes "." ++ letter.now) }
+{
+    let mut text = Vec::from_slice(alloc, section.as_bytes())?;
+    text.push(b'.')?;
+    text.extend_from_slice(letter.as_bytes())?;
+    Ok(text)
+}
+
+/// The place of each text, by the text.
+fn index_of(alloc: Global, texts: Vec<Vec<u8>>) -> Result<HashMap<Vec<u8>, u32>, AllocError>
+    requires { length texts.items < 2 ^ 32 }
+    ensures { IfOk result (λ places. IsIndexOf (lists_of texts.items) places) }
+{
+    let mut places = HashMap::new(alloc);
+    let mut place = 0;
+    'texts: for text in texts {
+        places.insert(text, place)?;
+        place += 1;
+    }
+    Ok(places)
+}
