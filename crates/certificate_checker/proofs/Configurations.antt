@@ -63,11 +63,11 @@ somewhere-matches any b (x ∷ xs) star h =
     let rest = atoms_match (record { letters = b ∷ []; many = One } ∷ (any ∷ [])) in
     let ends : atoms_match (any ∷ []) xs ≡ true =
     subst (λ many. atoms_match (record { letters = any.letters; many = many } ∷ []) xs ≡ true) (sym star)
-        (starred-all (is_in any.letters) xs ∙ parts.1) in
+    (starred-all (is_in any.letters) xs ∙ parts.1) in
     ap (λ c. (is_in (b ∷ []) x && c) ||
-        (is_in any.letters x && starred (is_in any.letters) (atoms_match (record { letters = b ∷ []; many = One } ∷ (any ∷ []))) xs)) ends
+    (is_in any.letters x && starred (is_in any.letters) (atoms_match (record { letters = b ∷ []; many = One } ∷ (any ∷ []))) xs)) ends
     ∙ ap (λ c. (is_in (b ∷ []) x && true) ||
-        (c && starred (is_in any.letters) (atoms_match (record { letters = b ∷ []; many = One } ∷ (any ∷ []))) xs)) parts.0
+    (c && starred (is_in any.letters) (atoms_match (record { letters = b ∷ []; many = One } ∷ (any ∷ []))) xs)) parts.0
     ∙ ap (λ c. (is_in (b ∷ []) x && true) || c) (somewhere-matches any b xs star parts.1)
     ∙ ap (λ c. c || list_any (λ y. y == b) xs) (and-true (is_in (b ∷ []) x) ∙ is_in-one b x ∙ eqb-sym b x)
 
@@ -80,9 +80,14 @@ one_list : (array : Section) (lists : List (List ℕ)) → lists_fit (array ∷ 
     → (list : List ℕ) × ((lists ≡ list ∷ []) × are_below (letter_count array) list)
 one_list array [] h = absurd (true≢false (sym h))
 one_list array (list ∷ []) h =
-    let parts = and_parts (list_fits array list) true h in
-    (list, (refl, (and_parts (list_all (λ a. nat_lt a (letter_count array)) list)
-        (has_any_length array.kind || (length list == 1)) parts.0).0))
+    let parts = and_parts (list_fits array list) true h in (
+      list,
+      (
+        refl,
+        (and_parts (list_all (λ a. nat_lt a (letter_count array)) list)
+            (has_any_length array.kind || (length list == 1)) parts.0).0,
+      ),
+    )
 one_list array (list ∷ (other ∷ lists)) h = absurd (true≢false (sym (and_parts (list_fits array list) false h).1))
 
 array_fits : (array : Section) (list : List ℕ) → array.kind ≡ Array → are_below (letter_count array) list
@@ -195,7 +200,7 @@ module _ (s : SystemData) (f : IsFirstForm s) where
         → AcceptsNoBad s m ↔ ((w : List ℕ) → are_below n w → list_any (λ x. x == b) w ≡ true → accepts m w ≡ true → ⊥)
     bad_part n same all b row every =
         subst (λ n. AcceptsNoBad s m ↔ ((w : List ℕ) → are_below n w → list_any (λ x. x == b) w ≡ true → accepts m w ≡ true → ⊥))
-            (sym same) (
+        (sym same) (
           (λ h w below met accepted.
               let c : Configuration = record { lists = w ∷ [] } in
               h c
@@ -237,7 +242,7 @@ module _ (s : SystemData) (f : IsFirstForm s) where
           let sections : length s.sections ≡ 1 = ap length f.sections_are in
           let changes = step.changes 0 (omega arith) in
           let first = subst (λ lists. ChangesBy (move_of step.rule.moves 0) (unwrap_or (slice_get lists 0) []) (list_at d 0)) old.1.0
-              changes in
+          changes in
           let both = subst (λ lists. ChangesBy (move_of step.rule.moves 0) old.0 (unwrap_or (slice_get lists 0) [])) new.1.0 first in
           subst (λ v. accepts m v ≡ true) (sym (word-is d new.0 new.1.0))
           (h r step.rule step.is_rule old.0 new.0 old.1.1 new.1.1 both

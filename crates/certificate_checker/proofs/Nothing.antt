@@ -39,7 +39,7 @@ module _ (m : Automaton) where
       | inr refused ↦ refused
       | inl accepted ↦
           let parts = and_parts (list_all (λ x. nat_lt x n) w) (list_any (λ x. x == b) w && accepts m w)
-              (sym (bad-accepts m n b start w) ∙ accepted) in
+          (sym (bad-accepts m n b start w) ∙ accepted) in
           let both = and_parts (list_any (λ x. x == b) w) (accepts m w) parts.1 in
           absurd (h w parts.0 both.0 both.1)
     ]),
@@ -62,7 +62,7 @@ below-around n f x y h hx hy =
 below-parts : (n f : ℕ) (x y : List ℕ) → are_below n (x ++ f ∷ y) → are_below n x × are_below n y
 below-parts n f x y h =
     let parts = and_parts (list_all (λ a. nat_lt a n) x) (nat_lt f n && list_all (λ a. nat_lt a n) y)
-        (sym (list_all-append (λ a. nat_lt a n) x (f ∷ y)) ∙ h) in
+    (sym (list_all-append (λ a. nat_lt a n) x (f ∷ y)) ∙ h) in
     (parts.0, (and_parts (nat_lt f n) (list_all (λ a. nat_lt a n) y) parts.1).1)
 
 module _ (m : Automaton) (n f t : ℕ) (rule : Rule) (is : rule.moves ≡ (0, At f t [] []) ∷ []) where

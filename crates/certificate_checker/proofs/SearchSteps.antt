@@ -101,7 +101,7 @@ module _ (m : Automaton) (n : ℕ) (valid : IsValid m) (within : n < m.letters) 
   moved_successors f t q z moved = record {
     increasing = HasIncreasingLetters-push (before_edges m n q) (n, z)
         (HasIncreasingLetters-edges_below n (λ a q. Before q) (edges_of m.states q) (sorted m valid q))
-            (edges_below-small n (λ a q. Before q) (edges_of m.states q));
+        (edges_below-small n (λ a q. Before q) (edges_of m.states q));
     letters_in_range = All-push (λ (pair : ℕ × Progress). pair.0 < m.letters) (before_edges m n q) (n, z)
         (All-weaker (λ (pair : ℕ × Progress). pair.0 < n) (λ (pair : ℕ × Progress). pair.0 < m.letters) (λ pair h. omega arith)
         (before_edges m n q) (edges_below-small n (λ a q. Before q) (edges_of m.states q))) within;

@@ -54,7 +54,7 @@ module _ (m : Automaton) (n b : ℕ) where
   -- the second search accepts the words of letters below n with the letter b that the automaton accepts
   pub bad-accepts : (s : Reading) (w : List ℕ)
       → accepts_by_from (bad_search m n b) s
-          w ≡ (list_all (λ x. nat_lt x n) w && ((s.met || list_any (λ x. x == b) w) && accepts_from m s.state w))
+      w ≡ (list_all (λ x. nat_lt x n) w && ((s.met || list_any (λ x. x == b) w) && accepts_from m s.state w))
   bad-accepts s [] = ap (λ c. c && is_accepting m.states s.state) (sym (or-false s.met))
   bad-accepts s (x ∷ w) =
       let all = list_all (λ y. nat_lt y n) w in
@@ -70,7 +70,7 @@ module _ (m : Automaton) (n b : ℕ) where
                   let stepped : (bad_search m n b).step s x ≡ None = rw (below, none) refl in
                   accepts_by-none (bad_search m n b) s x w stepped
                   ∙ refuses ((nat_lt x n) && all) (s.met || ((x == b) || any)) (accepts_from m s.state (x ∷ w))
-                      (accepts-none m s.state x w none)
+                  (accepts-none m s.state x w none)
               | inr some ↦
                   let r : Reading = record { state = some.0; met = s.met || (x == b) } in
                   let stepped : (bad_search m n b).step s x ≡ Some r = rw (below, some.1) refl in
@@ -95,7 +95,7 @@ module _ (m : Automaton) (n f t : ℕ) where
   -- after the position that moves the third search reads both lists side by side
   pub step-accepts-after : (p : ℕ) (s : Option ℕ) (w : List ℕ)
       → accepts_by_from (step_search m n f t)
-          (After p s) w ≡ (list_all (λ x. nat_lt x n) w && (accepts_from m p w && not (accepts_on m s w)))
+      (After p s) w ≡ (list_all (λ x. nat_lt x n) w && (accepts_from m p w && not (accepts_on m s w)))
   step-accepts-after p None [] = refl
   step-accepts-after p (Some q) [] = refl
   step-accepts-after p s (x ∷ w) =
@@ -132,7 +132,7 @@ module _ (m : Automaton) (n f t : ℕ) where
   -- the third search accepts lists with one moving position that lead out of what the automaton accepts
   pub step-accepts : (q : ℕ) (x y : List ℕ) → are_below n x → are_below n y
       → accepts_by_from (step_search m n f t) (Before q)
-          (x ++ n ∷ y) ≡ (accepts_from m q (x ++ f ∷ y) && not (accepts_from m q (x ++ t ∷ y)))
+      (x ++ n ∷ y) ≡ (accepts_from m q (x ++ f ∷ y) && not (accepts_from m q (x ++ t ∷ y)))
   step-accepts q [] y hx hy =
       elim (cases_Option (target m q f)) [
         | inl none ↦
@@ -174,7 +174,7 @@ module _ (m : Automaton) (n f t : ℕ) where
               | inr some ↦
                   let stepped : step_after m n f t (Before q) a ≡ Some (Before some.0) = rw (below, some.1) refl in
                   let rest = step-splits some.0 w
-                      (sym (accepts_by-some (step_search m n f t) (Before q) (Before some.0) a w stepped) ∙ h) in
+                  (sym (accepts_by-some (step_search m n f t) (Before q) (Before some.0) a w stepped) ∙ h) in
                   record {
                     before = a ∷ rest.before;
                     after = rest.after;
@@ -197,11 +197,11 @@ module _ (m : Automaton) (n f t : ℕ) where
                     | inr some ↦
                         let s = target m q t in
                         let stepped : step_after m n f t (Before q) a ≡ Some (After some.0 (target m q t)) =
-                            rw (above, here, some.1) refl in
+                        rw (above, here, some.1) refl in
                         let told = sym (step-accepts-after some.0 (target m q t) w)
                         ∙ sym (accepts_by-some (step_search m n f t) (Before q) (After some.0 (target m q t)) a w stepped) ∙ h in
                         let parts = and_parts (list_all (λ z. nat_lt z n) w)
-                            (accepts_from m some.0 w && not (accepts_on m (target m q t) w)) told in
+                        (accepts_from m some.0 w && not (accepts_on m (target m q t) w)) told in
                         let both = and_parts (accepts_from m some.0 w) (not (accepts_on m (target m q t) w)) parts.1 in
                         record {
                           before = [];

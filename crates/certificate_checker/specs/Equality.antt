@@ -34,4 +34,4 @@ pub same_readings : (x y : Reading) → (eqb x.state y.state && beq x.met y.met)
 same_readings x y h =
     let parts = and_parts (eqb x.state y.state) (beq x.met y.met) h in
     ap (λ q. record { state = q; met = x.met }) (eqb-true x.state y.state parts.0)
-        ∙ ap (λ b. record { state = y.state; met = b }) (same_flags x.met y.met parts.1)
+    ∙ ap (λ b. record { state = y.state; met = b }) (same_flags x.met y.met parts.1)
