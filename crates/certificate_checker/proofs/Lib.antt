@@ -1,0 +1,9 @@
+pub mod Configurations
+pub mod Nothing
+pub mod Reached
+pub mod Rules
+pub mod Runs
+pub mod SearchSteps
+pub mod Searching
+pub mod Soundness
+pub mod Successors
