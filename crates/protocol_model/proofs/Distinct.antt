@@ -28,9 +28,10 @@ pub record IsClean {X : Type 0} (fault : List X → X → Option ModelFault) (x 
 pub each_clean : {X : Type 0} (fault : List X → X → Option ModelFault) (earlier xs : List X) →
     first_fault_of fault earlier xs ≡ None → AllByRecursion (IsClean fault) xs
 each_clean fault earlier [] h = tt
-each_clean fault earlier (x ∷ xs) h =
-    (record {before = earlier; none = none_first (fault earlier x) (first_fault_of fault (earlier ++ x ∷ []) xs) h},
-     each_clean fault (earlier ++ x ∷ []) xs (none_second (fault earlier x) (first_fault_of fault (earlier ++ x ∷ []) xs) h))
+each_clean fault earlier (x ∷ xs) h = (
+  record { before = earlier; none = none_first (fault earlier x) (first_fault_of fault (earlier ++ x ∷ []) xs) h },
+  each_clean fault (earlier ++ x ∷ []) xs (none_second (fault earlier x) (first_fault_of fault (earlier ++ x ∷ []) xs) h),
+)
 
 pub all_of_map : {X Y : Type 0} (P : X → Type 0) (Q : Y → Type 0) (v : X → Y) → ((x : X) → P x → Q (v x)) → (xs : List X) →
     AllByRecursion P xs → AllByRecursion Q (map v xs)
@@ -64,9 +65,9 @@ none_has key v fault R k fresh apart earlier (x ∷ xs) there h =
     let rest = none_second (fault earlier x) (first_fault_of fault (earlier ++ x ∷ []) xs) h in
     let differs : k ≡ key x → ⊥ = λ e. true_is_false (sym there ∙ ap (λ n. list_any (bytes_eq n) (map key earlier)) e ∙ fresh earlier x clean) in
     let still : list_any (bytes_eq k) (map key (earlier ++ x ∷ [])) ≡ true =
-        rw (map-append key earlier (x ∷ []), list_any-append (bytes_eq k) (map key earlier) (key x ∷ []), there) refl in
+    rw (map-append key earlier (x ∷ []), list_any-append (bytes_eq k) (map key earlier) (key x ∷ []), there) refl in
     All-cons R (v x) (map v xs) (apart x earlier clean differs)
-        (none_has key v fault R k fresh apart (earlier ++ x ∷ []) xs still rest)
+    (none_has key v fault R k fresh apart (earlier ++ x ∷ []) xs still rest)
 
 -- items without a fault are named apart
 pub named_apart : {X Y : Type 0} (key : X → List ℕ) (v : X → Y) (fault : List X → X → Option ModelFault) (R : Y → Y → Type 0) →
@@ -78,9 +79,9 @@ named_apart key v fault R fresh apart earlier (x ∷ xs) h =
     let clean = none_first (fault earlier x) (first_fault_of fault (earlier ++ x ∷ []) xs) h in
     let rest = none_second (fault earlier x) (first_fault_of fault (earlier ++ x ∷ []) xs) h in
     let there : list_any (bytes_eq (key x)) (map key (earlier ++ x ∷ [])) ≡ true =
-        rw (map-append key earlier (x ∷ []), list_any-append (bytes_eq (key x)) (map key earlier) (key x ∷ []), bytes_eq_refl (key x))
-            (or_true (list_any (bytes_eq (key x)) (map key earlier))) in
+    rw (map-append key earlier (x ∷ []), list_any-append (bytes_eq (key x)) (map key earlier) (key x ∷ []), bytes_eq_refl (key x))
+    (or_true (list_any (bytes_eq (key x)) (map key earlier))) in
     AllPairs-cons R (v x) (map v xs)
-        (none_has key v fault (R (v x)) (key x) fresh (λ y before none differs. apart x y earlier before clean none differs)
-            (earlier ++ x ∷ []) xs there rest)
-        (named_apart key v fault R fresh apart (earlier ++ x ∷ []) xs rest)
+    (none_has key v fault (R (v x)) (key x) fresh (λ y before none differs. apart x y earlier before clean none differs)
+    (earlier ++ x ∷ []) xs there rest)
+    (named_apart key v fault R fresh apart (earlier ++ x ∷ []) xs rest)

@@ -108,7 +108,7 @@ known-rule array earlier rule first h =
     let moves_fault : List MoveText → Option ModelFault = first_fault_of (step_fault (array ∷ [])) [] in
     let none : moves_fault rule.moves ≡ None = (None-option_or _ _ h).1 in
     let step : option_or (step_fault (array ∷ []) [] (record { section = first.section; body = text.At first.from first.to [] [] })) None ≡ None
-      = let P : List MoveText → Type 0 = λ moves. moves_fault moves ≡ None in subst P first.moves_are none in
+    = let P : List MoveText → Type 0 = λ moves. moves_fault moves ≡ None in subst P first.moves_are none in
     number_of-only array.name.text first.section
     (is_among-known (array.name.text ∷ []) first.section (None-option_or _ _ (None-option_or _ _ step).0).0)
 
@@ -120,7 +120,7 @@ IsFirstRule-of array earlier rule first h =
     record {
       from = number_of letters first.from;
       to = number_of letters first.to;
-      moves_are = ap (map (step_of (array ∷ []))) first.moves_are ∙ ap moved (known-rule array earlier rule first h)
+      moves_are = ap (map (step_of (array ∷ []))) first.moves_are ∙ ap moved (known-rule array earlier rule first h);
     }
 
 rules-first : (array : SectionText) (earlier rules : List RuleText) → AllByRecursion IsFirstRuleText rules
@@ -129,7 +129,7 @@ rules-first : (array : SectionText) (earlier rules : List RuleText) → AllByRec
 rules-first array earlier [] all h = tt
 rules-first array earlier (rule ∷ rules) all h =
     let none : (rule_fault (array ∷ []) earlier rule ≡ None) × (first_fault_of (rule_fault (array ∷ [])) (earlier ++ rule ∷ []) rules ≡ None)
-      = None-option_or _ _ h in
+    = None-option_or _ _ h in
     (IsFirstRule-of array earlier rule all.0 none.0, rules-first array (earlier ++ rule ∷ []) rules all.1 none.1)
 
 -- the protocol with these parts
@@ -144,15 +144,15 @@ form-of_parts : (name : Name) (array : SectionText) (init_section initial bad_se
     → IsFirstForm (system_of (protocol_with name (array ∷ []) (only_text init_section initial ∷ []) rules (somewhere_text bad_section bad_letter ∷ [])))
 form-of_parts name array init_section initial bad_section bad_letter rules kind all h =
     let rest : option_or (first_fault_of (λ _. row_fault (array ∷ [])) [] (only_text init_section initial ∷ []))
-            (option_or (first_fault_of (rule_fault (array ∷ [])) [] rules)
-                (first_fault_of (λ _. row_fault (array ∷ [])) [] (somewhere_text bad_section bad_letter ∷ []))) ≡ None
-      = (None-option_or _ _ h).1 in
+    (option_or (first_fault_of (rule_fault (array ∷ [])) [] rules)
+    (first_fault_of (λ _. row_fault (array ∷ [])) [] (somewhere_text bad_section bad_letter ∷ []))) ≡ None
+    = (None-option_or _ _ h).1 in
     let init : row_fault (array ∷ []) (only_text init_section initial) ≡ None = (None-option_or _ _ (None-option_or _ _ rest).0).0 in
     let later : option_or (first_fault_of (rule_fault (array ∷ [])) [] rules)
-            (first_fault_of (λ _. row_fault (array ∷ [])) [] (somewhere_text bad_section bad_letter ∷ [])) ≡ None
-      = (None-option_or _ _ rest).1 in
+    (first_fault_of (λ _. row_fault (array ∷ [])) [] (somewhere_text bad_section bad_letter ∷ [])) ≡ None
+    = (None-option_or _ _ rest).1 in
     let bad : row_fault (array ∷ []) (somewhere_text bad_section bad_letter) ≡ None
-      = (None-option_or _ _ (None-option_or _ _ later).1).0 in
+    = (None-option_or _ _ (None-option_or _ _ later).1).0 in
     record {
       array = section_of array;
       initial_letter = number_of (texts_of array.letters) initial;
@@ -163,16 +163,16 @@ form-of_parts name array init_section initial bad_section bad_letter rules kind 
       sections_are = refl;
       init_is = ap (λ row. row ∷ []) (row_of-known array init_section (record { base = Letter initial; many = Star } ∷ []) init);
       bad_is = ap (λ row. row ∷ []) (row_of-known array bad_section
-        (anything ∷ (record { base = Letter bad_letter; many = One } ∷ (anything ∷ []))) bad);
-      each_rule = rules-first array [] rules all (None-option_or _ _ later).0
+          (anything ∷ (record { base = Letter bad_letter; many = One } ∷ (anything ∷ []))) bad);
+      each_rule = rules-first array [] rules all (None-option_or _ _ later).0;
     }
 
 pub IsFirstForm-system_of : (p : Protocol) → IsFirstProtocol p → first_fault p ≡ None → IsFirstForm (system_of p)
 IsFirstForm-system_of p first =
     let P : List SectionText → List RowText → List RowText → Type 0
-      = λ s i b. first_fault (protocol_with p.name s i p.rules b) ≡ None → IsFirstForm (system_of (protocol_with p.name s i p.rules b)) in
+    = λ s i b. first_fault (protocol_with p.name s i p.rules b) ≡ None → IsFirstForm (system_of (protocol_with p.name s i p.rules b)) in
     let whole : P (first.array ∷ []) (only_text first.init_section first.initial ∷ []) (somewhere_text first.bad_section first.bad_letter ∷ [])
-      = form-of_parts p.name first.array first.init_section first.initial first.bad_section first.bad_letter p.rules first.of_kind first.each_rule in
+    = form-of_parts p.name first.array first.init_section first.initial first.bad_section first.bad_letter p.rules first.of_kind first.each_rule in
     subst (λ s. P s p.init p.bad) (sym first.sections_are)
-      (subst (λ i. P (first.array ∷ []) i p.bad) (sym first.init_is)
-        (subst (λ b. P (first.array ∷ []) (only_text first.init_section first.initial ∷ []) b) (sym first.bad_is) whole))
+    (subst (λ i. P (first.array ∷ []) i p.bad) (sym first.init_is)
+    (subst (λ b. P (first.array ∷ []) (only_text first.init_section first.initial ∷ []) b) (sym first.bad_is) whole))

@@ -47,14 +47,14 @@ pub number_injective : (names : List (List ℕ)) (a b : Name) → is_among names
 number_injective [] a b ha hb e = cc
 number_injective (n ∷ ns) a b ha hb e =
     same_number (bytes_eq a.text n) (bytes_eq b.text n) (is_among ns a) (is_among ns b) (number_of ns a) (number_of ns b) (a.text ≡ b.text)
-        (λ x y. (bytes_eq-Decides a.text n).0 x ∙ sym ((bytes_eq-Decides b.text n).0 y))
-        (number_injective ns a b) ha hb e
+    (λ x y. (bytes_eq-Decides a.text n).0 x ∙ sym ((bytes_eq-Decides b.text n).0 y))
+    (number_injective ns a b) ha hb e
 
 pub numbers_in : (letters : List (List ℕ)) (names : List Name) → letters_fault letters names ≡ None →
     AllBelow (length letters) (map (number_of letters) names)
 numbers_in letters names h =
     all_of_map (IsClean (λ _. unknown letters)) (λ a. a < length letters) (number_of letters)
-        (λ name clean. number_in letters name clean.none) names (each_clean (λ _. unknown letters) [] names h)
+    (λ name clean. number_in letters name clean.none) names (each_clean (λ _. unknown letters) [] names h)
 
 range_below : (a n m : ℕ) → a + n ≡ m → AllBelow m (range_with_len a n)
 range_below a zero m e = tt
@@ -67,13 +67,13 @@ base_in letters Any h = range_below 0 (length letters) (length letters) (omega a
 
 pub pattern_valid : (letters : List (List ℕ)) (atoms : List AtomText) →
     first_fault_of (λ _ atom. base_fault letters atom.base) [] atoms ≡ None → length atoms ≤ 32 →
-    IsValidPattern (length letters) (record {atoms = map (atom_of letters) atoms})
+    IsValidPattern (length letters) (record { atoms = map (atom_of letters) atoms })
 pattern_valid letters atoms h limit =
     record {
       in_range =
-        all_of_map (IsClean (λ _ atom. base_fault letters atom.base)) (λ atom. AllBelow (length letters) atom.letters) (atom_of letters)
-            (λ atom clean. base_in letters atom.base clean.none) atoms (each_clean (λ _ atom. base_fault letters atom.base) [] atoms h);
-      limit = rw (length_map (atom_of letters) atoms) limit
+          all_of_map (IsClean (λ _ atom. base_fault letters atom.base)) (λ atom. AllBelow (length letters) atom.letters) (atom_of letters)
+          (λ atom clean. base_in letters atom.base clean.none) atoms (each_clean (λ _ atom. base_fault letters atom.base) [] atoms h);
+      limit = rw (length_map (atom_of letters) atoms) limit;
     }
 
 count_of : (found : Option SectionText) →
@@ -86,8 +86,8 @@ pub count_at : (texts : List SectionText) (k : ℕ) →
     letter_count_at (map section_of texts) k ≡ length (option_map_or (λ section. texts_of section.letters) (slice_get texts k) [])
 count_at texts k =
     subst (λ found. elim found [ None ↦ 0 | Some section ↦ letter_count section ]
-            ≡ length (option_map_or (λ section. texts_of section.letters) (slice_get texts k) []))
-        (sym (slice_get-map section_of texts k)) (count_of (slice_get texts k))
+    ≡ length (option_map_or (λ section. texts_of section.letters) (slice_get texts k) []))
+    (sym (slice_get-map section_of texts k)) (count_of (slice_get texts k))
 
 pub total_is : (texts : List SectionText) → total_letters (map section_of texts) ≡ sum_by (λ section. length section.letters) texts
 total_is [] = refl

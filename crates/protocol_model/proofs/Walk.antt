@@ -21,7 +21,7 @@ first_fault_of_push fault earlier [] x =
 first_fault_of_push fault earlier (y ∷ ys) x =
     ap (λ o. option_or (fault earlier y) o) (first_fault_of_push fault (earlier ++ y ∷ []) ys x)
     ∙ ap (λ zs. option_or (fault earlier y) (option_or (first_fault_of fault (earlier ++ y ∷ []) ys) (fault zs x)))
-        (append_assoc earlier (y ∷ []) ys)
+    (append_assoc earlier (y ∷ []) ys)
     ∙ sym (option_or_assoc (fault earlier y) (first_fault_of fault (earlier ++ y ∷ []) ys) (fault (earlier ++ y ∷ ys) x))
 
 option_or_some : {T : Type 0} (o p q : Option T) (e : T) → (p ≡ Some e → q ≡ Some e) → option_or o p ≡ Some e → option_or o q ≡ Some e
@@ -33,8 +33,8 @@ pub first_fault_of_stop : {X : Type 0} (fault : List X → X → Option ModelFau
 first_fault_of_stop fault earlier [] ys e h = cc
 first_fault_of_stop fault earlier (x ∷ xs) ys e h =
     option_or_some (fault earlier x) (first_fault_of fault (earlier ++ x ∷ []) xs)
-        (first_fault_of fault (earlier ++ x ∷ []) (xs ++ ys)) e
-        (first_fault_of_stop fault (earlier ++ x ∷ []) xs ys e) h
+    (first_fault_of fault (earlier ++ x ∷ []) (xs ++ ys)) e
+    (first_fault_of_stop fault (earlier ++ x ∷ []) xs ys e) h
 
 -- the first i items have no fault, and these are their values
 pub record IsWalked {X Y : Type 0} (fault : List X → X → Option ModelFault) (value : X → Y) (items : List X) (i : ℕ) (out : List Y) : Type 0 where
@@ -47,7 +47,7 @@ pub walked_next : {X Y : Type 0} (fault : List X → X → Option ModelFault) (v
 walked_next fault value items i out d y h w n e =
     record {
       clean = rw (take_more items i d h, first_fault_of_push fault [] (take i items) (get_or items i d), w.clean) n;
-      values = rw (take_more items i d h, map-append value (take i items) (get_or items i d ∷ []), ← w.values, e) refl
+      values = rw (take_more items i d h, map-append value (take i items) (get_or items i d ∷ []), ← w.values, e) refl;
     }
 
 pub walked_stop : {X Y : Type 0} (fault : List X → X → Option ModelFault) (value : X → Y) (items : List X) (i : ℕ) (out : List Y) (d : X) (e : ModelFault) →
@@ -55,9 +55,9 @@ pub walked_stop : {X Y : Type 0} (fault : List X → X → Option ModelFault) (v
     first_fault_of fault [] items ≡ Some e
 walked_stop fault value items i out d e h w s =
     let first : first_fault_of fault [] (take (i + 1) items) ≡ Some e =
-        rw (take_more items i d h, first_fault_of_push fault [] (take i items) (get_or items i d), w.clean) s in
+    rw (take_more items i d h, first_fault_of_push fault [] (take i items) (get_or items i d), w.clean) s in
     subst (λ xs. first_fault_of fault [] xs ≡ Some e) (take-append-drop (i + 1) items)
-        (first_fault_of_stop fault [] (take (i + 1) items) (drop (i + 1) items) e first)
+    (first_fault_of_stop fault [] (take (i + 1) items) (drop (i + 1) items) e first)
 
 pub walked_all : {X Y : Type 0} (fault : List X → X → Option ModelFault) (value : X → Y) (items : List X) (i : ℕ) (out : List Y) →
     length items ≤ i → IsWalked fault value items i out →

@@ -44,7 +44,7 @@ unknown names name = if is_among names name then None else Some (Unknown name)
 abbrev pub section_fault : List SectionText → SectionText → Option ModelFault
 section_fault earlier section =
     option_or (duplicate (section_names earlier) section.name)
-        (first_fault_of (λ before. duplicate (texts_of before)) [] section.letters)
+    (first_fault_of (λ before. duplicate (texts_of before)) [] section.letters)
 
 -- a list of letters of a section
 abbrev pub letters_fault : List (List ℕ) → List Name → Option ModelFault
@@ -59,8 +59,8 @@ base_fault letters Any = None
 abbrev pub part_fault : List SectionText → List PartText → PartText → Option ModelFault
 part_fault sections earlier part =
     option_or (unknown (section_names sections) part.section)
-        (option_or (duplicate (map (λ before. before.section.text) earlier) part.section)
-            (first_fault_of (λ _ atom. base_fault (letters_named sections part.section) atom.base) [] part.atoms))
+    (option_or (duplicate (map (λ before. before.section.text) earlier) part.section)
+    (first_fault_of (λ _ atom. base_fault (letters_named sections part.section) atom.base) [] part.atoms))
 
 abbrev pub row_fault : List SectionText → RowText → Option ModelFault
 row_fault sections row = first_fault_of (part_fault sections) [] row.parts
@@ -69,7 +69,7 @@ row_fault sections row = first_fault_of (part_fault sections) [] row.parts
 abbrev pub entry_fault : List (List ℕ) → List (Name × Name) → Name × Name → Option ModelFault
 entry_fault letters earlier entry =
     option_or (unknown letters entry.0)
-        (option_or (duplicate (map (λ before. before.0.text) earlier) entry.0) (unknown letters entry.1))
+    (option_or (duplicate (map (λ before. before.0.text) earlier) entry.0) (unknown letters entry.1))
 
 -- two letters of a move, and four
 abbrev pub two_fault : List (List ℕ) → Name → Name → Option ModelFault
@@ -81,8 +81,8 @@ four_fault letters a b c d = option_or (two_fault letters a b) (two_fault letter
 abbrev pub body_fault : List (List ℕ) → MoveBody → Option ModelFault
 body_fault letters (text.At f t guards table) =
     option_or (two_fault letters f t)
-        (option_or (first_fault_of (λ _ guard. letters_fault letters guard.letters) [] guards)
-            (first_fault_of (entry_fault letters) [] table))
+    (option_or (first_fault_of (λ _ guard. letters_fault letters guard.letters) [] guards)
+    (first_fault_of (entry_fault letters) [] table))
 body_fault letters (text.Pair a b c d) = four_fault letters a b c d
 body_fault letters (text.Ring a b c d) = four_fault letters a b c d
 body_fault letters (text.Two a b c d) = four_fault letters a b c d
@@ -121,19 +121,19 @@ wrong_kind sections step =
 abbrev pub step_fault : List SectionText → List MoveText → MoveText → Option ModelFault
 step_fault sections earlier step =
     option_or (unknown (section_names sections) step.section)
-        (option_or (touched_twice (map (λ before. before.section.text) earlier) step.section)
-            (option_or (wrong_kind sections step) (body_fault (letters_named sections step.section) step.body)))
+    (option_or (touched_twice (map (λ before. before.section.text) earlier) step.section)
+    (option_or (wrong_kind sections step) (body_fault (letters_named sections step.section) step.body)))
 
 -- a rule: its name is not that of an earlier one
 abbrev pub rule_fault : List SectionText → List RuleText → RuleText → Option ModelFault
 rule_fault sections earlier rule =
     option_or (duplicate (map (λ before. before.name.text) earlier) rule.name)
-        (first_fault_of (step_fault sections) [] rule.moves)
+    (first_fault_of (step_fault sections) [] rule.moves)
 
 -- the first fault of a protocol
 abbrev pub first_fault : Protocol → Option ModelFault
 first_fault p =
     option_or (first_fault_of section_fault [] p.sections)
-        (option_or (first_fault_of (λ _. row_fault p.sections) [] p.init)
-            (option_or (first_fault_of (rule_fault p.sections) [] p.rules)
-                (first_fault_of (λ _. row_fault p.sections) [] p.bad)))
+    (option_or (first_fault_of (λ _. row_fault p.sections) [] p.init)
+    (option_or (first_fault_of (rule_fault p.sections) [] p.rules)
+    (first_fault_of (λ _. row_fault p.sections) [] p.bad)))

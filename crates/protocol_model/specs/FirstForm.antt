@@ -13,17 +13,17 @@ use Rattle.protocol_model.specs.Moves.{is_in}
 
 -- a row that has a pattern for section 0 alone
 abbrev pub first_row : List Atom → Row
-first_row atoms = record {parts = (0, record {atoms = atoms}) ∷ []}
+first_row atoms = record { parts = (0, record { atoms = atoms }) ∷ [] }
 
 -- the row of the lists that have this letter alone
 abbrev pub only_row : ℕ → Row
-only_row a = first_row (record {letters = a ∷ []; many = Star} ∷ [])
+only_row a = first_row (record { letters = a ∷ []; many = Star } ∷ [])
 
 -- the row of the lists that have this letter somewhere, where these are all letters
 abbrev pub somewhere_row : List ℕ → ℕ → Row
 somewhere_row all a =
-    let any : Atom = record {letters = all; many = Star} in
-    first_row (any ∷ (record {letters = a ∷ []; many = One} ∷ (any ∷ [])))
+    let any : Atom = record { letters = all; many = Star } in
+    first_row (any ∷ (record { letters = a ∷ []; many = One } ∷ (any ∷ [])))
 
 -- the rule changes one letter of section 0, whatever the others are, and leaves these
 pub record IsFirstRule (rule : Rule) : Type 0 where

@@ -48,7 +48,7 @@ letters_named sections name = option_map_or (λ section. texts_of section.letter
 
 -- a section as written in the text
 abbrev pub section_of : SectionText → Section
-section_of section = record {name = section.name.text; kind = section.kind; letters = texts_of section.letters}
+section_of section = record { name = section.name.text; kind = section.kind; letters = texts_of section.letters }
 
 -- the letters of an atom: one, those of a set, or all letters of the section
 abbrev pub base_numbers : List (List ℕ) → BaseText → List ℕ
@@ -57,19 +57,20 @@ base_numbers letters (SetText names) = map (number_of letters) names
 base_numbers letters Any = range_with_len 0 (length letters)
 
 abbrev pub atom_of : List (List ℕ) → AtomText → Atom
-atom_of letters atom = record {letters = base_numbers letters atom.base; many = atom.many}
+atom_of letters atom = record { letters = base_numbers letters atom.base; many = atom.many }
 
 abbrev pub part_of : List SectionText → PartText → ℕ × Pattern
-part_of sections part =
-    (number_of (section_names sections) part.section,
-     record {atoms = map (atom_of (letters_named sections part.section)) part.atoms})
+part_of sections part = (
+  number_of (section_names sections) part.section,
+  record { atoms = map (atom_of (letters_named sections part.section)) part.atoms },
+)
 
 abbrev pub row_of : List SectionText → RowText → Row
-row_of sections row = record {parts = map (part_of sections) row.parts}
+row_of sections row = record { parts = map (part_of sections) row.parts }
 
 abbrev pub guard_of : List (List ℕ) → GuardText → Guard
 guard_of letters guard =
-    record {all = guard.all; region = guard.region; letters = map (number_of letters) guard.letters}
+    record { all = guard.all; region = guard.region; letters = map (number_of letters) guard.letters }
 
 abbrev pub entry_of : List (List ℕ) → Name × Name → ℕ × ℕ
 entry_of letters entry = (number_of letters entry.0, number_of letters entry.1)
@@ -95,10 +96,10 @@ step_of sections step =
     (number_of (section_names sections) step.section, move_of_text (letters_named sections step.section) step.body)
 
 abbrev pub rule_of : List SectionText → RuleText → Rule
-rule_of sections rule = record {name = rule.name.text; moves = map (step_of sections) rule.moves}
+rule_of sections rule = record { name = rule.name.text; moves = map (step_of sections) rule.moves }
 
 -- the system of a protocol
 abbrev pub system_of : Protocol → SystemData
 system_of p =
     data_of p.name.text (map section_of p.sections) (map (row_of p.sections) p.init) (map (rule_of p.sections) p.rules)
-        (map (row_of p.sections) p.bad)
+    (map (row_of p.sections) p.bad)

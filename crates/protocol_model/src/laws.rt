@@ -10,5 +10,4 @@ ghost use Rattle.protocol_model.specs.FirstProtocol.{IsFirstProtocol};
 /// Law: a protocol of the first form without a fault has a system of the first form.
 pub fn first_form_is_kept()
     ensures { (p : ProtocolText) → IsFirstProtocol p → first_fault p ≡ None → IsFirstForm (system_of p) }
-{
-}
+{}

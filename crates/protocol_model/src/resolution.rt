@@ -9,7 +9,7 @@ ghost use Rattle.protocol_model.specs.declared.fault.ModelFault.TheVariants as f
 use crate::fault::ModelFault;
 use crate::rows::resolve_rows;
 use crate::rules::resolve_rules;
-use crate::sections::{copy_text, Sections};
+use crate::sections::{Sections, copy_text};
 use crate::system::{Section, System};
 use protocol_syntax::{Name, Protocol, SectionText};
 use sequence::{Sequence, Text};
@@ -41,10 +41,7 @@ fn copy_section(alloc: Global, section: &SectionText) -> Result<Section, AllocEr
 }
 
 /// The sections as written in the text.
-fn copy_sections(
-    alloc: Global,
-    sections: &[SectionText],
-) -> Result<Sequence<Section>, AllocError>
+fn copy_sections(alloc: Global, sections: &[SectionText]) -> Result<Sequence<Section>, AllocError>
     ensures { IfOk result (λ copies. copies ≡ map section_of sections.now) }
 {
     let mut copies = Vec::new(alloc);

@@ -10,7 +10,7 @@ ghost use Rattle.protocol_model.specs.Outcome.{IsOutcome};
 use crate::fault::ModelFault;
 use crate::letters::{letter_number, letter_numbers, numbers_below};
 use crate::names::Names;
-use crate::sections::{duplicate_name, unknown_name, Sections};
+use crate::sections::{Sections, duplicate_name, unknown_name};
 use crate::system::{Atom, Pattern, Row};
 use protocol_syntax::{AtomText, BaseText, Name, PartText, RowText};
 use sequence::Sequence;

@@ -12,7 +12,7 @@ ghost use Rattle.protocol_model.specs.declared.fault.ModelFault.TheVariants as f
 use crate::fault::ModelFault;
 use crate::letters::{letter_number, letter_numbers, two_numbers};
 use crate::names::Names;
-use crate::sections::{copy_name, copy_text, duplicate_name, unknown_name, Sections};
+use crate::sections::{Sections, copy_name, copy_text, duplicate_name, unknown_name};
 use crate::system::{Guard, Move, Rule};
 use protocol_syntax::{GuardText, Kind, MoveBody, MoveText, Name, RuleText};
 use sequence::Sequence;

@@ -10,12 +10,12 @@ returns-in_err-number c =
     let walk = c.loop-name in
     let p = err_from_is_err_and c.from_residual.result c.from_residual.ensures.1 in
     rw (p.1, p.2)
-        (stops (λ _. unknown c.args.letters.now) (number_of c.args.letters.now) c.args.names.now walk.name-index walk.numbers.items c.name-item.result
-            c.in_err-number.field-0.0 c.loop-name-test.true walk.invariant c.name-item.is c.in_err-number.ensures)
+    (stops (λ _. unknown c.args.letters.now) (number_of c.args.letters.now) c.args.names.now walk.name-index walk.numbers.items c.name-item.result
+    c.in_err-number.field-0.0 c.loop-name-test.true walk.invariant c.name-item.is c.in_err-number.ensures)
 
 pub loop-name-preserved : goal.loop-name-preserved
 loop-name-preserved c =
     let walk = c.loop-name in
     rw c.in_ok-push.ensures.items
-        (goes_on (λ _. unknown c.args.letters.now) (number_of c.args.letters.now) c.args.names.now walk.name-index walk.numbers.items c.name-item.result c.in_ok-number.number
-            c.loop-name-test.true walk.invariant c.name-item.is c.in_ok-number.ensures.0 c.in_ok-number.ensures.1)
+    (goes_on (λ _. unknown c.args.letters.now) (number_of c.args.letters.now) c.args.names.now walk.name-index walk.numbers.items c.name-item.result c.in_ok-number.number
+    c.loop-name-test.true walk.invariant c.name-item.is c.in_ok-number.ensures.0 c.in_ok-number.ensures.1)

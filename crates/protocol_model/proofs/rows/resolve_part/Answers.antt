@@ -15,13 +15,13 @@ returns-then-is_named c =
     let name = c.args.part.now.section in
     let earlier = map (λ before. before.section.text) c.args.earlier.now in
     let known : unknown (section_names sections) name ≡ None =
-        ap (λ b. cond b None (Some (Unknown name))) c.in-Some.ensures.found.known in
+    ap (λ b. cond b None (Some (Unknown name))) c.in-Some.ensures.found.known in
     let among : is_among earlier name ≡ true =
-        list_any_map (bytes_eq name.text) (λ before. before.section.text) c.args.earlier.now ∙ sym c.is_named.ensures ∙ c.if-is_named.true in
+    list_any_map (bytes_eq name.text) (λ before. before.section.text) c.args.earlier.now ∙ sym c.is_named.ensures ∙ c.if-is_named.true in
     let atoms = first_fault_of (λ _ atom. base_fault (letters_named sections name) atom.base) [] c.args.part.now.atoms in
     or_right (unknown (section_names sections) name) (option_or (duplicate earlier name) atoms) c.duplicate_name.result known
-        (or_left (duplicate earlier name) atoms c.duplicate_name.result
-            (fault_where_true (is_among earlier name) (Duplicate name) c.duplicate_name.result among c.duplicate_name.ensures))
+    (or_left (duplicate earlier name) atoms c.duplicate_name.result
+    (fault_where_true (is_among earlier name) (Duplicate name) c.duplicate_name.result among c.duplicate_name.ensures))
 
 pub returns-in_err-atoms : goal.returns-in_err-atoms
 returns-in_err-atoms c =
@@ -29,16 +29,16 @@ returns-in_err-atoms c =
     let name = c.args.part.now.section in
     let earlier = map (λ before. before.section.text) c.args.earlier.now in
     let known : unknown (section_names sections) name ≡ None =
-        ap (λ b. cond b None (Some (Unknown name))) c.in-Some.ensures.found.known in
+    ap (λ b. cond b None (Some (Unknown name))) c.in-Some.ensures.found.known in
     let among : is_among earlier name ≡ false =
-        list_any_map (bytes_eq name.text) (λ before. before.section.text) c.args.earlier.now ∙ sym c.is_named.ensures ∙ c.if-is_named.false in
+    list_any_map (bytes_eq name.text) (λ before. before.section.text) c.args.earlier.now ∙ sym c.is_named.ensures ∙ c.if-is_named.false in
     let fresh : duplicate earlier name ≡ None = ap (λ b. cond b (Some (Duplicate name)) None) among in
     let atoms = first_fault_of (λ _ atom. base_fault (letters_named sections name) atom.base) [] c.args.part.now.atoms in
     let p = err_from_is_err_and c.from_residual.result c.from_residual.ensures.1 in
     rw (p.1, p.2)
-        (or_right (unknown (section_names sections) name) (option_or (duplicate earlier name) atoms) c.in_err-atoms.field-0.0 known
-            (or_right (duplicate earlier name) atoms c.in_err-atoms.field-0.0 fresh
-                (rw (c.in-Some.ensures.found.with_letters, c.as_slice.ensures) at c.in_err-atoms.ensures)))
+    (or_right (unknown (section_names sections) name) (option_or (duplicate earlier name) atoms) c.in_err-atoms.field-0.0 known
+    (or_right (duplicate earlier name) atoms c.in_err-atoms.field-0.0 fresh
+    (rw (c.in-Some.ensures.found.with_letters, c.as_slice.ensures) at c.in_err-atoms.ensures)))
 
 pub returns : goal.returns
 returns c =
@@ -46,12 +46,13 @@ returns c =
     let name = c.args.part.now.section in
     let earlier = map (λ before. before.section.text) c.args.earlier.now in
     let known : unknown (section_names sections) name ≡ None =
-        ap (λ b. cond b None (Some (Unknown name))) c.in-Some.ensures.found.known in
+    ap (λ b. cond b None (Some (Unknown name))) c.in-Some.ensures.found.known in
     let among : is_among earlier name ≡ false =
-        list_any_map (bytes_eq name.text) (λ before. before.section.text) c.args.earlier.now ∙ sym c.is_named.ensures ∙ c.if-is_named.false in
+    list_any_map (bytes_eq name.text) (λ before. before.section.text) c.args.earlier.now ∙ sym c.is_named.ensures ∙ c.if-is_named.false in
     let fresh : duplicate earlier name ≡ None = ap (λ b. cond b (Some (Duplicate name)) None) among in
     let atoms = first_fault_of (λ _ atom. base_fault (letters_named sections name) atom.base) [] c.args.part.now.atoms in
-    let done = rw (c.in-Some.ensures.found.with_letters, c.as_slice.ensures) at c.in_ok-atoms.ensures in
-    (or_none (unknown (section_names sections) name) (option_or (duplicate earlier name) atoms) known
-        (or_none (duplicate earlier name) atoms fresh done.0),
-     rw (c.in-Some.ensures.found.numbered, done.1) refl)
+    let done = rw (c.in-Some.ensures.found.with_letters, c.as_slice.ensures) at c.in_ok-atoms.ensures in (
+      or_none (unknown (section_names sections) name) (option_or (duplicate earlier name) atoms) known
+          (or_none (duplicate earlier name) atoms fresh done.0),
+      rw (c.in-Some.ensures.found.numbered, done.1) refl,
+    )

@@ -10,12 +10,12 @@ returns-in_err-next c =
     let walk = c.loop-row in
     let p = err_from_is_err_and c.from_residual.result c.from_residual.ensures.1 in
     rw (p.1, p.2)
-        (stops (λ _. row_fault c.args.sections.now) (row_of c.args.sections.now) c.args.rows.now walk.row-index walk.resolved.items c.row-item.result
-            c.in_err-next.field-0.0 c.loop-row-test.true walk.invariant c.row-item.is c.in_err-next.ensures)
+    (stops (λ _. row_fault c.args.sections.now) (row_of c.args.sections.now) c.args.rows.now walk.row-index walk.resolved.items c.row-item.result
+    c.in_err-next.field-0.0 c.loop-row-test.true walk.invariant c.row-item.is c.in_err-next.ensures)
 
 pub loop-row-preserved : goal.loop-row-preserved
 loop-row-preserved c =
     let walk = c.loop-row in
     rw c.in_ok-push.ensures.items
-        (goes_on (λ _. row_fault c.args.sections.now) (row_of c.args.sections.now) c.args.rows.now walk.row-index walk.resolved.items c.row-item.result c.in_ok-next.next
-            c.loop-row-test.true walk.invariant c.row-item.is c.in_ok-next.ensures.0 c.in_ok-next.ensures.1)
+    (goes_on (λ _. row_fault c.args.sections.now) (row_of c.args.sections.now) c.args.rows.now walk.row-index walk.resolved.items c.row-item.result c.in_ok-next.next
+    c.loop-row-test.true walk.invariant c.row-item.is c.in_ok-next.ensures.0 c.in_ok-next.ensures.1)

@@ -14,10 +14,10 @@ returns-then-is_replaced c =
     let name = c.args.entry.now.0 in
     let earlier = map (λ before. before.0.text) c.args.earlier.now in
     let among : is_among earlier name ≡ true =
-        list_any_map (bytes_eq name.text) (λ before. before.0.text) c.args.earlier.now ∙ sym c.is_replaced.ensures ∙ c.if-is_replaced.true in
+    list_any_map (bytes_eq name.text) (λ before. before.0.text) c.args.earlier.now ∙ sym c.is_replaced.ensures ∙ c.if-is_replaced.true in
     or_right (unknown letters name) (option_or (duplicate earlier name) (unknown letters c.args.entry.now.1)) c.duplicate_name.result c.in_ok-from.ensures.0
-        (or_left (duplicate earlier name) (unknown letters c.args.entry.now.1) c.duplicate_name.result
-            (fault_where_true (is_among earlier name) (Duplicate name) c.duplicate_name.result among c.duplicate_name.ensures))
+    (or_left (duplicate earlier name) (unknown letters c.args.entry.now.1) c.duplicate_name.result
+    (fault_where_true (is_among earlier name) (Duplicate name) c.duplicate_name.result among c.duplicate_name.ensures))
 
 pub returns-in_err-to : goal.returns-in_err-to
 returns-in_err-to c =
@@ -25,12 +25,12 @@ returns-in_err-to c =
     let name = c.args.entry.now.0 in
     let earlier = map (λ before. before.0.text) c.args.earlier.now in
     let among : is_among earlier name ≡ false =
-        list_any_map (bytes_eq name.text) (λ before. before.0.text) c.args.earlier.now ∙ sym c.is_replaced.ensures ∙ c.if-is_replaced.false in
+    list_any_map (bytes_eq name.text) (λ before. before.0.text) c.args.earlier.now ∙ sym c.is_replaced.ensures ∙ c.if-is_replaced.false in
     let p = err_from_is_err_and c.from_residual-in_err-to.result c.from_residual-in_err-to.ensures.1 in
     rw (p.1, p.2)
-        (or_right (unknown letters name) (option_or (duplicate earlier name) (unknown letters c.args.entry.now.1)) c.in_err-to.field-0.0 c.in_ok-from.ensures.0
-            (or_right (duplicate earlier name) (unknown letters c.args.entry.now.1) c.in_err-to.field-0.0
-                (ap (λ b. cond b (Some (Duplicate name)) None) among) c.in_err-to.ensures))
+    (or_right (unknown letters name) (option_or (duplicate earlier name) (unknown letters c.args.entry.now.1)) c.in_err-to.field-0.0 c.in_ok-from.ensures.0
+    (or_right (duplicate earlier name) (unknown letters c.args.entry.now.1) c.in_err-to.field-0.0
+    (ap (λ b. cond b (Some (Duplicate name)) None) among) c.in_err-to.ensures))
 
 pub returns : goal.returns
 returns c =
@@ -38,8 +38,9 @@ returns c =
     let name = c.args.entry.now.0 in
     let earlier = map (λ before. before.0.text) c.args.earlier.now in
     let among : is_among earlier name ≡ false =
-        list_any_map (bytes_eq name.text) (λ before. before.0.text) c.args.earlier.now ∙ sym c.is_replaced.ensures ∙ c.if-is_replaced.false in
-    (or_none (unknown letters name) (option_or (duplicate earlier name) (unknown letters c.args.entry.now.1)) c.in_ok-from.ensures.0
-        (or_none (duplicate earlier name) (unknown letters c.args.entry.now.1)
-            (ap (λ b. cond b (Some (Duplicate name)) None) among) c.in_ok-to.ensures.0),
-     rw (c.in_ok-from.ensures.1, c.in_ok-to.ensures.1) refl)
+    list_any_map (bytes_eq name.text) (λ before. before.0.text) c.args.earlier.now ∙ sym c.is_replaced.ensures ∙ c.if-is_replaced.false in (
+      or_none (unknown letters name) (option_or (duplicate earlier name) (unknown letters c.args.entry.now.1)) c.in_ok-from.ensures.0
+          (or_none (duplicate earlier name) (unknown letters c.args.entry.now.1)
+          (ap (λ b. cond b (Some (Duplicate name)) None) among) c.in_ok-to.ensures.0),
+      rw (c.in_ok-from.ensures.1, c.in_ok-to.ensures.1) refl,
+    )

@@ -16,14 +16,14 @@ found : (c : In_ok-number) →
     × (c.in_ok-number.number ≡ number_of (section_names c.self.inside.texts.now) c.args.name.now)
 found c =
     rw (← c.self.invariant.0, ← c.as_str.ensures)
-        (some_of_cond (list_any (bytes_eq c.as_str.result.now) c.self.inside.numbers) c.in_ok-number.number
-            (position_or_len (bytes_eq c.as_str.result.now) c.self.inside.numbers) c.in_ok-number.ensures)
+    (some_of_cond (list_any (bytes_eq c.as_str.result.now) c.self.inside.numbers) c.in_ok-number.number
+    (position_or_len (bytes_eq c.as_str.result.now) c.self.inside.numbers) c.in_ok-number.ensures)
 
 within : (c : In_ok-number) → c.in_ok-number.number < length c.self.inside.texts.now
 within c =
     let f = found c in
     rw (f.1, ← length_map (λ section. section.name.text) c.self.inside.texts.now)
-        (number_below (bytes_eq c.args.name.now.text) (section_names c.self.inside.texts.now) f.0)
+    (number_below (bytes_eq c.args.name.now.text) (section_names c.self.inside.texts.now) f.0)
 
 pub bounds-self-inside-number : goal.bounds-self-inside-number
 bounds-self-inside-number c = within c
@@ -31,7 +31,7 @@ bounds-self-inside-number c = within c
 pub index-requires : goal.index-requires
 index-requires c =
     rw (c.self.inside.letters.ok.0, c.self.invariant.1, length_map (λ section. texts_of section.letters) c.self.inside.texts.now)
-        (within (goal.at.index-requires c).In_ok-number)
+    (within (goal.at.index-requires c).In_ok-number)
 
 pub returns-clause-found : goal.returns-clause-found
 returns-clause-found c =
@@ -46,6 +46,11 @@ returns-clause-found c =
       numbered = f.1;
       of_kind = rw (← f.1, there) refl;
       with_letters =
-        rw (← f.1, there, c.index.ensures, c.self.invariant.1,
-            get_or-map (λ section. texts_of section.letters) texts n c.index-self-number.result c.index.result.now w) refl
+          rw (
+            ← f.1,
+            there,
+            c.index.ensures,
+            c.self.invariant.1,
+            get_or-map (λ section. texts_of section.letters) texts n c.index-self-number.result c.index.result.now w,
+          ) refl;
     }
