@@ -1,0 +1,4 @@
+pub mod FailedRead
+pub mod Answered
+pub mod FirstShape
+pub mod MeansNone

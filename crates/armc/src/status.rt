@@ -1,0 +1,16 @@
+/// The exit status of the program.
+#[derive(Clone, Copy, Debug, PartialEq, Eq)]
+pub enum Status {
+    /// The command did its work: a certificate is valid.
+    Done = 0,
+    /// A read failed, or a text is longer than its limit.
+    ReadFault = 4,
+    /// A certificate is not valid.
+    NotValid = 7,
+    /// Standard output or standard error did not take its text.
+    WriteFault = 8,
+    /// There was no memory.
+    Memory = 9,
+    /// The command, or a form of its texts, is not built yet.
+    NotBuilt = 10,
+}
