@@ -1,5 +1,5 @@
 -- The steps of the breadth-first construction: its beginning, one more successor, and the next state.
-use Rattle.std.proofs.Common.{◌≡◌, ◌<◌, ◌⊎◌, ℕ, suc, zero, Bool, true, false, not, List, [], ◌∷◌, ◌++◌, Option, None, Some, length, refl, sym, ap, subst, ◌∙◌, inl, inr, arith, slice_get, if◌then◌else◌, All, length-append}
+use Rattle.std.proofs.Common.{◌≡◌, ◌<◌, ◌⊎◌, ℕ, suc, zero, Bool, true, false, not, List, [], ◌∷◌, ◌++◌, Option, None, Some, length, refl, sym, ap, subst, ◌∙◌, inl, inr, arith, slice_get, IsTrue, ◌↔◌, if◌then◌else◌, All, length-append}
 use Rattle.std.proofs.lemmas.Bool.{cases_eq, cases_order, true≢false}
 use Rattle.std.proofs.lemmas.List.{append_assoc, append-nil}
 use Rattle.std.proofs.lemmas.Option.{slice_get_within}
@@ -9,7 +9,8 @@ use Rattle.indexmap.specs.IndexSet.{insert_key}
 use Rattle.word_automata.specs.Path.{Node, edges_of, is_accepting}
 use Rattle.word_automata.specs.Automaton.{Automaton, target, find_target}
 use Rattle.word_automata.specs.Building.{AddsEdge, IsEdgeInRange, with_state, empty_automaton}
-use Rattle.exploration.specs.System.{System, look_up, IsSuccessors}
+use Rattle.exploration.specs.System.{look_up}
+use Rattle.exploration.specs.Residuals.{StartsWith, AreResiduals}
 use Rattle.exploration.specs.Worklist.{IsEarlier, FirstEdges, Names, Explored, Expands, Numbers}
 use Rattle.exploration.proofs.Explored.{AddsTarget, adds_target, FirstEdges-kept, FirstEdges-added}
 use Rattle.exploration.proofs.Lists.{slice_get-append, slice_get-append_below, slice_get-push, slice_get-push_cases, slice_get-some, list_any_at, look_up-above, look_up-below, look_up-push_same, look_up-push_other, HasIncreasingLetters-front}
@@ -88,9 +89,9 @@ module _ {S : Type 0} where
             λ q there. true≢false (sym (list_any_at (eq s) old q s there (self s)) ∙ e),
           )
 
-module _ {S : Type 0} (t : System S) (P : S → Type 0) where
+module _ {S : Type 0} (letters : ℕ) (accepted : List ℕ → Type 0) (language : S → List ℕ → Type 0) (P : S → Type 0) where
   -- before any state
-  pub begun_without : t.start ≡ None → Explored t P [] (empty_automaton t.letters) 0 []
+  pub begun_without : StartsWith {S = S} accepted language None → Explored letters accepted language P [] (empty_automaton letters) 0 []
   begun_without none = record {
     count = refl;
     same_letters = refl;
@@ -98,22 +99,22 @@ module _ {S : Type 0} (t : System S) (P : S → Type 0) where
     states = λ q s h. cc;
     distinct = λ p q s h k. cc;
     accepting = λ q s h. cc;
-    done = λ q s a l h. cc;
+    done = λ q s l h. absurd (omega arith);
     current = λ a. tt;
     later = λ q a l. refl;
     firsts = record { first = λ q. (0, 0); edge = λ q h l. absurd (omega arith); earlier = λ q h l. absurd (omega arith); least = λ q r b h l e. absurd (omega arith); ordered = λ q r h k l. absurd (omega arith) };
   }
 
   -- with the start state alone
-  pub begun_with : (s : S) → t.start ≡ Some s → P s → Explored t P (s ∷ []) (with_state (empty_automaton t.letters) (t.accepting s)) 0 []
-  begun_with s start valid = record {
+  pub begun_with : (s : S) (flag : Bool) → StartsWith accepted language (Some s) → P s → (IsTrue flag ↔ language s []) → Explored letters accepted language P (s ∷ []) (with_state (empty_automaton letters) flag) 0 []
+  begun_with s flag start valid flag_is = record {
     count = refl;
     same_letters = refl;
     begun = start;
     states = states;
     distinct = distinct;
     accepting = accepting;
-    done = λ q x a l h. absurd (omega arith);
+    done = λ q x l h. absurd (omega arith);
     current = λ a. tt;
     later = later;
     firsts = record { first = λ q. (0, 0); edge = λ q h l. absurd (omega arith); earlier = λ q h l. absurd (omega arith); least = λ q r b h l e. absurd (omega arith); ordered = λ q r h k l. absurd (omega arith) };
@@ -128,15 +129,15 @@ module _ {S : Type 0} (t : System S) (P : S → Type 0) where
       distinct zero (suc q) x h k = cc
       distinct (suc p) q x h k = cc
 
-      accepting : (q : ℕ) (x : S) → slice_get (s ∷ []) q ≡ Some x → is_accepting {L = ℕ} (record { accepting = t.accepting s; edges = [] } ∷ []) q ≡ t.accepting x
-      accepting zero x h = let e : s ≡ x = cc in ap t.accepting e
+      accepting : (q : ℕ) (x : S) → slice_get (s ∷ []) q ≡ Some x → IsTrue (is_accepting {L = ℕ} (record { accepting = flag; edges = [] } ∷ []) q) ↔ language x []
+      accepting zero x h = let e : s ≡ x = cc in subst (λ y. IsTrue flag ↔ language y []) e flag_is
       accepting (suc q) x h = cc
 
-      later : (q a : ℕ) → 0 < q → find_target (edges_of {L = ℕ} (record { accepting = t.accepting s; edges = [] } ∷ []) q) a ≡ None
+      later : (q a : ℕ) → 0 < q → find_target (edges_of {L = ℕ} (record { accepting = flag; edges = [] } ∷ []) q) a ≡ None
       later zero a l = absurd (omega arith)
       later (suc q) a l = refl
 
-  module _ (found : List S) (m : Automaton) (next : ℕ) (pairs : List (ℕ × S)) (e : Explored t P found m next pairs) (there : next < length found) where
+  module _ (found : List S) (m : Automaton) (next : ℕ) (pairs : List (ℕ × S)) (e : Explored letters accepted language P found m next pairs) (there : next < length found) where
     -- the edges so far come before an edge of the state next under a letter above those of the pairs
     latest : (letter : ℕ) → All (λ pair. pair.0 < letter) pairs → (r b q : ℕ) → target m r b ≡ Some q → IsEarlier (r, b) next letter
     latest letter below r b q h =
@@ -160,11 +161,12 @@ module _ {S : Type 0} (t : System S) (P : S → Type 0) where
         earlier : r < next → q < length found
         earlier less =
             let x = slice_get-some found r (omega arith) in
-            let s = Names-some found (target m r b) q (t.step x.0 b) h (e.done r x.0 b less x.1) in
+            let all = e.done r x.0 less x.1 in
+            let s = Names-some found (target m r b) q (look_up all.0 b) h (all.2 b) in
             slice_get_within found q s.0 s.2
 
     -- the state after the state next
-    pub advanced : (s : S) → slice_get found next ≡ Some s → IsSuccessors t P s pairs → Explored t P found m (suc next) []
+    pub advanced : (s : S) → slice_get found next ≡ Some s → AreResiduals letters language P s pairs → Explored letters accepted language P found m (suc next) []
     advanced s at all = record {
       count = e.count;
       same_letters = e.same_letters;
@@ -178,13 +180,13 @@ module _ {S : Type 0} (t : System S) (P : S → Type 0) where
       firsts = e.firsts;
     }
       where
-        done : (q : ℕ) (x : S) (a : ℕ) → q < suc next → slice_get found q ≡ Some x → Names found (target m q a) (t.step x a)
-        done q x a l h =
+        done : (q : ℕ) (x : S) → q < suc next → slice_get found q ≡ Some x
+            → (edges : List (ℕ × S)) × AreResiduals letters language P x edges × ((a : ℕ) → Names found (target m q a) (look_up edges a))
+        done q x l h =
             elim (cases_order q next) [
               | inl same ↦ let i : s ≡ x = (let j = subst (λ k. slice_get found k ≡ Some x) same h in cc) in
-                  subst (λ k. Names found (target m k a) (t.step x a)) (sym same) (subst (λ y. Names found (target m next a) (t.step y a)) i
-                  (subst (Names found (target m next a)) (all.steps a) (e.current a)))
-              | inr (inl less) ↦ e.done q x a less h
+                  (pairs, subst (λ y. AreResiduals letters language P y pairs) i all, λ a. subst (λ k. Names found (target m k a) (look_up pairs a)) (sym same) (e.current a))
+              | inr (inl less) ↦ e.done q x less h
               | inr (inr more) ↦ absurd (omega arith)
             ]
 
@@ -206,16 +208,21 @@ module _ {S : Type 0} (t : System S) (P : S → Type 0) where
           ]
 
       done-more : (more : List S) (to : ℕ → ℕ → Option ℕ) (place : ℕ) → AddsTarget (target m) to next letter place
-          → (q : ℕ) (x : S) (a : ℕ) → q < next → slice_get found q ≡ Some x → Names (found ++ more) (to q a) (t.step x a)
-      done-more more to place adds q x a l h =
-          subst (λ o. Names (found ++ more) o (t.step x a)) (sym (adds.other q a (λ both. absurd (let i = both.0 in omega arith))))
-          (Names-grows found more (target m q a) (t.step x a) (e.done q x a l h))
+          → (q : ℕ) (x : S) → q < next → slice_get found q ≡ Some x
+          → (edges : List (ℕ × S)) × AreResiduals letters language P x edges × ((a : ℕ) → Names (found ++ more) (to q a) (look_up edges a))
+      done-more more to place adds q x l h =
+          let all = e.done q x l h in (
+            all.0,
+            all.1,
+            λ a. subst (λ o. Names (found ++ more) o (look_up all.0 a)) (sym (adds.other q a (λ both. absurd (let i = both.0 in omega arith))))
+                (Names-grows found more (target m q a) (look_up all.0 a) (all.2 a)),
+          )
 
       later-more : (to : ℕ → ℕ → Option ℕ) (place : ℕ) → AddsTarget (target m) to next letter place → (q a : ℕ) → next < q → to q a ≡ None
       later-more to place adds q a l = adds.other q a (λ both. absurd (let i = both.0 in omega arith)) ∙ e.later q a l
 
       -- an edge to a state that was found before
-      pub kept : (n : Automaton) (place : ℕ) → slice_get found place ≡ Some s → AddsEdge m n next letter place → Explored t P found n next (pairs ++ (letter, s) ∷ [])
+      pub kept : (n : Automaton) (place : ℕ) → slice_get found place ≡ Some s → AddsEdge m n next letter place → Explored letters accepted language P found n next (pairs ++ (letter, s) ∷ [])
       kept n place at adds =
           let more = adds_target m n next letter place adds none_yet in
           let whole = append-nil found in
@@ -225,8 +232,9 @@ module _ {S : Type 0} (t : System S) (P : S → Type 0) where
             begun = e.begun;
             states = e.states;
             distinct = e.distinct;
-            accepting = λ q x h. adds.same_acceptance q ∙ e.accepting q x h;
-            done = λ q x a l h. subst (λ ks. Names ks (target n q a) (t.step x a)) whole (done-more [] (target n) place more q x a l h);
+            accepting = λ q x h. subst (λ b. IsTrue b ↔ language x []) (sym (adds.same_acceptance q)) (e.accepting q x h);
+            done = λ q x l h. subst (λ ks. (edges : List (ℕ × S)) × AreResiduals letters language P x edges × ((a : ℕ) → Names ks (target n q a) (look_up edges a))) whole
+                (done-more [] (target n) place more q x l h);
             current = λ a. subst (λ ks. Names ks (target n next a) (look_up (pairs ++ (letter, s) ∷ []) a)) whole
                 (current-more [] (target n) place more (slice_get-append found [] place s at) a);
             later = later-more (target n) place more;
@@ -234,18 +242,18 @@ module _ {S : Type 0} (t : System S) (P : S → Type 0) where
           }
 
       -- an edge to a new state at the end
-      pub added : (n : Automaton) → P s → ((q : ℕ) → slice_get found q ≡ Some s → ⊥) → AddsEdge (with_state m (t.accepting s)) n next letter (length found)
-          → Explored t P (found ++ s ∷ []) n next (pairs ++ (letter, s) ∷ [])
-      added n valid absent adds =
-          let more = adds_target-added m n (t.accepting s) next letter (length found) adds none_yet in
+      pub added : (n : Automaton) (flag : Bool) → P s → (IsTrue flag ↔ language s []) → ((q : ℕ) → slice_get found q ≡ Some s → ⊥) → AddsEdge (with_state m flag) n next letter (length found)
+          → Explored letters accepted language P (found ++ s ∷ []) n next (pairs ++ (letter, s) ∷ [])
+      added n flag valid flag_is absent adds =
+          let more = adds_target-added m n flag next letter (length found) adds none_yet in
           record {
-            count = adds.same_size ∙ (let x = e.count in let y = length-append m.states (record { accepting = t.accepting s; edges = [] } ∷ []) in let z = length-append found (s ∷ []) in omega arith);
+            count = adds.same_size ∙ (let x = e.count in let y = length-append m.states (record { accepting = flag; edges = [] } ∷ []) in let z = length-append found (s ∷ []) in omega arith);
             same_letters = adds.same_letters ∙ e.same_letters;
-            begun = e.begun ∙ sym (slice_get-append_below found (s ∷ []) 0 (omega arith));
+            begun = subst (StartsWith accepted language) (sym (slice_get-append_below found (s ∷ []) 0 (omega arith))) e.begun;
             states = λ q x h. states q x (slice_get-push_cases found s x q h);
             distinct = λ p q x h k. distinct p q x (slice_get-push_cases found s x p h) (slice_get-push_cases found s x q k);
-            accepting = λ q x h. adds.same_acceptance q ∙ accepting q x (slice_get-push_cases found s x q h);
-            done = λ q x a l h. done-more (s ∷ []) (target n) (length found) more q x a l (sym (slice_get-append_below found (s ∷ []) q (omega arith)) ∙ h);
+            accepting = λ q x h. subst (λ b. IsTrue b ↔ language x []) (sym (adds.same_acceptance q)) (accepting q x (slice_get-push_cases found s x q h));
+            done = λ q x l h. done-more (s ∷ []) (target n) (length found) more q x l (sym (slice_get-append_below found (s ∷ []) q (omega arith)) ∙ h);
             current = current-more (s ∷ []) (target n) (length found) more (slice_get-push found s);
             later = later-more (target n) (length found) more;
             firsts = subst (FirstEdges (target n)) (let z = length-append found (s ∷ []) in omega arith)
@@ -262,54 +270,55 @@ module _ {S : Type 0} (t : System S) (P : S → Type 0) where
           distinct p q x (inr h) (inl k) = absurd (absent q (k ∙ ap Some (sym h.1)))
           distinct p q x (inr h) (inr k) = h.0 ∙ sym k.0
 
-          accepting : (q : ℕ) (x : S) → (slice_get found q ≡ Some x) ⊎ ((q ≡ length found) × (s ≡ x)) → is_accepting (m.states ++ record { accepting = t.accepting s; edges = [] } ∷ []) q ≡ t.accepting x
+          accepting : (q : ℕ) (x : S) → (slice_get found q ≡ Some x) ⊎ ((q ≡ length found) × (s ≡ x)) → IsTrue (is_accepting (m.states ++ record { accepting = flag; edges = [] } ∷ []) q) ↔ language x []
           accepting q x (inl h) =
-              is_accepting-push_below m.states (t.accepting s) q (let l = slice_get_within found q x h in let c = e.count in omega arith) ∙ e.accepting q x h
-          accepting q x (inr h) = is_accepting-push_last m.states (t.accepting s) q (h.0 ∙ sym e.count) ∙ ap t.accepting h.1
+              subst (λ b. IsTrue b ↔ language x []) (sym (is_accepting-push_below m.states flag q (let l = slice_get_within found q x h in let c = e.count in omega arith))) (e.accepting q x h)
+          accepting q x (inr h) =
+              subst (λ b. IsTrue b ↔ language x []) (sym (is_accepting-push_last m.states flag q (h.0 ∙ sym e.count))) (subst (λ y. IsTrue flag ↔ language y []) h.1 flag_is)
 
       -- what numbering a successor and adding its edge gives
-      pub numbered : (new : List S) (after n : Automaton) (number : ℕ) → P s → Numbers t found new m after s number → AddsEdge after n next letter number
-          → Explored t P new n next (pairs ++ (letter, s) ∷ [])
+      pub numbered : (new : List S) (after n : Automaton) (number : ℕ) → P s → Numbers language found new m after s number → AddsEdge after n next letter number
+          → Explored letters accepted language P new n next (pairs ++ (letter, s) ∷ [])
       numbered new after n number valid (inl k) adds =
-          subst (λ ks. Explored t P ks n next (pairs ++ (letter, s) ∷ [])) (sym k.same_found)
+          subst (λ ks. Explored letters accepted language P ks n next (pairs ++ (letter, s) ∷ [])) (sym k.same_found)
           (kept n number k.at (subst (λ x. AddsEdge x n next letter number) k.same_automaton adds))
       numbered new after n number valid (inr k) adds =
-          subst (λ ks. Explored t P ks n next (pairs ++ (letter, s) ∷ [])) (sym k.found)
-          (added n valid k.absent (subst (AddsEdge (with_state m (t.accepting s)) n next letter) k.number_is (subst (λ x. AddsEdge x n next letter number) k.automaton adds)))
+          subst (λ ks. Explored letters accepted language P ks n next (pairs ++ (letter, s) ∷ [])) (sym k.found)
+          (added n k.flag valid k.flag_is k.absent (subst (AddsEdge (with_state m k.flag) n next letter) k.number_is (subst (λ x. AddsEdge x n next letter number) k.automaton adds)))
 
-module _ {S : Type 0} (t : System S) (P : S → Type 0) where
+module _ {S : Type 0} (letters : ℕ) (accepted : List ℕ → Type 0) (language : S → List ℕ → Type 0) (P : S → Type 0) where
   -- the start state is numbered first
-  pub begun_numbered : (old new : List S) (before after : Automaton) (s : S) (number : ℕ) → old ≡ [] → before ≡ empty_automaton t.letters
-      → t.start ≡ Some s → P s → Numbers t old new before after s number → Explored t P new after 0 []
+  pub begun_numbered : (old new : List S) (before after : Automaton) (s : S) (number : ℕ) → old ≡ [] → before ≡ empty_automaton letters
+      → StartsWith accepted language (Some s) → P s → Numbers language old new before after s number → Explored letters accepted language P new after 0 []
   begun_numbered old new before after s number none empty start valid (inl k) =
       absurd (let at = subst (λ ks. slice_get ks number ≡ Some s) none k.at in cc)
   begun_numbered old new before after s number none empty start valid (inr k) =
       let found : new ≡ s ∷ [] = k.found ∙ ap (λ ks. ks ++ s ∷ []) none in
-      let built : after ≡ with_state (empty_automaton t.letters) (t.accepting s) = k.automaton ∙ ap (λ m. with_state m (t.accepting s)) empty in
-      subst (λ ks. Explored t P ks after 0 []) (sym found) (subst (λ m. Explored t P (s ∷ []) m 0 []) (sym built) (begun_with t P s start valid))
+      let built : after ≡ with_state (empty_automaton letters) k.flag = k.automaton ∙ ap (λ m. with_state m k.flag) empty in
+      subst (λ ks. Explored letters accepted language P ks after 0 []) (sym found) (subst (λ m. Explored letters accepted language P (s ∷ []) m 0 []) (sym built) (begun_with letters accepted language P s k.flag start valid k.flag_is))
 
-  module _ (found : List S) (m : Automaton) (next : ℕ) (pairs rest : List (ℕ × S)) (letter : ℕ) (s : S) (e : Expands t P found m next pairs ((letter, s) ∷ rest))
-      (new : List S) (after : Automaton) (number : ℕ) (numbers : Numbers t found new m after s number) where
+  module _ (found : List S) (m : Automaton) (next : ℕ) (pairs rest : List (ℕ × S)) (letter : ℕ) (s : S) (e : Expands letters accepted language P found m next pairs ((letter, s) ∷ rest))
+      (new : List S) (after : Automaton) (number : ℕ) (numbers : Numbers language found new m after s number) where
     there : next < length found
     there = slice_get_within found next e.state e.at
 
     below : All (λ pair. pair.0 < letter) pairs
-    below = HasIncreasingLetters-front pairs (letter, s) rest e.successors.increasing
+    below = HasIncreasingLetters-front pairs (letter, s) rest e.residuals.increasing
 
     valid : P s
     valid = subst (λ (pair : ℕ × S). P pair.1) (get_or-append_seam pairs (letter, s) rest (letter, s))
-        (e.successors.states (length pairs) (letter, s) (let l = length-append pairs ((letter, s) ∷ rest) in omega arith))
+        (e.residuals.states (length pairs) (letter, s) (let l = length-append pairs ((letter, s) ∷ rest) in omega arith))
 
     -- after the successor is numbered, there is no edge to it yet
     pub none_after : target after next letter ≡ None
     none_after = by numbers
       where
         none : target m next letter ≡ None
-        none = none_yet t P found m next pairs e.explored there letter s below
+        none = none_yet letters accepted language P found m next pairs e.explored there letter s below
 
-        by : Numbers t found new m after s number → target after next letter ≡ None
+        by : Numbers language found new m after s number → target after next letter ≡ None
         by (inl k) = subst (λ x. target x next letter ≡ None) (sym k.same_automaton) none
-        by (inr k) = subst (λ x. target x next letter ≡ None) (sym k.automaton) (target-with_state m (t.accepting s) next letter ∙ none)
+        by (inr k) = subst (λ x. target x next letter ≡ None) (sym k.automaton) (target-with_state m k.flag next letter ∙ none)
 
     -- and the edge may be added
     pub edge_in_range : IsEdgeInRange after next letter number
@@ -319,31 +328,31 @@ module _ {S : Type 0} (t : System S) (P : S → Type 0) where
         count = e.explored.count
 
         in_alphabet : letter < m.letters
-        in_alphabet = subst (λ k. letter < k) (sym e.explored.same_letters) (subst (λ (pair : ℕ × S). pair.0 < t.letters) (get_or-append_seam pairs (letter, s) rest (letter, s))
-            (e.successors.letters_in_range (length pairs) (letter, s) (let l = length-append pairs ((letter, s) ∷ rest) in omega arith)))
+        in_alphabet = subst (λ k. letter < k) (sym e.explored.same_letters) (subst (λ (pair : ℕ × S). pair.0 < letters) (get_or-append_seam pairs (letter, s) rest (letter, s))
+            (e.residuals.letters_in_range (length pairs) (letter, s) (let l = length-append pairs ((letter, s) ∷ rest) in omega arith)))
 
-        by : Numbers t found new m after s number → IsEdgeInRange after next letter number
+        by : Numbers language found new m after s number → IsEdgeInRange after next letter number
         by (inl k) = subst (λ x. IsEdgeInRange x next letter number) (sym k.same_automaton)
             (record { from_state = (let l = there in omega arith); in_alphabet = in_alphabet; to_state = (let l = slice_get_within found number s k.at in let c = count in omega arith) })
         by (inr k) = subst (λ x. IsEdgeInRange x next letter number) (sym k.automaton)
-            (let l = length-append m.states (record { accepting = t.accepting s; edges = [] } ∷ []) in let y = there in let c = count in let i = k.number_is in
+            (let l = length-append m.states (record { accepting = k.flag; edges = [] } ∷ []) in let y = there in let c = count in let i = k.number_is in
             record { from_state = omega arith; in_alphabet = in_alphabet; to_state = omega arith })
 
     -- one more successor is done
-    pub expanded : (n : Automaton) → AddsEdge after n next letter number → Expands t P new n next (pairs ++ (letter, s) ∷ []) rest
+    pub expanded : (n : Automaton) → AddsEdge after n next letter number → Expands letters accepted language P new n next (pairs ++ (letter, s) ∷ []) rest
     expanded n adds = record {
       state = e.state;
       at = by numbers;
-      explored = numbered t P found m next pairs e.explored there letter s below new after n number valid numbers adds;
-      successors = subst (IsSuccessors t P e.state) (sym (append_assoc pairs ((letter, s) ∷ []) rest)) e.successors;
+      explored = numbered letters accepted language P found m next pairs e.explored there letter s below new after n number valid numbers adds;
+      residuals = subst (AreResiduals letters language P e.state) (sym (append_assoc pairs ((letter, s) ∷ []) rest)) e.residuals;
     }
       where
-        by : Numbers t found new m after s number → slice_get new next ≡ Some e.state
+        by : Numbers language found new m after s number → slice_get new next ≡ Some e.state
         by (inl k) = subst (λ ks. slice_get ks next ≡ Some e.state) (sym k.same_found) e.at
         by (inr k) = subst (λ ks. slice_get ks next ≡ Some e.state) (sym k.found) (slice_get-append found (s ∷ []) next e.state e.at)
 
   -- all successors are done
-  pub expanded_all : (found : List S) (m : Automaton) (next : ℕ) (pairs : List (ℕ × S)) → Expands t P found m next pairs [] → Explored t P found m (suc next) []
+  pub expanded_all : (found : List S) (m : Automaton) (next : ℕ) (pairs : List (ℕ × S)) → Expands letters accepted language P found m next pairs [] → Explored letters accepted language P found m (suc next) []
   expanded_all found m next pairs e =
-      advanced t P found m next pairs e.explored (slice_get_within found next e.state e.at) e.state e.at
-      (subst (IsSuccessors t P e.state) (append-nil pairs) e.successors)
+      advanced letters accepted language P found m next pairs e.explored (slice_get_within found next e.state e.at) e.state e.at
+      (subst (AreResiduals letters language P e.state) (append-nil pairs) e.residuals)

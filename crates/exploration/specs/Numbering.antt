@@ -1,5 +1,5 @@
 -- States that are numbered breadth first, and automata whose states stand for the states of a system.
-use Rattle.std.specs.Prelude.{◌≡◌, ◌<◌, ℕ, List, [], ◌∷◌, Option, None, Some, length, slice_get, IsTrue}
+use Rattle.std.specs.Prelude.{◌≡◌, ◌↔◌, ◌<◌, ℕ, List, [], ◌∷◌, Option, None, Some, length, slice_get, IsTrue}
 use Rattle.sequence.specs.WordOrder.{is_before, IsLeastWord}
 use Rattle.word_automata.specs.Automaton.{Automaton, target, accepts_from}
 use Rattle.exploration.specs.System.{System, accepts_by_from}
@@ -27,3 +27,11 @@ pub record StandsFor {S : Type 0} (t : System S) (P : S → Type 0) (m : Automat
   pub states : (q : ℕ) (s : S) → slice_get found q ≡ Some s → P s
   pub distinct : (p q : ℕ) (s : S) → slice_get found p ≡ Some s → slice_get found q ≡ Some s → p ≡ q
   pub language : (q : ℕ) (s : S) → slice_get found q ≡ Some s → (w : List ℕ) → accepts_from m q w ≡ accepts_by_from t s w
+
+-- the same for states that stand for languages
+pub record StandsForLanguages {S : Type 0} (language : S → List ℕ → Type 0) (P : S → Type 0) (m : Automaton) : Type 0 where
+  pub found : List S
+  pub count : length found ≡ length m.states
+  pub states : (q : ℕ) (s : S) → slice_get found q ≡ Some s → P s
+  pub distinct : (p q : ℕ) (s : S) → slice_get found p ≡ Some s → slice_get found q ≡ Some s → p ≡ q
+  pub accepted : (q : ℕ) (s : S) → slice_get found q ≡ Some s → (w : List ℕ) → IsTrue (accepts_from m q w) ↔ language s w

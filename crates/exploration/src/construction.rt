@@ -1,12 +1,14 @@
 //! The construction of an automaton from a transition system, breadth first.
 
-ghost use Rattle.std.specs.Prelude.{◌≡◌, ◌<◌, ◌+◌, ℕ, List, [], length, IfOk, OnOk};
+ghost use Rattle.std.specs.Prelude.{◌≡◌, ◌↔◌, ◌<◌, ◌+◌, ℕ, List, [], length, IsTrue, IfOk, OnOk};
 ghost use Rattle.word_automata.specs.Automaton.{accepts, IsValid};
 ghost use Rattle.word_automata.specs.Building.{empty_automaton};
 ghost use Rattle.exploration.specs.System.{accepts_by};
-ghost use Rattle.exploration.specs.Numbering.{IsBreadthFirst, StandsFor};
+ghost use Rattle.exploration.specs.Numbering.{IsBreadthFirst, StandsFor, StandsForLanguages};
 ghost use Rattle.exploration.specs.Worklist.{Explored, Numbers};
 
+use crate::language_system::LanguageSystem;
+use crate::stepwise::Stepwise;
 use crate::transition_system::TransitionSystem;
 use indexmap::IndexSet;
 use std::alloc::{AllocError, Global};
@@ -21,6 +23,18 @@ pub fn explore<T: TransitionSystem>(alloc: Global, system: &T) -> Result<Dfa, Al
     ensures breadth_first { IfOk result IsBreadthFirst }
     ensures states { IfOk result (StandsFor (T.system system.now) (T.is_state system.now)) }
 {
+    Ok(explore_languages(alloc, &Stepwise { system })?)
+}
+
+/// The automaton of the states of the system that are reached from its start state, with their languages. States are numbered
+/// breadth first, letters in increasing order. The work is linear in the edges that are reached, on average.
+pub fn explore_languages<T: LanguageSystem>(alloc: Global, system: &T) -> Result<Dfa, AllocError>
+    ensures language { IfOk result (λ built. (w : List ℕ) → IsTrue (accepts built w) ↔ T.accepted system.now w) }
+    ensures letters { IfOk result (λ built. built.letters ≡ T.letter_count system.now) }
+    ensures valid { IfOk result IsValid }
+    ensures breadth_first { IfOk result IsBreadthFirst }
+    ensures states { IfOk result (StandsForLanguages (T.language system.now) (T.is_state system.now)) }
+{
     let mut found = IndexSet::new(alloc);
     let mut builder = DfaBuilder::new(alloc, system.letters());
     begin(alloc, system, &mut found, &mut builder)?;
@@ -33,15 +47,15 @@ pub fn explore<T: TransitionSystem>(alloc: Global, system: &T) -> Result<Dfa, Al
 }
 
 /// Finds the start state, if there is one.
-fn begin<T: TransitionSystem>(
+fn begin<T: LanguageSystem>(
     alloc: Global,
     system: &T,
     found: &mut IndexSet<T::State>,
     builder: &mut DfaBuilder,
 ) -> Result<(), AllocError>
     requires none { found.old.keys ≡ [] }
-    requires empty { builder.old ≡ empty_automaton (T.system system.now).letters }
-    ensures { OnOk result (Explored (T.system system.now) (T.is_state system.now) found.new.keys builder.new 0 []) }
+    requires empty { builder.old ≡ empty_automaton (T.letter_count system.now) }
+    ensures { OnOk result (Explored (T.letter_count system.now) (T.accepted system.now) (T.language system.now) (T.is_state system.now) found.new.keys builder.new 0 []) }
 {
     match system.start(alloc)? {
         Some(start) => {
@@ -53,7 +67,7 @@ fn begin<T: TransitionSystem>(
 }
 
 /// Adds the edges that leave the state `from`, and the states that they lead to where they are new.
-fn expand<T: TransitionSystem>(
+fn expand<T: LanguageSystem>(
     alloc: Global,
     system: &T,
     found: &mut IndexSet<T::State>,
@@ -61,8 +75,8 @@ fn expand<T: TransitionSystem>(
     from: usize,
 ) -> Result<(), AllocError>
     requires there { from < length found.old.keys }
-    requires before { Explored (T.system system.now) (T.is_state system.now) found.old.keys builder.old from [] }
-    ensures { OnOk result (Explored (T.system system.now) (T.is_state system.now) found.new.keys builder.new (from + 1) []) }
+    requires before { Explored (T.letter_count system.now) (T.accepted system.now) (T.language system.now) (T.is_state system.now) found.old.keys builder.old from [] }
+    ensures { OnOk result (Explored (T.letter_count system.now) (T.accepted system.now) (T.language system.now) (T.is_state system.now) found.new.keys builder.new (from + 1) []) }
 {
     let successors = system.successors(alloc, &found.as_slice()[from])?;
     'successors: for (letter, state) in successors {
@@ -73,14 +87,14 @@ fn expand<T: TransitionSystem>(
 }
 
 /// The number of the state, which is a new one where it was not found before.
-fn number<T: TransitionSystem>(
+fn number<T: LanguageSystem>(
     system: &T,
     found: &mut IndexSet<T::State>,
     builder: &mut DfaBuilder,
     state: T::State,
 ) -> Result<usize, AllocError>
     requires { T.is_state system.now state }
-    ensures { IfOk result (Numbers (T.system system.now) found.old.keys found.new.keys builder.old builder.new state) }
+    ensures { IfOk result (Numbers (T.language system.now) found.old.keys found.new.keys builder.old builder.new state) }
 {
     let accepting = system.is_accepting(&state);
     let (number, is_new) = found.insert_full(state)?;

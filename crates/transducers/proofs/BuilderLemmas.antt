@@ -1,6 +1,6 @@
 -- Lemmas on what the calls of a builder change.
-use Rattle.std.proofs.Common.{◌≡◌, ℕ, zero, suc, ◌<◌, List, [], ◌∷◌, ◌++◌, length, get_or, set, refl, sym, ap, subst, ◌∙◌, arith, ◌≤◌, All, length-set}
-use Rattle.std.proofs.lemmas.List.Elements.{All-set, All-append, All-get_or, All-weaker}
+use Rattle.std.proofs.Common.{◌≡◌, ℕ, zero, suc, ◌<◌, List, [], ◌∷◌, ◌++◌, length, get_or, set, sym, ap, subst, arith, ◌≤◌, All, length-set}
+use Rattle.std.proofs.lemmas.List.Elements.{All-set, All-append, All-get_or}
 use Rattle.word_automata.specs.Path.{Node}
 use Rattle.transducers.specs.declared.Label.{Label}
 use Rattle.transducers.specs.Transducer.{Transducer, IsValid, IsEdge}
@@ -26,7 +26,7 @@ IsValid-set t p node edges after valid lt at good is =
     let P : ℕ → Node Label → Type 0 = λ n x. All (IsEdge t.letters n) x.edges in
     let old : P (length t.states) node = subst (P (length t.states)) (sym at) (All-get_or (P (length t.states)) t.states p node lt valid.edges_in_range) in
     let new : P (length t.states) (record { accepting = node.accepting; edges = after }) =
-      subst (All (IsEdge t.letters (length t.states))) (sym is) (All-append (IsEdge t.letters (length t.states)) node.edges edges old good) in
+    subst (All (IsEdge t.letters (length t.states))) (sym is) (All-append (IsEdge t.letters (length t.states)) node.edges edges old good) in
     record {
       starts_in_range = λ k d h. subst (λ n. get_or t.starts k d < n) (sym same) (valid.starts_in_range k d h);
       edges_in_range = subst (λ n. All (P n) (set t.states p (record { accepting = node.accepting; edges = after }))) (sym same) (All-set (P (length t.states)) t.states p _ new valid.edges_in_range);

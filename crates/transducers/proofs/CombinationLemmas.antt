@@ -1,13 +1,13 @@
 -- Lemmas on transducers made of others.
-use Rattle.std.proofs.Common.{◌≡◌, ℕ, zero, suc, ◌+◌, ◌<◌, ◌≤◌, Bool, true, false, List, [], ◌∷◌, ◌++◌, map, length, slice_get, Option, Some, None, Contains, refl, sym, ap, ◌∙◌, subst, inl, inr, arith, IsTrue, ◌⊎◌, All, length-append}
+use Rattle.std.proofs.Common.{◌≡◌, ℕ, ◌+◌, ◌<◌, ◌≤◌, List, [], ◌∷◌, ◌++◌, map, length, slice_get, Some, Contains, refl, sym, ap, ◌∙◌, subst, inl, inr, arith, ◌⊎◌, All, length-append}
 use Rattle.std.proofs.Math.Nat.{add-zero}
 use Rattle.std.proofs.lemmas.List.{length-map}
 use Rattle.std.proofs.lemmas.List.Elements.{All-contains, All-map, All-weaker, All-append, Contains-append_left, Contains-append_right, Contains-append_cases}
-use Rattle.word_automata.specs.Path.{Node, edges_of, is_accepting, IsPath, spelled, spelled_one}
+use Rattle.word_automata.specs.Path.{Node, IsPath, spelled, spelled_one}
 use Rattle.transducers.specs.declared.Label.{Label}
 use Rattle.transducers.specs.Transducer.{Transducer, IsValid, IsEdge, Relates, RelatesFrom, read_of, write_of}
 use Rattle.transducers.specs.Combination.{shifted_edge, shifted_node, inverse_edge, inverse_node}
-use Rattle.transducers.proofs.ListLemmas.{slice_get-append_left, slice_get-append_right, slice_get-map_image, slice_get-map_cases, slice_get-cases, Contains-map_cases, Contains-map_image}
+use Rattle.transducers.proofs.ListLemmas.{slice_get-append_left, slice_get-append_right, slice_get-map_image, slice_get-map_cases, Contains-map_cases, Contains-map_image}
 use Rattle.transducers.proofs.PathLemmas.{Embeds, RelatesFrom-embed, RelatesFrom-project, edges_of-at, is_accepting-at, node_from_edge, node_from_accepting}
 
 module _ (t : Transducer) (n m : ℕ) (valid : IsValid t) (fits : length t.states + n ≤ m) where
@@ -15,11 +15,11 @@ module _ (t : Transducer) (n m : ℕ) (valid : IsValid t) (fits : length t.state
   pub edges-shifted : All (λ node. All (IsEdge t.letters m) node.edges) (map (shifted_node n) t.states)
   edges-shifted =
       All-map (λ node. All (IsEdge t.letters m) node.edges) (shifted_node n) t.states
-        (All-weaker (λ node. All (IsEdge t.letters (length t.states)) node.edges) (λ node. All (IsEdge t.letters m) (shifted_node n node).edges)
-          (λ node h. All-map (IsEdge t.letters m) (shifted_edge n) node.edges
-            (All-weaker (IsEdge t.letters (length t.states)) (λ e. IsEdge t.letters m (shifted_edge n e))
-              (λ e g. record { read_in_range = g.read_in_range; write_in_range = g.write_in_range; reads_or_writes = g.reads_or_writes; target_in_range = omega (arith, g.target_in_range, fits) }) node.edges h))
-          t.states valid.edges_in_range)
+      (All-weaker (λ node. All (IsEdge t.letters (length t.states)) node.edges) (λ node. All (IsEdge t.letters m) (shifted_node n node).edges)
+      (λ node h. All-map (IsEdge t.letters m) (shifted_edge n) node.edges
+      (All-weaker (IsEdge t.letters (length t.states)) (λ e. IsEdge t.letters m (shifted_edge n e))
+      (λ e g. record { read_in_range = g.read_in_range; write_in_range = g.write_in_range; reads_or_writes = g.reads_or_writes; target_in_range = omega (arith, g.target_in_range, fits) }) node.edges h))
+      t.states valid.edges_in_range)
 
   pub starts-shifted : All (λ q. q < m) (map (λ q. q + n) t.starts)
   starts-shifted = All-map (λ q. q < m) (λ q. q + n) t.starts (All-weaker (λ q. q < length t.states) (λ q. q + n < m) (λ q h. omega (arith, h, fits)) t.starts valid.starts_in_range)
@@ -56,7 +56,7 @@ module _ (a b : Transducer) (a_valid : IsValid a) (b_valid : IsValid b) (same : 
       record {
         starts_in_range = All-append (λ q. q < n) (map (λ q. q + 0) a.starts) (map (λ q. q + length a.states) b.starts) (starts-shifted a 0 n a_valid a_fits) (starts-shifted b (length a.states) n b_valid b_fits);
         edges_in_range = All-append (λ node. All (IsEdge a.letters n) node.edges) (map (shifted_node 0) a.states) (map (shifted_node (length a.states)) b.states) (edges-shifted a 0 n a_valid a_fits)
-          (subst (λ l. All (λ node. All (IsEdge l n) node.edges) (map (shifted_node (length a.states)) b.states)) (sym same) (edges-shifted b (length a.states) n b_valid b_fits));
+            (subst (λ l. All (λ node. All (IsEdge l n) node.edges) (map (shifted_node (length a.states)) b.states)) (sym same) (edges-shifted b (length a.states) n b_valid b_fits));
       }
 
   a_embeds : Embeds 0 a.states (union_of a b).states
@@ -65,9 +65,9 @@ module _ (a b : Transducer) (a_valid : IsValid a) (b_valid : IsValid b) (same : 
   b_embeds : Embeds (length a.states) b.states (union_of a b).states
   b_embeds = record {
     at = λ p node e.
-      let first = map (shifted_node 0) a.states in
-      let second = map (shifted_node (length a.states)) b.states in
-      subst (λ n. slice_get (first ++ second) (p + n) ≡ Some (shifted_node (length a.states) node)) (length-map a.states (shifted_node 0))
+        let first = map (shifted_node 0) a.states in
+        let second = map (shifted_node (length a.states)) b.states in
+        subst (λ n. slice_get (first ++ second) (p + n) ≡ Some (shifted_node (length a.states) node)) (length-map a.states (shifted_node 0))
         (slice_get-append_right first second p ∙ slice_get-map_image (shifted_node (length a.states)) b.states p node e);
   }
 
@@ -76,11 +76,12 @@ module _ (a b : Transducer) (a_valid : IsValid a) (b_valid : IsValid b) (same : 
     where
       split : Relates (union_of a b) u w → Relates a u w ⊎ Relates b u w
       split r = elim (Contains-append_cases (map (λ q. q + 0) a.starts) (map (λ q. q + length a.states) b.starts) r.start r.is_start) [
-          inl left ↦ (let from = Contains-map_cases (λ q. q + 0) a.starts r.start left in
+        | inl left ↦ (let from = Contains-map_cases (λ q. q + 0) a.starts r.start left in
             inl (record { start = from.0; is_start = from.1; run = RelatesFrom-project a (union_of a b) 0 a_embeds a_valid from.0 u w (All-contains (λ q. q < length a.states) a.starts from.0 a_valid.starts_in_range from.1) (subst (λ q. RelatesFrom (union_of a b) q u w) (sym from.2) r.run) }))
         | inr right ↦ (let from = Contains-map_cases (λ q. q + length a.states) b.starts r.start right in
             inr (record { start = from.0; is_start = from.1; run = RelatesFrom-project b (union_of a b) (length a.states) b_embeds b_valid from.0 u w (All-contains (λ q. q < length b.states) b.starts from.0 b_valid.starts_in_range from.1) (subst (λ q. RelatesFrom (union_of a b) q u w) (sym from.2) r.run) }))
-        ]
+      ]
+
       join : Relates a u w ⊎ Relates b u w → Relates (union_of a b) u w
       join (inl r) = record { start = r.start + 0; is_start = Contains-append_left (map (λ q. q + 0) a.starts) _ (r.start + 0) (Contains-map_image (λ q. q + 0) a.starts r.start r.is_start); run = RelatesFrom-embed a (union_of a b) 0 a_embeds a_valid r.start u w r.run }
       join (inr r) = record { start = r.start + length a.states; is_start = Contains-append_right (map (λ q. q + 0) a.starts) _ (r.start + length a.states) (Contains-map_image (λ q. q + length a.states) b.starts r.start r.is_start); run = RelatesFrom-embed b (union_of a b) (length a.states) b_embeds b_valid r.start u w r.run }
@@ -94,12 +95,12 @@ IsValid-inverse t valid =
     let same : length (map inverse_node t.states) ≡ length t.states = length-map t.states inverse_node in
     let n : ℕ = length t.states in
     let edges : All (λ node. All (IsEdge t.letters n) node.edges) (map inverse_node t.states) =
-      All-map (λ node. All (IsEdge t.letters n) node.edges) inverse_node t.states
-        (All-weaker (λ node. All (IsEdge t.letters n) node.edges) (λ node. All (IsEdge t.letters n) (inverse_node node).edges)
-          (λ node h. All-map (IsEdge t.letters n) inverse_edge node.edges
-            (All-weaker (IsEdge t.letters n) (λ e. IsEdge t.letters n (inverse_edge e))
-              (λ e g. record { read_in_range = g.write_in_range; write_in_range = g.read_in_range; reads_or_writes = elim g.reads_or_writes [ inl r ↦ inr r | inr w ↦ inl w ]; target_in_range = g.target_in_range }) node.edges h))
-          t.states valid.edges_in_range) in
+    All-map (λ node. All (IsEdge t.letters n) node.edges) inverse_node t.states
+    (All-weaker (λ node. All (IsEdge t.letters n) node.edges) (λ node. All (IsEdge t.letters n) (inverse_node node).edges)
+    (λ node h. All-map (IsEdge t.letters n) inverse_edge node.edges
+    (All-weaker (IsEdge t.letters n) (λ e. IsEdge t.letters n (inverse_edge e))
+    (λ e g. record { read_in_range = g.write_in_range; write_in_range = g.read_in_range; reads_or_writes = elim g.reads_or_writes [ inl r ↦ inr r | inr w ↦ inl w ]; target_in_range = g.target_in_range }) node.edges h))
+    t.states valid.edges_in_range) in
     record {
       starts_in_range = subst (λ m. All (λ q. q < m) t.starts) (sym same) valid.starts_in_range;
       edges_in_range = subst (λ m. All (λ node. All (IsEdge t.letters m) node.edges) (map inverse_node t.states)) (sym same) edges;
@@ -143,8 +144,9 @@ pub Relates-inverse : (t : Transducer) (u w : List ℕ) → (Relates (inverse_of
 Relates-inverse t u w =
     let there : (p : ℕ) (node : Node Label) → slice_get t.states p ≡ Some node → slice_get (inverse_of t).states p ≡ Some (inverse_node node) = λ p node e. slice_get-map_image inverse_node t.states p node e in
     let back : (p : ℕ) (node : Node Label) → slice_get (inverse_of t).states p ≡ Some node → slice_get t.states p ≡ Some (inverse_node node) =
-      λ p node e.
-        let from = slice_get-map_cases inverse_node t.states p node e in
-        from.1 ∙ ap Some (ap (λ edges. let x : Node Label = record { accepting = from.0.accepting; edges = edges } in x) (sym (turned_edges_twice from.0.edges)) ∙ ap inverse_node from.2) in
-    (λ r. record { start = r.start; is_start = r.is_start; run = turned_run (inverse_of t) t back r.start u w r.run },
-     λ r. record { start = r.start; is_start = r.is_start; run = turned_run t (inverse_of t) there r.start w u r.run })
+    λ p node e.
+    let from = slice_get-map_cases inverse_node t.states p node e in
+    from.1 ∙ ap Some (ap (λ edges. let x : Node Label = record { accepting = from.0.accepting; edges = edges } in x) (sym (turned_edges_twice from.0.edges)) ∙ ap inverse_node from.2) in (
+      λ r. record { start = r.start; is_start = r.is_start; run = turned_run (inverse_of t) t back r.start u w r.run },
+      λ r. record { start = r.start; is_start = r.is_start; run = turned_run t (inverse_of t) there r.start w u r.run },
+    )

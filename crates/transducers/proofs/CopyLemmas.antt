@@ -1,15 +1,15 @@
 -- Lemmas on transducers that relate words to themselves.
-use Rattle.std.proofs.Common.{◌≡◌, ℕ, zero, suc, ◌+◌, ◌<◌, ◌≤◌, Bool, true, false, List, [], ◌∷◌, ◌++◌, map, length, Option, Some, None, Contains, refl, sym, ap, ◌∙◌, subst, inl, inr, arith, IsTrue, ◌⊎◌, All, true≢false}
+use Rattle.std.proofs.Common.{◌≡◌, ℕ, zero, suc, ◌+◌, ◌<◌, ◌≤◌, true, false, List, [], ◌∷◌, length, Contains, refl, sym, ap, ◌∙◌, subst, inl, inr, arith, All, true≢false}
 use Rattle.std.specs.List.{range_with_len}
 use Rattle.std.proofs.lemmas.List.Elements.{All-map, All-nil, All-cons, All-head, All-tail, Contains-get_or, Contains-push_cases}
 use Rattle.std.proofs.lemmas.Option.{same_Some}
-use Rattle.word_automata.specs.Path.{Node, edges_of, is_accepting}
+use Rattle.word_automata.specs.Path.{edges_of}
 use Rattle.transducers.specs.declared.Label.{Label}
-use Rattle.transducers.specs.Transducer.{Transducer, IsEdge, Relates, RelatesFrom}
+use Rattle.transducers.specs.Transducer.{Transducer, IsEdge, Relates}
 use Rattle.transducers.specs.Builder.{without_states, with_state, with_start, with_edges}
-use Rattle.transducers.specs.Combination.{copy_edge, copy_edges}
+use Rattle.transducers.specs.Combination.{exchange, copy_edge, copy_edges}
 use Rattle.transducers.proofs.ListLemmas.{Contains-map_cases, Contains-map_image, Contains-range_cases, Contains-range}
-use Rattle.transducers.proofs.ExchangeLemmas.{exchange, Exchanges, HasExchanges, RelatesFrom-exchanges, exchanges_from_RelatesFrom}
+use Rattle.transducers.proofs.ExchangeLemmas.{Exchanges, HasExchanges, RelatesFrom-exchanges, exchanges_from_RelatesFrom}
 
 -- the letters from the offset on
 abbrev pub IsLetter : ℕ → ℕ → ℕ → Type 0
@@ -19,8 +19,8 @@ IsLetter offset count a = (offset ≤ a) × (a < offset + count)
 pub IsEdge-copies : (letters offset count n to : ℕ) → offset + count ≤ letters → to < n → All (IsEdge letters n) (copy_edges offset count to)
 IsEdge-copies letters offset count n to fits h =
     All-map (IsEdge letters n) (copy_edge to) (range_with_len offset count)
-      (λ k d lt. let a = Contains-range_cases offset count _ (Contains-get_or (range_with_len offset count) k d lt) in
-        record { read_in_range = omega (arith, a.1, fits); write_in_range = omega (arith, a.1, fits); reads_or_writes = inl refl; target_in_range = h })
+    (λ k d lt. let a = Contains-range_cases offset count _ (Contains-get_or (range_with_len offset count) k d lt) in
+    record { read_in_range = omega (arith, a.1, fits); write_in_range = omega (arith, a.1, fits); reads_or_writes = inl refl; target_in_range = h })
 
 -- a copying edge, by its parts
 pub copy_from_edge : (offset count to a b q : ℕ) → Contains (copy_edges offset count to) (exchange a b, q) → IsLetter offset count a × (a ≡ b) × (q ≡ to)
@@ -118,9 +118,10 @@ module _ (letters offset count : ℕ) where
   copying (a ∷ u) h = (0, copy_edge_from_letter offset count 0 a (All-head (IsLetter offset count) a u h), copying u (All-tail (IsLetter offset count) a u h))
 
   pub Relates-any_copy : (u w : List ℕ) → (Relates (any_copy letters offset count) u w → (u ≡ w) × All (IsLetter offset count) u) × ((u ≡ w) × All (IsLetter offset count) u → Relates (any_copy letters offset count) u w)
-  Relates-any_copy u w =
-      (λ r. copied u w r.start (sym (Contains-single 0 r.start r.is_start)) (exchanges_from_RelatesFrom (any_copy letters offset count) any_exchanges u w r.start r.run),
-       λ h. record { start = 0; is_start = (0, omega arith, refl); run = RelatesFrom-exchanges (any_copy letters offset count) u w 0 (subst (λ v. Exchanges (any_copy letters offset count).states 0 u v) h.0 (copying u h.1)) })
+  Relates-any_copy u w = (
+    λ r. copied u w r.start (sym (Contains-single 0 r.start r.is_start)) (exchanges_from_RelatesFrom (any_copy letters offset count) any_exchanges u w r.start r.run),
+    λ h. record { start = 0; is_start = (0, omega arith, refl); run = RelatesFrom-exchanges (any_copy letters offset count) u w 0 (subst (λ v. Exchanges (any_copy letters offset count).states 0 u v) h.0 (copying u h.1)) },
+  )
 
   one_exchanges : HasExchanges (one_copy letters offset count).states
   one_exchanges = record { exchanges = each }
@@ -147,7 +148,8 @@ module _ (letters offset count : ℕ) where
 
   pub Relates-one_copy : (u w : List ℕ) → (Relates (one_copy letters offset count) u w → (a : ℕ) × (offset ≤ a) × (a < offset + count) × (u ≡ a ∷ []) × (w ≡ a ∷ []))
       × ((a : ℕ) × (offset ≤ a) × (a < offset + count) × (u ≡ a ∷ []) × (w ≡ a ∷ []) → Relates (one_copy letters offset count) u w)
-  Relates-one_copy u w =
-      (λ r. one_copied u w (subst (λ p. Exchanges (one_copy letters offset count).states p u w) (sym (Contains-single 0 r.start r.is_start)) (exchanges_from_RelatesFrom (one_copy letters offset count) one_exchanges u w r.start r.run)),
-       λ h. let run : Exchanges (one_copy letters offset count).states 0 (h.0 ∷ []) (h.0 ∷ []) = (1, copy_edge_from_letter offset count 1 h.0 (h.1, h.2), refl) in
-         record { start = 0; is_start = (0, omega arith, refl); run = RelatesFrom-exchanges (one_copy letters offset count) u w 0 (subst (λ v. Exchanges (one_copy letters offset count).states 0 u v) (sym h.4) (subst (λ v. Exchanges (one_copy letters offset count).states 0 v (h.0 ∷ [])) (sym h.3) run)) })
+  Relates-one_copy u w = (
+    λ r. one_copied u w (subst (λ p. Exchanges (one_copy letters offset count).states p u w) (sym (Contains-single 0 r.start r.is_start)) (exchanges_from_RelatesFrom (one_copy letters offset count) one_exchanges u w r.start r.run)),
+    λ h. let run : Exchanges (one_copy letters offset count).states 0 (h.0 ∷ []) (h.0 ∷ []) = (1, copy_edge_from_letter offset count 1 h.0 (h.1, h.2), refl) in
+        record { start = 0; is_start = (0, omega arith, refl); run = RelatesFrom-exchanges (one_copy letters offset count) u w 0 (subst (λ v. Exchanges (one_copy letters offset count).states 0 u v) (sym h.4) (subst (λ v. Exchanges (one_copy letters offset count).states 0 v (h.0 ∷ [])) (sym h.3) run)) },
+  )

@@ -1,12 +1,9 @@
 -- Transducers whose edges each read one letter and write one letter.
-use Rattle.std.proofs.Common.{◌≡◌, ℕ, zero, suc, ◌+◌, ◌<◌, ◌≤◌, Bool, true, false, List, [], ◌∷◌, ◌++◌, map, length, Option, Some, None, Contains, refl, sym, ap, ◌∙◌, subst, inl, inr, arith, IsTrue, ◌⊎◌}
+use Rattle.std.proofs.Common.{◌≡◌, ℕ, List, [], ◌∷◌, ◌++◌, Contains, refl, sym, ap, subst, IsTrue}
 use Rattle.word_automata.specs.Path.{Node, edges_of, is_accepting, IsPath, spelled, spelled_one}
 use Rattle.transducers.specs.declared.Label.{Label}
 use Rattle.transducers.specs.Transducer.{Transducer, RelatesFrom, read_of, write_of}
-
--- the label that reads the letter a and writes the letter b
-abbrev pub exchange : ℕ → ℕ → Label
-exchange a b = record { read = Some a; write = Some b }
+use Rattle.transducers.specs.Combination.{exchange}
 
 -- the words are read and written letter by letter, along edges from the state p to an accepting state
 abbrev pub Exchanges : List (Node Label) → ℕ → List ℕ → List ℕ → Type 0

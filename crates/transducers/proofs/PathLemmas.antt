@@ -1,12 +1,11 @@
 -- Lemmas on the edges and paths of graphs, and of a graph that holds another.
-use Rattle.std.proofs.Common.{◌≡◌, ℕ, zero, suc, ◌+◌, ◌<◌, ◌≤◌, Bool, true, false, List, [], ◌∷◌, ◌++◌, map, length, slice_get, Option, Some, None, Contains, refl, sym, ap, ◌∙◌, subst, inl, inr, arith, IsTrue, ◌⊎◌, All, true≢false}
+use Rattle.std.proofs.Common.{◌≡◌, ℕ, ◌+◌, ◌<◌, true, false, List, [], ◌∷◌, ◌++◌, map, length, slice_get, Option, Some, Contains, refl, sym, ap, ◌∙◌, subst, inl, inr, arith, IsTrue, All, true≢false}
 use Rattle.std.proofs.lemmas.List.Elements.{All-contains}
-use Rattle.std.proofs.lemmas.Option.{slice_get_within}
 use Rattle.word_automata.specs.Path.{Node, edges_of, is_accepting, IsPath, spelled, spelled_one}
 use Rattle.transducers.specs.declared.Label.{Label}
 use Rattle.transducers.specs.Transducer.{Transducer, IsValid, IsEdge, RelatesFrom, read_of, write_of}
 use Rattle.transducers.specs.Combination.{shifted_edge, shifted_node}
-use Rattle.transducers.proofs.ListLemmas.{slice_get-cases, slice_get-within, place_from_Contains, Contains-from_place, Contains-map_cases, Contains-map_image}
+use Rattle.transducers.proofs.ListLemmas.{slice_get-cases, slice_get-within, Contains-from_place, Contains-map_cases, Contains-map_image}
 
 -- the edges and the flag of a state that is there
 pub edges_of-at : {L : Type 0} (states : List (Node L)) (p : ℕ) (node : Node L) → slice_get states p ≡ Some node → edges_of states p ≡ node.edges
@@ -19,15 +18,15 @@ is_accepting-at states p node e = rw (e, is_accepting)
 pub node_from_edge : {L : Type 0} (states : List (Node L)) (p : ℕ) (edge : L × ℕ) → Contains (edges_of states p) edge → (node : Node L) × (slice_get states p ≡ Some node) × Contains node.edges edge
 node_from_edge states p edge h =
     elim (slice_get-cases states p) [
-      inl (node, e) ↦ (node, e, subst (λ edges. Contains edges edge) (edges_of-at states p node e) h)
-    | inr none ↦ (let empty : edges_of states p ≡ [] = rw (none, edges_of) in let h' = subst (λ edges. Contains edges edge) empty h in absurd (omega (arith, h'.1)))
+      | inl (node, e) ↦ (node, e, subst (λ edges. Contains edges edge) (edges_of-at states p node e) h)
+      | inr none ↦ (let empty : edges_of states p ≡ [] = rw (none, edges_of) in let h' = subst (λ edges. Contains edges edge) empty h in absurd (omega (arith, h'.1)))
     ]
 
 pub node_from_accepting : {L : Type 0} (states : List (Node L)) (p : ℕ) → IsTrue (is_accepting states p) → (node : Node L) × (slice_get states p ≡ Some node) × (node.accepting ≡ true)
 node_from_accepting states p h =
     elim (slice_get-cases states p) [
-      inl (node, e) ↦ (node, e, sym (is_accepting-at states p node e) ∙ h)
-    | inr none ↦ (let no' : is_accepting states p ≡ false = rw (none, is_accepting) in absurd (true≢false (sym h ∙ no')))
+      | inl (node, e) ↦ (node, e, sym (is_accepting-at states p node e) ∙ h)
+      | inr none ↦ (let no' : is_accepting states p ≡ false = rw (none, is_accepting) in absurd (true≢false (sym h ∙ no')))
     ]
 
 -- the targets of a valid transducer's edges are states of its own
@@ -49,9 +48,10 @@ module _ (n : ℕ) (part whole : List (Node Label)) (embeds : Embeds n part whol
   pub IsPath-embed : (moves : List (Label × ℕ)) (p q : ℕ) → IsPath part p moves q → IsPath whole (p + n) (map (shifted_edge n) moves) (q + n)
   IsPath-embed [] p q path = ap (λ r. r + n) path
   IsPath-embed (move ∷ moves) p q path =
-      let at = node_from_edge part p move path.0 in
-      (subst (λ edges. Contains edges (shifted_edge n move)) (sym (edges_of-at whole (p + n) (shifted_node n at.0) (embeds.at p at.0 at.1))) (Contains-map_image (shifted_edge n) at.0.edges move at.2),
-       IsPath-embed moves move.1 q path.1)
+      let at = node_from_edge part p move path.0 in (
+        subst (λ edges. Contains edges (shifted_edge n move)) (sym (edges_of-at whole (p + n) (shifted_node n at.0) (embeds.at p at.0 at.1))) (Contains-map_image (shifted_edge n) at.0.edges move at.2),
+        IsPath-embed moves move.1 q path.1,
+      )
 
   pub is_accepting-embed : (p : ℕ) → IsTrue (is_accepting part p) → IsTrue (is_accepting whole (p + n))
   is_accepting-embed p h =

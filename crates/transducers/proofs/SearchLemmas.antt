@@ -1,5 +1,5 @@
 -- Lemmas on the search for a path that reads one word and writes another.
-use Rattle.std.proofs.Common.{◌≡◌, ℕ, zero, suc, ◌+◌, ◌<◌, ◌≤◌, Bool, true, false, List, [], ◌∷◌, ◌++◌, length, drop, slice_get, Option, Some, None, Contains, refl, sym, ap, ◌∙◌, subst, inl, inr, arith, IsTrue, length-drop, get_or, ◌⊎◌, if◌then◌else◌, add-one}
+use Rattle.std.proofs.Common.{◌≡◌, ℕ, ◌+◌, ◌<◌, ◌≤◌, Bool, true, false, List, [], ◌∷◌, ◌++◌, length, drop, slice_get, Some, Contains, refl, sym, ap, ◌∙◌, subst, inl, inr, arith, IsTrue, length-drop, get_or, ◌⊎◌, if◌then◌else◌}
 use Rattle.std.specs.List.{list_any}
 use Rattle.std.proofs.lemmas.List.Elements.{Contains-push_cases, Contains-append_left, Contains-push}
 use Rattle.std.proofs.lemmas.Option.{same_Some, slice_get_within, slice_get-get_or}
@@ -38,7 +38,7 @@ AreStarts-more starts q old new so more =
     record {
       all = λ r h. elim (Contains-push_cases starts q r h) [ inl before ↦ (let at = so.all r before in (at.0, more.grows.stays at.0 _ at.1)) | inr is ↦ subst (λ x. IsAmong new (record { read = 0; written = 0; state = x })) is more.inserted ];
       only = λ k p h. elim (more.grows.fresh k p h) [
-          inl among ↦ (let o = so.only among.0 p among.1 in (o.0, o.1, Contains-append_left starts (q ∷ []) p.state o.2))
+        | inl among ↦ (let o = so.only among.0 p among.1 in (o.0, o.1, Contains-append_left starts (q ∷ []) p.state o.2))
         | inr is ↦ subst (λ x. (x.read ≡ 0) × (x.written ≡ 0) × Contains (starts ++ q ∷ []) x.state) (sym is) (refl, refl, Contains-push starts q)
       ];
     }
@@ -70,12 +70,12 @@ module _ (edges : List (Label × ℕ)) (u w : List ℕ) (p : Position) (edge : L
         grows = record {
           stays = λ k r h. inserts.grows.stays k r (so.grows.stays k r h);
           fresh = λ k r h. elim (inserts.grows.fresh k r h) [
-              inl among ↦ elim (so.grows.fresh among.0 r among.1) [ inl before ↦ inl before | inr leads ↦ inr (wider r leads) ]
+            | inl among ↦ elim (so.grows.fresh among.0 r among.1) [ inl before ↦ inl before | inr leads ↦ inr (wider r leads) ]
             | inr is ↦ inr (subst (Leads (edges ++ edge ∷ []) u w p) (sym is) (record { edge = edge; is_edge = Contains-push edges edge; follows = follows }))
           ];
         };
         followed = λ e h. elim (Contains-push_cases edges edge e h) [
-            inl before ↦ IsFollowed-grows (λ r. r ≡ q) u w mid new p e inserts.grows (so.followed e before)
+          | inl before ↦ IsFollowed-grows (λ r. r ≡ q) u w mid new p e inserts.grows (so.followed e before)
           | inr is ↦ subst (IsFollowed u w new p) is (inr (q, follows, inserts.inserted))
         ];
       }
@@ -122,22 +122,23 @@ module _ (t : Transducer) (u w : List ℕ) where
   IsSearching-step old new next position so at no_end expands =
       record {
         sound = λ k p h run. elim (expands.grows.fresh k p h) [
-            inl among ↦ so.sound among.0 p among.1 run
+          | inl among ↦ so.sound among.0 p among.1 run
           | inr leads ↦ so.sound next position at (RelatesFrom-step position p leads.edge leads.is_edge leads.follows run)
         ];
         starts = λ q h. let a = so.starts q h in (a.0, expands.grows.stays a.0 _ a.1);
         followed = λ k p below h edge is_edge. elim (before k p below h) [
-            inl old_one ↦ IsFollowed-grows _ u w old new p edge expands.grows (so.followed k p old_one.0 old_one.1 edge is_edge)
+          | inl old_one ↦ IsFollowed-grows _ u w old new p edge expands.grows (so.followed k p old_one.0 old_one.1 edge is_edge)
           | inr is ↦ (let is_edge' = subst (λ x. Contains (edges_of t.states x.state) edge) is is_edge in subst (λ x. IsFollowed u w new x edge) (sym is) (expands.followed edge is_edge'))
         ];
         no_end = λ k p below h ends. elim (before k p below h) [
-            inl old_one ↦ so.no_end k p old_one.0 old_one.1 ends
+          | inl old_one ↦ so.no_end k p old_one.0 old_one.1 ends
           | inr is ↦ no_end (subst (IsEnd t u w) is ends)
         ];
       }
     where
       within : next < length old
       within = slice_get_within old next position at
+
       before : (k : ℕ) (p : Position) → k < next + 1 → slice_get new k ≡ Some p → ((k < next) × (slice_get old k ≡ Some p)) ⊎ (p ≡ position)
       before k p below h =
           let old_at : slice_get old k ≡ Some (get_or old k position) = slice_get-get_or old k position (omega (arith, within)) in
@@ -153,9 +154,9 @@ module _ (t : Transducer) (u w : List ℕ) where
       so.no_end k p (omega (arith, slice_get_within found k p at)) at (record { read_all = omega (arith, length-drop p.read u, ap length reads); written_all = omega (arith, length-drop p.written w, ap length writes); accepts = subst (λ q. IsTrue (is_accepting t.states q)) (sym path) accepts })
   no_run found next so all (edge ∷ moves) last k p at path accepts reads writes =
       elim (so.followed k p (omega (arith, slice_get_within found k p at)) at edge path.0) [
-        inl blocked ↦ blocked (spelled read_of moves) (spelled write_of moves) (sym reads) (sym writes)
-      | inr (q, follows, among) ↦
-          no_run found next so all moves last among.0 q among.1
+        | inl blocked ↦ blocked (spelled read_of moves) (spelled write_of moves) (sym reads) (sym writes)
+        | inr (q, follows, among) ↦
+            no_run found next so all moves last among.0 q among.1
             (subst (λ r. IsPath t.states r moves last) (sym follows.target) path.1) accepts
             (spelled_one-cancel edge.0.read _ _ (reads ∙ follows.reads)) (spelled_one-cancel edge.0.write _ _ (writes ∙ follows.writes))
       ]

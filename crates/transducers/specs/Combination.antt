@@ -1,9 +1,8 @@
 -- States that are numbered anew, or whose edges are turned round.
-use Rattle.std.specs.Prelude.{ℕ, ◌+◌, List, map}
+use Rattle.std.specs.Prelude.{ℕ, ◌+◌, List, Some, map}
 use Rattle.std.specs.List.{range_with_len}
 use Rattle.word_automata.specs.Path.{Node}
 use Rattle.transducers.specs.declared.Label.{Label}
-use Rattle.std.specs.Prelude.{Some}
 
 -- the edge, with its target's number raised
 abbrev pub shifted_edge : ℕ → Label × ℕ → Label × ℕ
@@ -21,9 +20,13 @@ inverse_edge edge = (record { read = edge.0.write; write = edge.0.read }, edge.1
 abbrev pub inverse_node : Node Label → Node Label
 inverse_node node = record { accepting = node.accepting; edges = map inverse_edge node.edges }
 
+-- the label that reads the letter a and writes the letter b
+abbrev pub exchange : ℕ → ℕ → Label
+exchange a b = record { read = Some a; write = Some b }
+
 -- the edge that reads the letter and writes it again
 abbrev pub copy_edge : ℕ → ℕ → Label × ℕ
-copy_edge to a = (record { read = Some a; write = Some a }, to)
+copy_edge to a = (exchange a a, to)
 
 -- one such edge for each of the letters from the offset on
 abbrev pub copy_edges : ℕ → ℕ → ℕ → List (Label × ℕ)

@@ -1,5 +1,5 @@
 -- The positions of the search for a path that reads one word and writes another.
-use Rattle.std.specs.Prelude.{◌≡◌, ℕ, ◌≤◌, List, [], ◌∷◌, ◌++◌, Option, Some, None, IsTrue, ◌⊎◌, Contains, length, slice_get, drop}
+use Rattle.std.specs.Prelude.{◌≡◌, ℕ, ◌≤◌, List, ◌++◌, Some, IsTrue, ◌⊎◌, Contains, length, slice_get, drop}
 use Rattle.word_automata.specs.Path.{is_accepting, spelled_one}
 use Rattle.transducers.specs.declared.Label.{Label}
 use Rattle.transducers.specs.declared.search.Position.{Position}

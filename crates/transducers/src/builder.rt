@@ -3,10 +3,9 @@
 ghost use Rattle.std.specs.Prelude.{◌≡◌, ◌<◌, ◌⊎◌, ◌∷◌, [], All, IfSome, IsSome, IfOk, OnOk, OnErr, length};
 ghost use Rattle.transducers.specs.Builder.{without_states, with_state, with_start, with_edges};
 
+use crate::{Label, State, Transducer};
 use std::alloc::{AllocError, Global};
 use std::marker::Model;
-
-use crate::{Label, State, Transducer};
 
 /// A transducer that is being built. After want of memory it is as before the call.
 #[derive(Drop)]
@@ -65,7 +64,13 @@ impl TransducerBuilder {
     }
 
     /// Adds an edge from the state `from` to the state `to`, which reads and writes the given letters.
-    pub fn edge(&mut self, from: usize, read: Option<u32>, write: Option<u32>, to: usize) -> Result<(), AllocError>
+    pub fn edge(
+        &mut self,
+        from: usize,
+        read: Option<u32>,
+        write: Option<u32>,
+        to: usize,
+    ) -> Result<(), AllocError>
         requires from_in_range { from < length self.old.states }
         requires read_in_range { IfSome read (λ a. a < self.old.letters) }
         requires write_in_range { IfSome write (λ a. a < self.old.letters) }
@@ -95,7 +100,16 @@ impl TransducerBuilder {
     pub fn finish(self) -> Transducer
         ensures { result ≡ self }
     {
-        let TransducerBuilder { alloc: _, letters, starts, states } = self;
-        Transducer { letters, starts, states }
+        let TransducerBuilder {
+            alloc: _,
+            letters,
+            starts,
+            states,
+        } = self;
+        Transducer {
+            letters,
+            starts,
+            states,
+        }
     }
 }

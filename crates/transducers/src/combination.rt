@@ -4,9 +4,8 @@ ghost use Rattle.std.specs.Prelude.{◌≡◌, ◌↔◌, ◌+◌, ◌^◌, ◌<
 ghost use Rattle.transducers.specs.Transducer.{Relates};
 ghost use Rattle.transducers.specs.Combination.{shifted_edge, shifted_node, inverse_edge, inverse_node};
 
-use std::alloc::{AllocError, Global};
-
 use crate::{Label, State, Transducer};
+use std::alloc::{AllocError, Global};
 
 /// The transducer that relates what `a` or `b` relates.
 pub fn either(alloc: Global, a: &Transducer, b: &Transducer) -> Result<Transducer, AllocError>
@@ -65,7 +64,12 @@ fn push_starts(starts: &mut Vec<usize>, t: &Transducer, by: usize) -> Result<(),
 }
 
 /// Appends the states of `t`, with their targets' numbers raised by `by`.
-fn push_states(alloc: Global, states: &mut Vec<State>, t: &Transducer, by: usize) -> Result<(), AllocError>
+fn push_states(
+    alloc: Global,
+    states: &mut Vec<State>,
+    t: &Transducer,
+    by: usize,
+) -> Result<(), AllocError>
     requires { length t.now.states + by < 2 ^ 64 }
     ensures { OnOk result (states.new.items ≡ states.old.items ++ map (shifted_node by) t.now.states) }
 {
@@ -99,18 +103,28 @@ fn inverse_state(alloc: Global, state: &State) -> Result<State, AllocError>
 }
 
 /// The edges with their targets' numbers raised by `by`.
-fn shifted_edges(alloc: Global, edges: &[(Label, usize)], by: usize) -> Result<Vec<(Label, usize)>, AllocError>
+fn shifted_edges(
+    alloc: Global,
+    edges: &[(Label, usize)],
+    by: usize,
+) -> Result<Vec<(Label, usize)>, AllocError>
     requires { All (λ edge. edge.1 + by < 2 ^ 64) edges.now }
     ensures { IfOk result (λ shifted. shifted.items ≡ map (shifted_edge by) edges.now) }
 {
-    edges.iter().map(|edge| (edge.0, edge.1 + by)).collect(alloc)
+    edges
+        .iter()
+        .map(|edge| (edge.0, edge.1 + by))
+        .collect(alloc)
 }
 
 /// The edges turned round.
 fn inverse_edges(alloc: Global, edges: &[(Label, usize)]) -> Result<Vec<(Label, usize)>, AllocError>
     ensures { IfOk result (λ turned. turned.items ≡ map inverse_edge edges.now) }
 {
-    edges.iter().map(|edge| (turned(edge.0), edge.1)).collect(alloc)
+    edges
+        .iter()
+        .map(|edge| (turned(edge.0), edge.1))
+        .collect(alloc)
 }
 
 /// The label that reads what `label` writes, and writes what it reads.

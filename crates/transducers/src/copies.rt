@@ -4,12 +4,16 @@ ghost use Rattle.std.specs.Prelude.{◌≡◌, ◌↔◌, ◌+◌, ◌^◌, ◌<
 ghost use Rattle.transducers.specs.Transducer.{Relates};
 ghost use Rattle.transducers.specs.Combination.{copy_edges};
 
+use crate::{Label, Transducer, TransducerBuilder};
 use std::alloc::{AllocError, Global};
 
-use crate::{Label, Transducer, TransducerBuilder};
-
 /// The edges to the state `to` that copy a letter, one for each of the `count` letters from `offset` on.
-pub fn copy_edges(alloc: Global, offset: u32, count: u32, to: usize) -> Result<Vec<(Label, usize)>, AllocError>
+pub fn copy_edges(
+    alloc: Global,
+    offset: u32,
+    count: u32,
+    to: usize,
+) -> Result<Vec<(Label, usize)>, AllocError>
     requires { offset + count < 2 ^ 32 }
     ensures { IfOk result (λ edges. edges.items ≡ copy_edges offset count to) }
 {
@@ -27,7 +31,12 @@ pub fn copy_edges(alloc: Global, offset: u32, count: u32, to: usize) -> Result<V
 }
 
 /// The transducer that relates each word over the `count` letters from `offset` on to itself.
-pub fn copy_any(alloc: Global, letters: u32, offset: u32, count: u32) -> Result<Transducer, AllocError>
+pub fn copy_any(
+    alloc: Global,
+    letters: u32,
+    offset: u32,
+    count: u32,
+) -> Result<Transducer, AllocError>
     requires { offset + count ≤ letters }
     ensures letters { IfOk result (λ t. t.letters ≡ letters) }
     ensures copies { IfOk result (λ t. (u w : List ℕ) → Relates t u w ↔ ((u ≡ w) × All (λ a. (offset ≤ a) × (a < offset + count)) u)) }
@@ -41,7 +50,12 @@ pub fn copy_any(alloc: Global, letters: u32, offset: u32, count: u32) -> Result<
 }
 
 /// The transducer that relates each word of one letter, of the `count` letters from `offset` on, to itself.
-pub fn copy_one(alloc: Global, letters: u32, offset: u32, count: u32) -> Result<Transducer, AllocError>
+pub fn copy_one(
+    alloc: Global,
+    letters: u32,
+    offset: u32,
+    count: u32,
+) -> Result<Transducer, AllocError>
     requires { offset + count ≤ letters }
     ensures letters { IfOk result (λ t. t.letters ≡ letters) }
     ensures copies { IfOk result (λ t. (u w : List ℕ) → Relates t u w ↔ ((a : ℕ) × (offset ≤ a) × (a < offset + count) × (u ≡ a ∷ []) × (w ≡ a ∷ []))) }

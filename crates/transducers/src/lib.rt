@@ -8,14 +8,14 @@ mod search;
 
 ghost use Rattle.std.specs.Prelude.{◌≡◌, ◌<◌, ◌^◌, IfOk, length};
 ghost use Rattle.word_automata.specs.Path.{edges_of, is_accepting};
-
-use std::alloc::{AllocError, Global};
-use std::marker::Model;
+ghost use Rattle.transducers.specs.Combination.{exchange};
 
 pub use builder::TransducerBuilder;
 pub use combination::{either, inverse};
 pub use copies::{copy_any, copy_edges, copy_one};
 pub use search::relates;
+use std::alloc::{AllocError, Global};
+use std::marker::Model;
 
 /// What an edge reads and what it writes: a letter each, or nothing. Each edge does at least one of the two.
 #[derive(Clone, Copy, PartialEq, Eq, Debug)]
@@ -24,9 +24,21 @@ pub struct Label {
     pub write: Option<u32>,
 }
 
+impl Label {
+    /// The label that reads the letter `read` and writes the letter `write`.
+    pub fn exchange(read: u32, write: u32) -> Label
+        ensures { result ≡ exchange read write }
+    {
+        Label {
+            read: Some(read),
+            write: Some(write),
+        }
+    }
+}
+
 /// A state: whether it accepts, and its edges, each a label and the number of the target state.
 #[derive(Drop, Debug)]
-struct State {
+pub struct State {
     accepting: bool,
     edges: Vec<(Label, usize)>,
 }
@@ -38,6 +50,15 @@ impl Model for State {
     ghost Value = { Node Label };
 
     ghost view = { λ s. record { accepting = s.accepting; edges = s.edges.items } };
+}
+
+impl State {
+    /// The state with these edges. It takes no memory.
+    pub fn new(accepting: bool, edges: Vec<(Label, usize)>) -> State
+        ensures { result ≡ record { accepting = accepting; edges = edges.items } }
+    {
+        State { accepting, edges }
+    }
 }
 
 /// A transducer: a number of letters, start states, and states with their edges. The letters and states that it names
@@ -62,6 +83,18 @@ impl Model for Transducer {
 
 impl Transducer {
     ghost use Rattle.transducers.specs.Transducer.{IsValid};
+
+    /// The transducer with these states. It takes no memory.
+    pub fn from_states(letters: u32, starts: Vec<usize>, states: Vec<State>) -> Transducer
+        requires { IsValid (record { letters = letters; starts = starts.items; states = states.items }) }
+        ensures { result ≡ record { letters = letters; starts = starts.items; states = states.items } }
+    {
+        Transducer {
+            letters,
+            starts,
+            states,
+        }
+    }
 
     /// The number of letters.
     pub fn letters(&self) -> u32

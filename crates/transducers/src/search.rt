@@ -6,10 +6,9 @@ ghost use Rattle.word_automata.specs.Path.{edges_of, spelled_one};
 ghost use Rattle.transducers.specs.Transducer.{Relates};
 ghost use Rattle.transducers.specs.Search.{Inserts, Follows, IsBlocked, IsEnd, AreStarts, Expands};
 
+use crate::{Label, Transducer};
 use indexmap::IndexSet;
 use std::alloc::{AllocError, Global};
-
-use crate::{Label, Transducer};
 
 /// How many letters are read and how many are written, and the state.
 #[derive(Clone, Copy, PartialEq, Eq, Hash, Debug)]

@@ -1,4 +1,4 @@
-use Rattle.std.proofs.Common.{◌≡◌, ◌⊎◌, List, ℕ, ◌∙◌, sym, ap, subst}
+use Rattle.std.proofs.Common.{◌≡◌, ◌⊎◌, sym, ap, subst}
 use Rattle.transducers.specs.Transducer.{Transducer, IsValid, Relates}
 use Rattle.transducers.proofs.CombinationLemmas.{union_of, union-is, appended_twice, IsValid-union, Relates-union}
 use Rattle.transducers.proofs.combination.either.Goals as goal
@@ -11,8 +11,8 @@ is_union : (c : After-a) → the_transducer c ≡ union_of c.args.a.now c.args.b
 unfolding the_transducer
 is_union c =
     union-is c.args.a.now c.args.b.now _ c.states-behind.result _ _ (ap (λ t. t.letters) c.a.view_is) c.states-behind.ensures.states
-      (appended_twice _ _ _ _ _ c.new-starts.ensures.items c.in_ok-push_starts.ensures c.in_ok-push_starts-2.ensures)
-      (appended_twice _ _ _ _ _ c.in_ok-states.ensures.items c.in_ok-push_states.ensures c.in_ok-push_states-2.ensures)
+    (appended_twice _ _ _ _ _ c.new-starts.ensures.items c.in_ok-push_starts.ensures c.in_ok-push_starts-2.ensures)
+    (appended_twice _ _ _ _ _ c.in_ok-states.ensures.items c.in_ok-push_states.ensures c.in_ok-push_states-2.ensures)
 
 pub invariant_of-result : goal.invariant_of-result
 unfolding the_transducer
@@ -22,4 +22,4 @@ pub returns-clause-union : goal.returns-clause-union
 unfolding the_transducer
 returns-clause-union c u w =
     subst (λ t. (Relates t u w → Relates c.args.a.now u w ⊎ Relates c.args.b.now u w) × (Relates c.args.a.now u w ⊎ Relates c.args.b.now u w → Relates t u w)) (sym (is_union c))
-      (Relates-union c.args.a.now c.args.b.now c.states-behind.ensures.valid c.states.ensures.valid c.requires u w)
+    (Relates-union c.args.a.now c.args.b.now c.states-behind.ensures.valid c.states.ensures.valid c.requires u w)

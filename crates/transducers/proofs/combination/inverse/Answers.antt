@@ -1,6 +1,5 @@
-use Rattle.std.proofs.Common.{◌≡◌, List, ℕ, map, ◌∙◌, sym, ap, subst}
+use Rattle.std.proofs.Common.{◌≡◌, ◌∙◌, sym, ap, subst}
 use Rattle.transducers.specs.Transducer.{Transducer, IsValid, Relates}
-use Rattle.transducers.specs.Combination.{inverse_node}
 use Rattle.transducers.proofs.CombinationLemmas.{inverse_of, IsValid-inverse, Relates-inverse}
 use Rattle.transducers.proofs.combination.inverse.Goals as goal
 use Rattle.transducers.proofs.combination.inverse.Goals.{In_ok-states}

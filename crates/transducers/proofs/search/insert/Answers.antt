@@ -1,4 +1,4 @@
-use Rattle.std.proofs.Common.{rules, ◌≡◌, true, sym}
+use Rattle.std.proofs.Common.{rules, ◌≡◌, true}
 use Rattle.transducers.specs.contracts.search.PositionPartialEq.TheImpl.{eq-value}
 use Rattle.transducers.specs.declared.search.Position.{Position}
 use Rattle.transducers.proofs.SearchLemmas.{Inserts-insert_key}

@@ -1,5 +1,5 @@
-use Rattle.std.proofs.Common.{◌<◌, ◌≤◌, ◌≡◌, arith, IsTrue, refl, sym, ◌∙◌, true≢false}
-use Rattle.transducers.proofs.SearchLemmas.{related, not_related, IsSearching-step, IsSearching-start}
+use Rattle.std.proofs.Common.{arith, refl, sym, true≢false}
+use Rattle.transducers.proofs.SearchLemmas.{related, not_related, IsSearching-step}
 use Rattle.transducers.proofs.search.relates.Goals as goal
 
 pub returns-then-is_end : goal.returns-then-is_end

@@ -1,4 +1,4 @@
-use Rattle.std.proofs.Common.{◌≡◌, ◌<◌, ◌++◌, List, ℕ, All, length, get_or, set, sym, ap, subst, ◌∙◌}
+use Rattle.std.proofs.Common.{◌≡◌, ◌<◌, List, All, length, get_or, set, sym, ap, subst, ◌∙◌}
 use Rattle.word_automata.specs.Path.{Node}
 use Rattle.transducers.specs.declared.Label.{Label}
 use Rattle.transducers.specs.Transducer.{Transducer, IsEdge}
@@ -15,8 +15,8 @@ returns-clause-added c =
     let lt : c.args.from < length items = subst (λ t. c.args.from < length t.states) (sym c.self.view_is) c.requires.from_in_range in
     let at : node ≡ get_or items c.args.from node = subst (λ n. n ≡ get_or items c.args.from n) (sym c.state.view_is) c.index_mut-state.ensures.value in
     ap (λ after. with_states (set items c.args.from (record { accepting = node.accepting; edges = after }))) c.in_ok-extend_from_slice.ensures.items
-      ∙ ap with_states (set-add_edges items c.args.from node edges lt at)
-      ∙ ap (λ t. with_edges t c.args.from edges) c.self.view_is
+    ∙ ap with_states (set-add_edges items c.args.from node edges lt at)
+    ∙ ap (λ t. with_edges t c.args.from edges) c.self.view_is
 
 pub invariant_of-self-2 : goal.invariant_of-self-2
 invariant_of-self-2 c =

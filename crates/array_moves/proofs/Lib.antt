@@ -1,0 +1,7 @@
+mod LetterLemmas
+mod FixedLemmas
+mod PhaseLemmas
+mod GuardLemmas
+mod RunLemmas
+mod MachineLemmas
+mod TrimLemmas

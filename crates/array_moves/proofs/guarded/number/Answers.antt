@@ -1,0 +1,26 @@
+use Rattle.std.proofs.Common.{◌≡◌, Bool, true, false, ◌&&◌, refl, sym, subst, Some, slice_get, true≢false}
+use mathlib.Core.Bool.{beq}
+use lib.Pointwise.{pointwise, pointwise_decides}
+use Rattle.array_moves.specs.contracts.plan.PhasePartialEq.TheImpl.{eq-value}
+use Rattle.array_moves.specs.declared.plan.Phase.{Phase}
+use Rattle.array_moves.specs.Phases.{Numbers}
+use Rattle.array_moves.proofs.PhaseLemmas.{beq_decides, Numbers-insert_key}
+use Rattle.array_moves.proofs.guarded.number.Goals as goal
+
+both : (a b : Bool) → (a && b) ≡ true → (a ≡ true) × (b ≡ true)
+both true b h = (refl, h)
+both false b h = absurd (true≢false (sym h))
+
+same : (x y : Phase) → eq-value.it x y ≡ true → x ≡ y
+same x y e =
+    let parts = both (beq x.moved y.moved) (pointwise beq x.met y.met) e in
+    let moved = (beq_decides x.moved y.moved).0 parts.0 in
+    let met = (pointwise_decides {E = beq} beq_decides x.met y.met).0 parts.1 in
+    λ i. record { moved = moved i; met = met i }
+
+pub returns : goal.returns
+returns c =
+    let e = c.in_ok-number.ensures in
+    let at = subst (λ l. slice_get l c.in_ok-number.number ≡ Some e.stored.0) e.keys e.stored.1 in
+    subst (λ new. Numbers c.args.phases.now.keys new c.args.phase c.in_ok-number.number) (sym e.keys)
+    (Numbers-insert_key eq-value.it same c.args.phases.now.keys c.args.phase e.stored.0 c.in_ok-number.number at e.stored.2)

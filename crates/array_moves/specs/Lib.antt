@@ -1,0 +1,4 @@
+pub mod Compiled
+pub mod Fixed
+pub mod Flags
+pub mod Phases

@@ -1,0 +1,74 @@
+//! Array moves as transducers: one transducer relates the arrays before and after a move, of every length.
+#![tactic(auto)]
+
+mod fixed;
+mod guarded;
+mod plan;
+
+ghost use Rattle.std.specs.Prelude.{◌≡◌, ◌↔◌, ◌+◌, ◌≤◌, ℕ, List, IfOk, length};
+ghost use Rattle.protocol_model.specs.System.{IsValidMove, kind_of_move};
+ghost use Rattle.protocol_model.specs.Moves.{IsMove};
+ghost use Rattle.transducers.specs.Transducer.{Relates, IsTrim};
+ghost use Rattle.array_moves.specs.Compiled.{IsRaisedMove};
+
+use fixed::{compile_pair, compile_ring, compile_two};
+use guarded::compile_at;
+use protocol_model::Move;
+use protocol_syntax::Kind;
+use std::alloc::{AllocError, Global};
+use transducers::Transducer;
+
+/// The letters of a section among those of a transducer: the transducer's number of letters, the section's first
+/// letter, and the section's number of letters.
+#[derive(Clone, Copy, Debug)]
+struct Alphabet {
+    letters: u32,
+    offset: u32,
+    count: u32,
+}
+
+/// The transducer over `letters` letters that relates the arrays before and after the array move, each letter raised by
+/// `offset`. The section of the move has `count` letters. It has 32 states at most, however long the arrays are, and each
+/// of them lies on a path from a start state to an accepting state.
+pub fn compile_array(
+    alloc: Global,
+    step: &Move,
+    letters: u32,
+    offset: u32,
+    count: u32,
+) -> Result<Transducer, AllocError>
+    requires array { kind_of_move step.now ≡ Kind.Array }
+    requires valid { IsValidMove count step.now }
+    requires fits { offset + count ≤ letters }
+    ensures letters { IfOk result (λ t. t.letters ≡ letters) }
+    ensures size { IfOk result (λ t. length t.states ≤ 32) }
+    ensures trim { IfOk result IsTrim }
+    ensures relates { IfOk result (λ t. (u w : List ℕ) → Relates t u w ↔ IsRaisedMove (IsMove step.now) offset count u w) }
+{
+    let alphabet = Alphabet {
+        letters,
+        offset,
+        count,
+    };
+    match step {
+        Move::At {
+            from,
+            to,
+            guards,
+            map,
+        } => {
+            compile_at(
+                alloc,
+                *from,
+                *to,
+                guards.as_slice(),
+                map.as_slice(),
+                alphabet,
+            )
+        }
+        Move::Pair { a, b, c, d } => compile_pair(alloc, *a, *b, *c, *d, alphabet),
+        Move::Ring { a, b, c, d } => compile_ring(alloc, *a, *b, *c, *d, alphabet),
+        Move::Two { a, b, c, d } => compile_two(alloc, *a, *b, *c, *d, alphabet),
+        _ => unreachable!(),
+    }
+}

@@ -1,0 +1,3 @@
+pub mod Closures
+pub mod Grouping
+pub mod MoveLists

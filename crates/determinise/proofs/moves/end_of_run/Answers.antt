@@ -1,0 +1,6 @@
+use Rattle.determinise.proofs.MoveLists.{run_ends}
+use Rattle.determinise.proofs.moves.end_of_run.Goals as goal
+
+pub returns-else-moves-end : goal.returns-else-moves-end
+returns-else-moves-end c =
+    run_ends c.args.moves.now c.requires.ordered c.args.at c.run.end c.run.invariant.some c.run-test.true c.run.invariant.same c.if-moves-end.false

@@ -1,0 +1,9 @@
+use Rattle.std.proofs.Common.{◌-◌, ◌^◌}
+use Rattle.word_automata.proofs.StateSets.{IsPartialClosure}
+use Rattle.determinise.proofs.subset.closure.Given as goal
+
+abbrev pub invariant-states : goal.invariant-states
+invariant-states l = IsPartialClosure l.automaton l.initial.set.keys l.set.keys l.next
+
+abbrev pub decreases-states : goal.decreases-states
+decreases-states l = 2 ^ 64 - l.next

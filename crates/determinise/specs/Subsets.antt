@@ -1,0 +1,46 @@
+-- Sets of states of a nondeterministic automaton, and the moves that lead out of them.
+use Rattle.std.specs.Prelude.{◌≡◌, ◌+◌, ◌<◌, ◌≤◌, ℕ, List, Option, None, Some, Contains, length, slice_index_or}
+use Rattle.std.specs.List.{filter_map, flat_map}
+use Rattle.word_automata.specs.Path.{edges_of}
+use Rattle.word_automata.specs.Nondeterministic.{NondeterministicAutomaton, IsInRange}
+use Rattle.word_automata.specs.StateSets.{AreStates, IsClosed, IsClosure}
+
+-- a set of states out of which no move without a letter leads
+pub record IsSubset (n : NondeterministicAutomaton) (subset : List ℕ) : Type 0 where
+  pub in_range : IsInRange n
+  pub states : AreStates n subset
+  pub closed : IsClosed n subset
+
+-- the set that moves without a letter reach from the states
+pub record IsSubsetFrom (n : NondeterministicAutomaton) (from subset : List ℕ) : Type 0 where
+  pub states : AreStates n subset
+  pub closure : IsClosure n from subset
+
+-- the move of an edge with a letter: the letter and the target
+abbrev pub lettered_move : Option ℕ × ℕ → Option (ℕ × ℕ)
+lettered_move edge = elim edge.0 [ None ↦ None | Some a ↦ Some (a, edge.1) ]
+
+-- the moves out of the states
+abbrev pub moves_from : NondeterministicAutomaton → List ℕ → List (ℕ × ℕ)
+moves_from n states = flat_map (λ p. filter_map lettered_move (edges_of n.states p)) states
+
+-- the letter of the move at place k
+abbrev pub letter_of : List (ℕ × ℕ) → ℕ → ℕ
+letter_of moves k = let move = slice_index_or moves k (0, 0) in move.0
+
+-- letters do not decrease
+abbrev pub HasOrderedLetters : List (ℕ × ℕ) → Type 0
+HasOrderedLetters moves = (k : ℕ) → k + 1 < length moves → letter_of moves k ≤ letter_of moves (k + 1)
+
+-- from place at on, the moves before place end have one letter, and those from there on have greater ones
+pub record IsRun (moves : List (ℕ × ℕ)) (at end : ℕ) : Type 0 where
+  pub some : at < end
+  pub within : end ≤ length moves
+  pub same : (k : ℕ) → at ≤ k → k < end → letter_of moves k ≡ letter_of moves at
+  pub later : (k : ℕ) → end ≤ k → k < length moves → letter_of moves at < letter_of moves k
+
+-- the same moves, by letters that do not decrease
+pub record AreOrderedMoves (n : NondeterministicAutomaton) (states : List ℕ) (moves : List (ℕ × ℕ)) : Type 0 where
+  pub to : (move : ℕ × ℕ) → Contains (moves_from n states) move → Contains moves move
+  pub from : (move : ℕ × ℕ) → Contains moves move → Contains (moves_from n states) move
+  pub ordered : HasOrderedLetters moves

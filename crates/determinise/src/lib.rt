@@ -1,0 +1,28 @@
+//! Deterministic automata from nondeterministic ones, by the subset construction.
+#![tactic(auto)]
+
+mod moves;
+mod subset;
+mod subsets;
+#[cfg(test)]
+mod tests;
+
+ghost use Rattle.std.specs.Prelude.{◌≡◌, ◌↔◌, List, ℕ, IsTrue, IfOk};
+ghost use Rattle.word_automata.specs.Automaton.{accepts, IsValid};
+ghost use Rattle.word_automata.specs.Nondeterministic.{Accepts};
+
+use crate::subsets::Subsets;
+use exploration::explore_languages;
+use std::alloc::{AllocError, Global};
+use word_automata::{Dfa, Nfa};
+
+/// The deterministic automaton of the sets of states that words lead to (M. O. Rabin and D. Scott, 1959), which accepts the same
+/// words. States are numbered breadth first, letters in increasing order. The time is linear in the edges that leave the states
+/// of the sets that are reached, up to sorting, on average.
+pub fn determinise(alloc: Global, automaton: &Nfa) -> Result<Dfa, AllocError>
+    ensures language { IfOk result (λ dfa. (w : List ℕ) → IsTrue (accepts dfa w) ↔ Accepts automaton.now w) }
+    ensures letters { IfOk result (λ dfa. dfa.letters ≡ automaton.now.letters) }
+    ensures valid { IfOk result IsValid }
+{
+    Ok(explore_languages(alloc, &Subsets::new(automaton))?)
+}

@@ -1,0 +1,74 @@
+//! The moves with a letter out of a set of states.
+
+ghost use Rattle.std.specs.Prelude.{◌≡◌, ◌<◌, ◌++◌, length, map, IfOk, OnOk};
+ghost use Rattle.std.specs.List.{filter_map};
+ghost use Rattle.word_automata.specs.StateSets.{AreStates};
+ghost use Rattle.determinise.specs.Subsets.{lettered_move, moves_from, HasOrderedLetters, AreOrderedMoves, IsRun};
+
+use std::alloc::{AllocError, Global};
+use word_automata::Nfa;
+
+/// The moves out of the states, by letters that do not decrease.
+pub fn ordered_moves(
+    alloc: Global,
+    automaton: &Nfa,
+    states: &[usize],
+) -> Result<Vec<(u32, usize)>, AllocError>
+    requires { AreStates automaton.now states.now }
+    ensures { IfOk result (λ moves. AreOrderedMoves automaton.now states.now moves.items) }
+{
+    let mut moves = moves_from(alloc, automaton, states)?;
+    moves.sort()?;
+    Ok(moves)
+}
+
+/// The moves out of the states, one state after another.
+fn moves_from(
+    alloc: Global,
+    automaton: &Nfa,
+    states: &[usize],
+) -> Result<Vec<(u32, usize)>, AllocError>
+    requires { AreStates automaton.now states.now }
+    ensures { IfOk result (λ moves. moves.items ≡ moves_from automaton.now states.now) }
+{
+    let mut moves = Vec::new(alloc);
+    'states: for state in states {
+        add_moves(&mut moves, automaton.edges_from(*state))?;
+    }
+    Ok(moves)
+}
+
+/// Adds the moves of the edges with a letter.
+fn add_moves(
+    moves: &mut Vec<(u32, usize)>,
+    edges: &[(Option<u32>, usize)],
+) -> Result<(), AllocError>
+    ensures { OnOk result (moves.new.items ≡ moves.old.items ++ filter_map lettered_move edges.now) }
+{
+    'edges: for &(letter, to) in edges {
+        if let Some(letter) = letter {
+            moves.push((letter, to))?;
+        }
+    }
+    Ok(())
+}
+
+/// The place after the last move with the letter of the move at the place.
+pub fn end_of_run(moves: &[(u32, usize)], at: usize) -> usize
+    requires within { at < length moves.now }
+    requires ordered { HasOrderedLetters moves.now }
+    ensures { IsRun moves.now at result }
+{
+    let mut end = at + 1;
+    'run: while end < moves.len() && moves[end].0 == moves[at].0 {
+        end += 1;
+    }
+    end
+}
+
+/// The targets of the moves.
+pub fn targets(alloc: Global, moves: &[(u32, usize)]) -> Result<Vec<usize>, AllocError>
+    ensures { IfOk result (λ targets. targets.items ≡ map (λ move. move.1) moves.now) }
+{
+    moves.iter().map(|&(_, to)| to).collect(alloc)
+}

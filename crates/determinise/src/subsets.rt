@@ -1,0 +1,74 @@
+//! The system of the sets of states of a nondeterministic automaton.
+
+ghost use Rattle.std.specs.Prelude.{◌≡◌, ◌<◌};
+ghost use Rattle.std.specs.Cmp.Lexicographic.{bytes_decides};
+ghost use Rattle.word_automata.specs.Nondeterministic.{Accepts, AcceptsFromAny};
+ghost use Rattle.determinise.specs.Subsets.{IsSubset};
+
+use crate::moves::{end_of_run, ordered_moves, targets};
+use crate::subset::{accepts_some, subset_from};
+use exploration::{LanguageSystem, StateList};
+use std::alloc::{AllocError, Global};
+use word_automata::Nfa;
+
+/// The sets of states of the automaton out of which no move without a letter leads.
+#[derive(Drop)]
+pub struct Subsets<'a> {
+    automaton: &'a Nfa,
+}
+
+impl<'a> Subsets<'a> {
+    /// The sets of states of this automaton.
+    pub fn new(automaton: &'a Nfa) -> Subsets<'a>
+        ensures { result.automaton.now ≡ automaton.now }
+    {
+        Subsets { automaton }
+    }
+}
+
+impl<'a> LanguageSystem for Subsets<'a> {
+    type State = StateList;
+
+    ghost letter_count = { λ s. s.automaton.now.letters };
+
+    ghost accepted = { λ s. Accepts s.automaton.now };
+
+    ghost language = { λ s. AcceptsFromAny s.automaton.now };
+
+    ghost is_state = { λ s. IsSubset s.automaton.now };
+
+    fn letters(&self) -> u32 {
+        self.automaton.letters()
+    }
+
+    fn start(&self, alloc: Global) -> Result<Option<StateList>, AllocError> {
+        let starts = self.automaton.starts();
+        if starts.is_empty() {
+            return Ok(None);
+        }
+        Ok(Some(subset_from(alloc, self.automaton, starts)?))
+    }
+
+    fn is_accepting(&self, state: &StateList) -> bool {
+        accepts_some(self.automaton, state.as_slice())
+    }
+
+    fn successors(
+        &self,
+        alloc: Global,
+        state: &StateList,
+    ) -> Result<Vec<(u32, StateList)>, AllocError> {
+        let moves = ordered_moves(alloc, self.automaton, state.as_slice())?;
+        let mut successors = Vec::new(alloc);
+        let mut at = 0;
+        'runs: while at < moves.len() {
+            let end = end_of_run(&moves, at);
+            let targets = targets(alloc, &moves[at..end])?;
+            successors.push((moves[at].0, subset_from(alloc, self.automaton, &targets)?))?;
+            at = end;
+        }
+        Ok(successors)
+    }
+
+    ghost equality = { λ x y h. (bytes_decides x y).0 h };
+}

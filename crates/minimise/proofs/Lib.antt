@@ -1,0 +1,6 @@
+pub mod Edges
+pub mod LeastStates
+pub mod Refining
+pub mod Splitting
+pub mod Unique
+pub mod Tests

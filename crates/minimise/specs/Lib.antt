@@ -1,0 +1,4 @@
+pub mod Canonical
+pub mod Refinement
+pub mod Signatures
+pub mod SignatureLaws

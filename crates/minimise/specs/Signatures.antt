@@ -1,0 +1,17 @@
+-- What a round of refinement compares states by.
+use Rattle.std.specs.Prelude.{◌&&◌, ℕ, Bool, List, nat_eq}
+use Rattle.std.specs.Bool.{beq}
+use Rattle.std.specs.Cmp.Lexicographic.{pointwise}
+
+-- a class, whether the state accepts, and for each letter that leads to a class other than 0 that class
+pub record Signature : Type 0 where
+  pub class : ℕ
+  pub accepting : Bool
+  pub edges : List (ℕ × ℕ)
+
+-- whether two signatures are equal
+abbrev pub same_edge : ℕ × ℕ → ℕ × ℕ → Bool
+same_edge e f = nat_eq e.0 f.0 && nat_eq e.1 f.1
+
+abbrev pub same_signature : Signature → Signature → Bool
+same_signature s t = nat_eq s.class t.class && (beq s.accepting t.accepting && pointwise same_edge s.edges t.edges)

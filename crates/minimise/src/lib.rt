@@ -1,0 +1,21 @@
+//! Canonical automata: minimal, numbered breadth first, and equal as data exactly where their languages are equal.
+#![tactic(auto)]
+
+mod canon;
+mod laws;
+mod quotient;
+mod refinement;
+mod signature;
+#[cfg(test)]
+mod tests;
+
+pub use canon::{Canon, canonical, canonical_nfa, same};
+pub use laws::{canonical_is_least, canonical_is_unique};
+
+/// Asks for a type that threads may share and that may be moved between them.
+fn is_shared<T: Send + Sync>() {}
+
+/// Threads may share canonical automata.
+pub fn canonical_automata_are_shared() {
+    is_shared::<Canon>();
+}

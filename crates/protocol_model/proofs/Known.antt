@@ -1,0 +1,62 @@
+-- Names that are in a list, and names that are not.
+use Rattle.std.proofs.Common.{◌≡◌, ℕ, ◌+◌, ◌<◌, Bool, true, false, List, [], ◌∷◌, Option, None, Some, length, refl, ap, sym, subst, ◌∙◌, cond, not, nat_lt, arith, ◌⊎◌, inl, inr}
+use Rattle.std.specs.List.{list_any, position_or_len}
+use Rattle.std.specs.Option.{option_or}
+use Rattle.std.specs.Str.{bytes_eq}
+use Rattle.protocol_syntax.specs.declared.protocol.Name.{Name}
+use Rattle.protocol_model.specs.declared.fault.ModelFault.{ModelFault}
+use Rattle.protocol_model.specs.declared.fault.ModelFault.TheVariants.{Duplicate, Unknown, TouchedTwice, WrongKind, Memory}
+use Rattle.protocol_model.specs.Faults.{is_among, duplicate, touched_twice, unknown}
+use Rattle.protocol_model.specs.Outcome.{IsFault}
+use Rattle.protocol_model.proofs.Lists.{position_below}
+
+pub not_is_false : (b c : Bool) → b ≡ not c → b ≡ false → c ≡ true
+not_is_false b true e f = refl
+not_is_false b false e f = cc
+
+pub not_is_true : (b c : Bool) → b ≡ not c → b ≡ true → c ≡ false
+not_is_true b true e f = cc
+not_is_true b false e f = refl
+
+pub some_of_cond : {X : Type 0} (b : Bool) (n m : X) → Some n ≡ cond b (Some m) None → (b ≡ true) × (n ≡ m)
+some_of_cond true n m e = (refl, cc)
+some_of_cond false n m e = cc
+
+pub none_of_cond : {X : Type 0} (b : Bool) (m : X) → None ≡ cond b (Some m) None → b ≡ false
+none_of_cond true m e = cc
+none_of_cond false m e = refl
+
+pub number_below : {X : Type 0} (p : X → Bool) (xs : List X) → list_any p xs ≡ true → position_or_len p xs < length xs
+number_below p xs h = grind (arith, position_below p xs, h)
+
+-- a fault that stands where the test is positive
+pub fault_where_true : (b : Bool) (fault e : ModelFault) → b ≡ true → IsFault fault e → (cond b (Some fault) None ≡ Some e) ⊎ (e ≡ Memory)
+fault_where_true b fault e h (inl s) = inl (rw (h, s) refl)
+fault_where_true b fault e h (inr m) = inr m
+
+-- a fault that stands where the test is negative
+pub fault_where_false : (b : Bool) (fault e : ModelFault) → b ≡ false → IsFault fault e → (cond b None (Some fault) ≡ Some e) ⊎ (e ≡ Memory)
+fault_where_false b fault e h (inl s) = inl (rw (h, s) refl)
+fault_where_false b fault e h (inr m) = inr m
+
+-- what `add` of a name says of the names before
+pub added_before : (names : List (List ℕ)) (name : Name) (text : List ℕ) (added : Bool) →
+    added ≡ not (list_any (bytes_eq text) names) → added ≡ false → text ≡ name.text → is_among names name ≡ true
+added_before names name text added e f t = rw (← t) (not_is_false added (list_any (bytes_eq text) names) e f)
+
+pub added_now : (names : List (List ℕ)) (name : Name) (text : List ℕ) (added : Bool) →
+    added ≡ not (list_any (bytes_eq text) names) → added ≡ true → text ≡ name.text → is_among names name ≡ false
+added_now names name text added e f t = rw (← t) (not_is_true added (list_any (bytes_eq text) names) e f)
+
+pub or_left : (o p : Option ModelFault) (e : ModelFault) →
+    (o ≡ Some e) ⊎ (e ≡ Memory) → (option_or o p ≡ Some e) ⊎ (e ≡ Memory)
+or_left o p e (inl s) = inl (rw s refl)
+or_left o p e (inr m) = inr m
+
+pub or_right : (o p : Option ModelFault) (e : ModelFault) →
+    o ≡ None → (p ≡ Some e) ⊎ (e ≡ Memory) → (option_or o p ≡ Some e) ⊎ (e ≡ Memory)
+or_right o p e n (inl s) = inl (rw (n, s) refl)
+or_right o p e n (inr m) = inr m
+
+pub or_none : (o p : Option ModelFault) → o ≡ None → p ≡ None → option_or o p ≡ None
+or_none o p n m = rw (n, m) refl

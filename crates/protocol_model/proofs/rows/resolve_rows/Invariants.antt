@@ -1,0 +1,9 @@
+use Rattle.std.proofs.Common.{ℕ, List}
+use Rattle.protocol_model.specs.Numbering.{row_of}
+use Rattle.protocol_model.specs.Faults.{row_fault}
+use Rattle.protocol_model.proofs.Walk.{IsWalked}
+use Rattle.protocol_model.proofs.rows.resolve_rows.Given as goal
+
+abbrev pub invariant-loop-row : goal.invariant-loop-row
+invariant-loop-row l =
+    IsWalked (λ _. row_fault l.sections) (row_of l.sections) l.rows l.row-index l.resolved.items

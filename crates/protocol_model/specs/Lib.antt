@@ -1,0 +1,13 @@
+pub mod Names
+pub mod System
+pub mod Moves
+pub mod Patterns
+pub mod Steps
+pub mod Runs
+pub mod Words
+pub mod Numbering
+pub mod Faults
+pub mod Allowed
+pub mod Outcome
+pub mod FirstForm
+pub mod FirstProtocol

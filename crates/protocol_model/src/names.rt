@@ -1,0 +1,61 @@
+//! Names by number.
+
+ghost use Rattle.std.specs.Prelude.{◌≡◌, ◌+◌, ◌<◌, ◌≤◌, ℕ, List, [], ◌∷◌, ◌++◌, IfOk, length, map, not, None, Some, if◌then◌else◌};
+ghost use Rattle.std.specs.List.{list_any, position_or_len};
+ghost use Rattle.std.specs.Str.{bytes_eq};
+
+use indexmap::IndexSet;
+use std::alloc::{AllocError, Global};
+use std::marker::Model;
+
+/// Distinct names, 256 at most, numbered from 0 in the order in which they were added.
+#[derive(Drop)]
+pub struct Names<'a> {
+    set: IndexSet<&'a str>,
+}
+
+impl<'a> Model for Names<'a> {
+    ghost Value = { List (List ℕ) };
+
+    ghost view = { λ names. map (λ key. key.now) names.set.keys };
+
+    ghost invariant = { λ names. length names.set.keys ≤ 256 };
+}
+
+impl<'a> Names<'a> {
+    /// No names. It takes no memory.
+    pub fn new(alloc: Global) -> Names<'a>
+        ensures { result ≡ [] }
+    {
+        Names {
+            set: IndexSet::new(alloc),
+        }
+    }
+
+    /// Gives the name the next number, and says whether it had none before. A name that has one keeps it.
+    pub fn add(&mut self, name: &'a str) -> Result<bool, AllocError>
+        requires { length self.old < 256 }
+        ensures added { IfOk result (λ added. added ≡ not (list_any (bytes_eq name.now) self.old)) }
+        ensures names { IfOk result (λ added. self.new ≡ (if added then self.old ++ name.now ∷ [] else self.old)) }
+    {
+        let (_, added) = self.set.insert_full(name)?;
+        Ok(added)
+    }
+
+    /// The number of the name.
+    pub fn number(&self, name: &str) -> Option<u32>
+        ensures { result ≡ (if list_any (bytes_eq name.now) self.now then Some (position_or_len (bytes_eq name.now) self.now) else None) }
+    {
+        match self.set.get_index_of(name) {
+            Some(index) => Some(index as u32),
+            None => None,
+        }
+    }
+
+    /// How many names there are.
+    pub fn len(&self) -> u32
+        ensures { result ≡ length self.now }
+    {
+        self.set.len() as u32
+    }
+}

@@ -1,0 +1,79 @@
+//! Systems of protocols.
+
+ghost use Rattle.std.specs.Prelude.{◌≡◌, ◌⊎◌, None, Some, IfErr, IfOk, map};
+ghost use Rattle.protocol_model.specs.Numbering.{texts_of, section_of, system_of};
+ghost use Rattle.protocol_model.specs.Faults.{first_fault};
+ghost use Rattle.protocol_model.specs.Allowed.{IsAllowed};
+ghost use Rattle.protocol_model.specs.declared.fault.ModelFault.TheVariants as fault;
+
+use crate::fault::ModelFault;
+use crate::rows::resolve_rows;
+use crate::rules::resolve_rules;
+use crate::sections::{copy_text, Sections};
+use crate::system::{Section, System};
+use protocol_syntax::{Name, Protocol, SectionText};
+use sequence::{Sequence, Text};
+use std::alloc::{AllocError, Global};
+
+/// The texts of letters.
+fn copy_letters(alloc: Global, letters: &[Name]) -> Result<Sequence<Text>, AllocError>
+    ensures { IfOk result (λ copies. copies ≡ texts_of letters.now) }
+{
+    let mut copies = Vec::new(alloc);
+    for letter in letters {
+        let copy = copy_text(alloc, &letter.text)?;
+        copies.push(copy)?;
+    }
+    Ok(Sequence::from_vec(copies))
+}
+
+/// A section as written in the text.
+fn copy_section(alloc: Global, section: &SectionText) -> Result<Section, AllocError>
+    ensures { IfOk result (λ copy. copy ≡ section_of section.now) }
+{
+    let name = copy_text(alloc, &section.name.text)?;
+    let letters = copy_letters(alloc, section.letters.as_slice())?;
+    Ok(Section {
+        name,
+        kind: section.kind,
+        letters,
+    })
+}
+
+/// The sections as written in the text.
+fn copy_sections(
+    alloc: Global,
+    sections: &[SectionText],
+) -> Result<Sequence<Section>, AllocError>
+    ensures { IfOk result (λ copies. copies ≡ map section_of sections.now) }
+{
+    let mut copies = Vec::new(alloc);
+    for section in sections {
+        let copy = copy_section(alloc, section)?;
+        copies.push(copy)?;
+    }
+    Ok(Sequence::from_vec(copies))
+}
+
+/// The system of a protocol: names are replaced by numbers, and `any` by all letters of the section.
+///
+/// The error is the first fault in the order of the text, with the name at which it stands.
+pub fn resolve(alloc: Global, protocol: &Protocol) -> Result<System, ModelFault>
+    requires { IsAllowed protocol.now }
+    ensures system { IfOk result (λ system. (first_fault protocol.now ≡ None) × (system ≡ system_of protocol.now)) }
+    ensures refused { IfErr result (λ e. (first_fault protocol.now ≡ Some e) ⊎ (e ≡ fault.Memory)) }
+{
+    let sections = Sections::new(alloc, protocol.sections.as_slice())?;
+    let init = resolve_rows(alloc, &sections, protocol.init.as_slice())?;
+    let rules = resolve_rules(alloc, &sections, protocol.rules.as_slice())?;
+    let bad = resolve_rows(alloc, &sections, protocol.bad.as_slice())?;
+    let name = copy_text(alloc, &protocol.name.text)?;
+    let sections = copy_sections(alloc, protocol.sections.as_slice())?;
+    Ok(System {
+        name,
+        sections,
+        init,
+        rules,
+        bad,
+    })
+}
