@@ -1,5 +1,5 @@
 -- Least words in an automaton that is numbered breadth first: along first edges.
-use Rattle.std.proofs.Common.{◌≡◌, ◌<◌, ◌≤◌, ◌⊎◌, ℕ, List, [], ◌∷◌, ◌++◌, Option, None, Some, length, refl, sym, ap, subst, ◌∙◌, inl, inr, arith, IsTrue}
+use Rattle.std.proofs.Common.{◌≡◌, ◌<◌, ℕ, List, [], ◌∷◌, ◌++◌, Option, None, Some, length, refl, sym, ap, subst, ◌∙◌, inl, inr, arith, IsTrue}
 use Rattle.std.proofs.lemmas.Bool.{cases_lt, cases_eq}
 use Rattle.std.proofs.lemmas.List.{length_push}
 use Rattle.std.proofs.lemmas.Option.{same_Some}
@@ -8,7 +8,7 @@ use Rattle.word_automata.specs.Automaton.{Automaton, target}
 use Rattle.exploration.specs.Numbering.{run_from, Reaches, IsBreadthFirst}
 use Rattle.exploration.proofs.Words.{IsLeastWord-unique, is_before-asymmetric}
 use Rattle.exploration.proofs.Runs.{run_from-push, run_from-append, target-inside}
-use Rattle.boolean_operations.specs.LeastWords.{IsFirstEdge, IsNotLater}
+use Rattle.boolean_operations.specs.LeastWords.{IsFirstEdge}
 use Rattle.boolean_operations.proofs.Order.{is_before-push, is_before-last, is_before-shorter, is_before-nil, last_cases}
 
 module _ (m : Automaton) where

@@ -1,11 +1,11 @@
 -- What a complement accepts, and its successors.
-use Rattle.std.proofs.Common.{◌≡◌, ℕ, ◌<◌, ◌≤◌, Bool, true, false, ◌&&◌, not, nat_lt, List, [], ◌∷◌, Option, None, Some, length, get_or, map, All, if◌then◌else◌, refl, sym, ap, subst, ◌∙◌, inl, inr, lt-ltb, arith}
+use Rattle.std.proofs.Common.{◌≡◌, ℕ, Bool, true, false, ◌&&◌, not, nat_lt, List, [], ◌∷◌, Option, None, Some, get_or, if◌then◌else◌, refl, sym, ap, ◌∙◌, inl, inr, lt-ltb, arith}
 use Rattle.std.proofs.lemmas.Bool.{cases_lt}
 use Rattle.std.proofs.lemmas.Bool.Decides.{nat_tests}
 use Rattle.std.proofs.lemmas.List.Elements.{All-map}
 use Rattle.word_automata.specs.Automaton.{Automaton, accepts, IsValid}
-use Rattle.exploration.specs.System.{System, accepts_by, accepts_by_from, look_up, IsSuccessors}
-use Rattle.boolean_operations.specs.OptionalStates.{start_of, follow, accepts_at, IsStateOrNone}
+use Rattle.exploration.specs.System.{accepts_by, accepts_by_from, IsSuccessors}
+use Rattle.boolean_operations.specs.OptionalStates.{start_of, follow, IsStateOrNone}
 use Rattle.boolean_operations.specs.Complements.{are_letters, complement_system}
 use Rattle.boolean_operations.proofs.OptionalStates.{accepts_option, accepts_option-nil, accepts_option-cons, accepts_option-start, follow-within}
 use Rattle.boolean_operations.proofs.Letters.{letters_below, valued, valued-below, valued-increasing, look_up-valued, look_up-valued_above}

@@ -1,5 +1,5 @@
 -- First edges are found by going through the edges of all states in order.
-use Rattle.std.proofs.Common.{◌≡◌, ◌≢◌, ◌+◌, ◌<◌, ◌≤◌, ◌⊎◌, ℕ, zero, suc, List, [], ◌∷◌, ◌++◌, Option, None, Some, length, get_or, set, take, drop, replicate, slice_get, is_some, true, false, All, refl, sym, ap, subst, ◌∙◌, inl, inr, arith}
+use Rattle.std.proofs.Common.{◌≡◌, ◌+◌, ◌<◌, ◌≤◌, ◌⊎◌, ℕ, zero, suc, List, [], ◌∷◌, ◌++◌, Option, None, Some, length, get_or, set, take, drop, replicate, slice_get, is_some, true, false, All, refl, sym, ap, subst, ◌∙◌, inl, inr, arith}
 use Rattle.std.proofs.lemmas.Bool.{cases_lt, cases_eq, false≢true}
 use Rattle.std.proofs.lemmas.Option.{same_Some, slice_get-get_or}
 use Rattle.std.proofs.lemmas.List.{length-set, length-replicate, take_more, take_all, take-append-drop, drop_more}
@@ -11,7 +11,7 @@ use Rattle.exploration.specs.System.{look_up, HasIncreasingLetters}
 use Rattle.exploration.proofs.Lists.{look_up-below, look_up-above, look_up-push_other, look_up-push_same, HasIncreasingLetters-front}
 use Rattle.exploration.proofs.Successors.{look_up-edges, HasIncreasingLetters-edges}
 use Rattle.exploration.proofs.Runs.{target-inside}
-use Rattle.boolean_operations.specs.LeastWords.{IsNotLater, IsSeen, AreFirstSeen, IsFirstEdge, AreFirstEdges}
+use Rattle.boolean_operations.specs.LeastWords.{IsNotLater, IsSeen, AreFirstSeen, AreFirstEdges}
 
 slice_get-set_same : {X : Type 0} (xs : List X) (i : ℕ) (x : X) → i < length xs → slice_get (set xs i x) i ≡ Some x
 slice_get-set_same [] i x within = absurd (omega arith)

@@ -1,17 +1,15 @@
 -- The least accepted word leads to the first accepting state of the automaton that is numbered breadth first.
-use Rattle.std.proofs.Common.{◌≡◌, ◌<◌, ◌≤◌, ◌⊎◌, ℕ, zero, suc, Bool, true, false, List, [], ◌∷◌, ◌++◌, Option, None, Some, length, slice_get, All, refl, sym, ap, subst, ◌∙◌, inl, inr, arith, IsTrue}
+use Rattle.std.proofs.Common.{◌≡◌, ◌<◌, ◌≤◌, ℕ, zero, suc, Bool, true, false, List, [], ◌∷◌, ◌++◌, Option, None, Some, length, All, refl, sym, ap, subst, ◌∙◌, inl, inr, arith, IsTrue}
 use Rattle.std.proofs.lemmas.Bool.{cases_lt, cases_eq, false≢true}
 use Rattle.std.proofs.lemmas.List.{append-nil}
 use Rattle.std.proofs.lemmas.List.Elements.{All-nil}
-use Rattle.std.proofs.lemmas.Option.{slice_get_past}
 use Rattle.sequence.specs.WordOrder.{is_before, IsLeastWord}
 use Rattle.word_automata.specs.Path.{Node, edges_of, is_accepting}
 use Rattle.word_automata.specs.Automaton.{Automaton, accepts, accepts_from, target, IsValid}
 use Rattle.word_automata.proofs.Targets.{accepts-empty, ordered_edges}
 use Rattle.word_automata.proofs.Rows.{All-edges_of}
 use Rattle.exploration.specs.System.{accepts_by, accepts_by_from, IsSuccessors}
-use Rattle.exploration.specs.Numbering.{run_from, Reaches, IsBreadthFirst}
-use Rattle.exploration.proofs.Words.{is_before-total, is_before-asymmetric}
+use Rattle.exploration.specs.Numbering.{Reaches, IsBreadthFirst}
 use Rattle.exploration.proofs.Runs.{run_from-accepted, accepts_from-append}
 use Rattle.exploration.proofs.Successors.{look_up-edges, HasIncreasingLetters-edges}
 use Rattle.boolean_operations.specs.OptionalStates.{start_of}

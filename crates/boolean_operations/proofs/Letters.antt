@@ -1,9 +1,9 @@
 -- Lists of letters in increasing order, as lists of edges that lead from each letter to itself.
-use Rattle.std.proofs.Common.{◌≡◌, ◌≢◌, ℕ, zero, suc, ◌+◌, ◌<◌, ◌≤◌, Bool, true, false, eqb, List, [], ◌∷◌, ◌++◌, Option, None, Some, length, get_or, take, map, All, Contains, ◌⊎◌, inl, inr, if◌then◌else◌, refl, sym, ap, subst, ◌∙◌, arith}
-use Rattle.std.proofs.lemmas.Bool.{cases_eq, false≢true}
+use Rattle.std.proofs.Common.{◌≡◌, ℕ, zero, suc, ◌+◌, ◌<◌, ◌≤◌, Bool, true, false, eqb, List, [], ◌∷◌, ◌++◌, Option, None, Some, length, get_or, take, map, All, Contains, inl, inr, if◌then◌else◌, refl, sym, ap, subst, ◌∙◌, arith}
+use Rattle.std.proofs.lemmas.Bool.{cases_eq}
 use Rattle.std.proofs.lemmas.Bool.Decides.{nat_tests}
 use Rattle.std.proofs.lemmas.Option.{same_Some}
-use Rattle.std.proofs.lemmas.List.Elements.{All-nil, All-cons, All-map, All-append, All-push, All-weaker, All-contains, All-tail, Contains-append_left, Contains-append_right, filter_map-append}
+use Rattle.std.proofs.lemmas.List.Elements.{All-nil, All-map, All-append, All-push, All-weaker, All-contains, All-tail, Contains-append_left, Contains-append_right, filter_map-append}
 use Rattle.std.proofs.lemmas.List.Sorted.{Contains-permutation}
 use Rattle.std.proofs.lemmas.List.Kept.{Contains-dedup_nat, Contains-from_dedup}
 use Rattle.std.proofs.lemmas.Map.Keys.{IsStrictlyIncreasing-dedup}
@@ -13,7 +13,7 @@ use Rattle.std.specs.Option.{option_map}
 use Rattle.std.specs.List.Sorted.{IsStrictlyIncreasing, IsPermutation, IsSorted}
 use Rattle.std.specs.Ordering.{nat_cmp}
 use Rattle.word_automata.specs.Automaton.{find_target}
-use Rattle.word_automata.proofs.Members.{Contains-here, Contains-there, Contains-cases, Contains-none, All-from_contains, Contains-map}
+use Rattle.word_automata.proofs.Members.{Contains-here, Contains-there, Contains-cases, Contains-none, All-from_contains}
 use Rattle.exploration.specs.System.{look_up, HasIncreasingLetters}
 use Rattle.exploration.proofs.Successors.{moved}
 use Rattle.exploration.proofs.Lists.{look_up-here, look_up-there, look_up-above, look_up-push_same, look_up-push_other}

@@ -1,6 +1,7 @@
 pub mod BreadthFirst
 pub mod Complements
 pub mod FirstEdges
+pub mod Outside
 pub mod LeastWords
 pub mod Letters
 pub mod OptionalStates

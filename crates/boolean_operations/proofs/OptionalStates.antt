@@ -1,7 +1,7 @@
 -- What automata accept from states that may be missing.
-use Rattle.std.proofs.Common.{◌≡◌, ℕ, ◌<◌, Bool, false, List, [], ◌∷◌, Option, None, Some, length, All, refl, sym, subst}
+use Rattle.std.proofs.Common.{◌≡◌, ℕ, ◌<◌, Bool, false, List, [], ◌∷◌, Option, None, Some, All, refl, sym}
 use Rattle.std.proofs.lemmas.List.Elements.{All-nil}
-use Rattle.word_automata.specs.Path.{Node, is_accepting}
+use Rattle.word_automata.specs.Path.{Node}
 use Rattle.word_automata.specs.Automaton.{Automaton, accepts, accepts_from, target, find_target, IsValid, HasIncreasingLetters}
 use Rattle.word_automata.proofs.Targets.{accepts-empty, target_within, ordered_edges}
 use Rattle.word_automata.proofs.Rows.{All-edges_of}

@@ -1,7 +1,7 @@
 -- The order of words when letters are put at their ends.
 use Rattle.std.proofs.Common.{◌≡◌, ◌<◌, ◌==◌, ◌&&◌, ◌⊎◌, ℕ, List, [], ◌∷◌, ◌++◌, length, reverse, refl, sym, ap, subst, ◌∙◌, inl, inr, arith, IsTrue, nat_lt, lt-ltb}
 use Rattle.std.proofs.lemmas.Bool.{or_left}
-use Rattle.std.proofs.lemmas.List.{reverse-reverse, reverse-append, length_push}
+use Rattle.std.proofs.lemmas.List.{reverse-reverse, reverse-append}
 use Rattle.sequence.specs.WordOrder.{is_before, is_lexicographically_before}
 use Rattle.exploration.proofs.Words.{Below, Below-cases, Below-trans, before_from_Below, before_at_reverses, is_before-irreflexive, is_before-asymmetric}
 

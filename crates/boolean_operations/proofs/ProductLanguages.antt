@@ -1,17 +1,17 @@
 -- What products accept, and their successors.
-use Rattle.std.proofs.Common.{◌≡◌, ℕ, ◌<◌, Bool, true, false, ◌&&◌, not, List, [], ◌∷◌, Option, None, Some, length, get_or, map, All, Contains, is_some, if◌then◌else◌, true≢false, refl, sym, ap, subst, ◌∙◌}
+use Rattle.std.proofs.Common.{◌≡◌, ℕ, ◌<◌, Bool, true, false, ◌&&◌, List, [], ◌∷◌, Option, None, Some, get_or, map, All, if◌then◌else◌, true≢false, refl, sym, ap, subst, ◌∙◌}
 use Rattle.std.proofs.lemmas.Option.{same_Some, none-some}
 use Rattle.std.specs.List.{filter_map}
 use Rattle.std.specs.Option.{option_and_then}
 use Rattle.word_automata.specs.Automaton.{Automaton, accepts, IsValid}
-use Rattle.exploration.specs.System.{System, accepts_by, accepts_by_from, look_up, IsSuccessors}
+use Rattle.exploration.specs.System.{accepts_by, accepts_by_from, look_up, IsSuccessors}
 use Rattle.exploration.proofs.Successors.{moved, IsSuccessors-moved}
 use Rattle.boolean_operations.specs.OptionalStates.{start_of, follow, accepts_at, edges_at, IsStateOrNone}
 use Rattle.boolean_operations.specs.Products.{combine, is_live, pair_of, pair_system, AreLettersOf}
 use Rattle.boolean_operations.specs.declared.products.Operation.{Operation}
 use Rattle.boolean_operations.specs.declared.products.Operation.TheVariants.{Union, Intersection, Difference}
 use Rattle.boolean_operations.proofs.OptionalStates.{accepts_option, accepts_option-nil, accepts_option-cons, accepts_option-start, follow-within, follow-edges, edges_at-letters}
-use Rattle.boolean_operations.proofs.Letters.{doubled, HasIncreasingLetters-doubled, look_up-doubled, look_up-contained, letters_below_bound}
+use Rattle.boolean_operations.proofs.Letters.{doubled, HasIncreasingLetters-doubled, look_up-contained, letters_below_bound}
 
 and_false : (b : Bool) → (b && false) ≡ false
 and_false true = refl

@@ -1,5 +1,5 @@
 -- What a search for the least accepted word finds.
-use Rattle.std.specs.Prelude.{◌≡◌, ◌<◌, ◌⊎◌, ℕ, Bool, true, false, List, Option, None, Some, length, slice_get, IsTrue}
+use Rattle.std.specs.Prelude.{◌≡◌, ◌<◌, ◌⊎◌, ℕ, true, false, List, Option, None, Some, length, slice_get, IsTrue}
 use Rattle.sequence.specs.WordOrder.{IsLeastWord}
 use Rattle.word_automata.specs.Path.{is_accepting}
 use Rattle.word_automata.specs.Automaton.{Automaton, accepts, target}

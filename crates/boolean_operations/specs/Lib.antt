@@ -1,5 +1,6 @@
 pub mod Complements
 pub mod Equality
+pub mod Inclusion
 pub mod LeastWords
 pub mod OptionalStates
 pub mod Products

@@ -1,5 +1,5 @@
 -- Products of two automata: their states are pairs of states that may be missing.
-use Rattle.std.specs.Prelude.{◌≡◌, ◌<◌, ◌++◌, ◌&&◌, ◌||◌, ℕ, Bool, not, List, Option, None, Some, Contains, is_some, if◌then◌else◌, map}
+use Rattle.std.specs.Prelude.{◌≡◌, ◌++◌, ◌&&◌, ◌||◌, ℕ, Bool, not, List, Option, None, Some, Contains, is_some, if◌then◌else◌, map}
 use Rattle.std.specs.List.Sorted.{IsStrictlyIncreasing}
 use Rattle.word_automata.specs.Automaton.{Automaton, find_target, IsValid}
 use Rattle.exploration.specs.System.{System}

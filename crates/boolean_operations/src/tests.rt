@@ -92,3 +92,18 @@ fn takes_small_automata(rt: HostRuntime) -> Result<(), Fail> {
     assert!(rt; !no_letter.accepts(&[0]));
     Ok(())
 }
+
+#[test]
+fn compares_languages(rt: HostRuntime) -> Result<(), Fail> {
+    let alloc = rt.alloc();
+    let safe = one_token(alloc)?;
+    let all = union(alloc, &safe, &bad(alloc)?)?;
+    assert!(rt; included(alloc, &safe.as_nfa(alloc)?, &all)?.is_none());
+    let word = included(alloc, &all.as_nfa(alloc)?, &safe)?.ok_or("no word")?;
+    assert_eq!(rt; word.as_slice(), [].as_slice());
+    let one = intersect(alloc, &safe, &all)?;
+    let none = difference(alloc, &safe, &all)?;
+    let word = included(alloc, &one.as_nfa(alloc)?, &none)?.ok_or("no word")?;
+    assert_eq!(rt; word.as_slice(), [WITH].as_slice());
+    Ok(())
+}

@@ -1,4 +1,4 @@
-use Rattle.std.proofs.Common.{◌<◌, get_or, ap, sym, subst, ◌∙◌, arith, ℕ, List, length, not}
+use Rattle.std.proofs.Common.{◌<◌, get_or, ap, ◌∙◌, arith, ℕ, List, length, not}
 use Rattle.word_automata.specs.Path.{edges_of}
 use Rattle.word_automata.proofs.Targets.{ordered_edges}
 use Rattle.boolean_operations.proofs.FirstEdges.{see_old_edge, see_new_edge, first_missing, first_there, target_of_edge}

@@ -1,4 +1,4 @@
-use Rattle.std.proofs.Common.{◌≡◌, ℕ, sym, ap, subst, ◌∙◌, arith}
+use Rattle.std.proofs.Common.{◌≡◌, sym, ap, subst, ◌∙◌, arith}
 use Rattle.word_automata.specs.Automaton.{IsValid}
 use Rattle.exploration.specs.System.{IsSuccessors}
 use Rattle.boolean_operations.specs.OptionalStates.{follow, IsStateOrNone}
