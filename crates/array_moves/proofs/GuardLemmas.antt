@@ -1,5 +1,6 @@
 -- Lemmas on guards and their flags: what the letters on both sides of the moving position meet.
-use Rattle.std.proofs.Common.{◌≡◌, ℕ, zero, suc, ◌<◌, Bool, true, false, not, ◌&&◌, ◌||◌, List, [], ◌∷◌, ◌++◌, slice_get, Option, Some, None, refl, sym, ap, ◌∙◌, subst, inl, inr, arith, ◌⊎◌, true≢false, if◌then◌else◌, fold}
+use Rattle.std.proofs.Common.{◌≡◌, ℕ, zero, suc, ◌<◌, Bool, true, false, not, ◌&&◌, ◌||◌, List, [], ◌∷◌, ◌++◌, slice_get, Option, Some}
+use Rattle.std.proofs.Common.{None, refl, sym, ap, ◌∙◌, subst, inl, inr, arith, ◌⊎◌, true≢false, if◌then◌else◌, fold}
 use Rattle.std.specs.List.{list_all, list_any}
 use Rattle.std.proofs.lemmas.List.Folds.{list_all-append, list_any-append}
 use Rattle.std.proofs.lemmas.Option.{same_Some, none-some}
@@ -8,7 +9,8 @@ use Rattle.protocol_syntax.specs.declared.protocol.Region.{Region}
 use Rattle.protocol_syntax.specs.declared.protocol.Region.TheVariants.{Left, Right, Others}
 use Rattle.protocol_model.specs.declared.system.Guard.{Guard}
 use Rattle.protocol_model.specs.Moves.{is_in, region_letters, guard_holds}
-use Rattle.array_moves.specs.Flags.{flag, four_flags, no_flags, union_of, covers_one, covers, permits, meets, meets_at, effect_of, asks_at, widened}
+use Rattle.array_moves.specs.Flags.{flag, four_flags, no_flags, union_of, covers_one, covers, permits, meets, meets_at, effect_of}
+use Rattle.array_moves.specs.Flags.{asks_at, widened}
 
 -- conjunctions and disjunctions of tests
 pub both : (a b : Bool) → (a && b) ≡ true → (a ≡ true) × (b ≡ true)
@@ -37,7 +39,8 @@ all_at p [] k x h e = absurd (none-some x e)
 all_at p (y ∷ xs) zero x h e = subst (λ z. p z ≡ true) (same_Some _ _ e) (both (p y) (list_all p xs) h).0
 all_at p (y ∷ xs) (suc k) x h e = all_at p xs k x (both (p y) (list_all p xs) h).1 e
 
-pub all_from_each : {X : Type 0} (p : X → Bool) (xs : List X) → ((k : ℕ) (x : X) → slice_get xs k ≡ Some x → p x ≡ true) → list_all p xs ≡ true
+pub all_from_each : {X : Type 0} (p : X → Bool) (xs : List X) → ((k : ℕ) (x : X) → slice_get xs k ≡ Some x → p x ≡ true)
+    → list_all p xs ≡ true
 all_from_each p [] each = refl
 all_from_each p (y ∷ xs) each = both_true (p y) (list_all p xs) (each 0 y refl) (all_from_each p xs (λ k x e. each (suc k) x e))
 
@@ -57,14 +60,17 @@ pub all_parts : (p : ℕ → Bool) (s t : List ℕ) → list_all p (s ++ t) ≡ 
 all_parts p s t h = both (list_all p s) (list_all p t) (sym (list_all-append p s t) ∙ h)
 
 -- a guard that asks for all letters holds exactly where it permits the letters on both sides
-all_holds : (region : Region) (letters before after : List ℕ) → list_all (permits (record { all = true; region = region; letters = letters }) false) before ≡ true
-    → list_all (permits (record { all = true; region = region; letters = letters }) true) after ≡ true → list_all (is_in letters) (region_letters region before after) ≡ true
+all_holds : (region : Region) (letters before after : List ℕ)
+    → list_all (permits (record { all = true; region = region; letters = letters }) false) before ≡ true
+    → list_all (permits (record { all = true; region = region; letters = letters }) true) after ≡ true
+    → list_all (is_in letters) (region_letters region before after) ≡ true
 all_holds Left letters before after h g = h
 all_holds Right letters before after h g = g
 all_holds Others letters before after h g = all_joined (is_in letters) before after h g
 
 all_permits : (region : Region) (letters before after : List ℕ) → list_all (is_in letters) (region_letters region before after) ≡ true
-    → (list_all (permits (record { all = true; region = region; letters = letters }) false) before ≡ true) × (list_all (permits (record { all = true; region = region; letters = letters }) true) after ≡ true)
+    → (list_all (permits (record { all = true; region = region; letters = letters }) false) before ≡ true)
+    × (list_all (permits (record { all = true; region = region; letters = letters }) true) after ≡ true)
 all_permits Left letters before after h = (h, all_of_true after)
 all_permits Right letters before after h = (all_of_true before, h)
 all_permits Others letters before after h = all_parts (is_in letters) before after h
@@ -72,7 +78,8 @@ all_permits Others letters before after h = all_parts (is_in letters) before aft
 -- a guard that asks for some letter holds exactly where a letter on one of the sides meets it
 some_met : (region : Region) (letters before after : List ℕ)
     → list_any (is_in letters) (region_letters region before after)
-    ≡ (list_any (meets (record { all = false; region = region; letters = letters }) false) before || list_any (meets (record { all = false; region = region; letters = letters }) true) after)
+    ≡ (list_any (meets (record { all = false; region = region; letters = letters }) false) before || list_any
+    (meets (record { all = false; region = region; letters = letters }) true) after)
 some_met Left letters before after = or_false (list_any (is_in letters) before) (list_any (λ x. false) after) (any_of_false after)
   where
     or_false : (a b : Bool) → b ≡ false → a ≡ (a || b)
@@ -87,15 +94,21 @@ pub record IsSatisfied (guard : Guard) (before after : List ℕ) : Type 0 where
   pub permitted_after : list_all (permits guard true) after ≡ true
   pub met : not guard.all ≡ true → (list_any (meets guard false) before || list_any (meets guard true) after) ≡ true
 
-pub satisfied_from_holds : (all : Bool) (region : Region) (letters before after : List ℕ) → guard_holds before after (record { all = all; region = region; letters = letters }) ≡ true
+pub satisfied_from_holds : (all : Bool) (region : Region) (letters before after : List ℕ)
+    → guard_holds before after (record { all = all; region = region; letters = letters }) ≡ true
     → IsSatisfied (record { all = all; region = region; letters = letters }) before after
 satisfied_from_holds true region letters before after h =
     let p = all_permits region letters before after h in
     record { permitted_before = p.0; permitted_after = p.1; met = λ e. absurd (true≢false (sym e)) }
 satisfied_from_holds false region letters before after h =
-    record { permitted_before = all_of_true before; permitted_after = all_of_true after; met = λ e. sym (some_met region letters before after) ∙ h }
+    record {
+      permitted_before = all_of_true before;
+      permitted_after = all_of_true after;
+      met = λ e. sym (some_met region letters before after) ∙ h;
+    }
 
-pub holds_from_satisfied : (all : Bool) (region : Region) (letters before after : List ℕ) → IsSatisfied (record { all = all; region = region; letters = letters }) before after
+pub holds_from_satisfied : (all : Bool) (region : Region) (letters before after : List ℕ)
+    → IsSatisfied (record { all = all; region = region; letters = letters }) before after
     → guard_holds before after (record { all = all; region = region; letters = letters }) ≡ true
 holds_from_satisfied true region letters before after s = all_holds region letters before after s.permitted_before s.permitted_after
 holds_from_satisfied false region letters before after s = some_met region letters before after ∙ s.met refl
@@ -126,8 +139,10 @@ covers_one-from a false h = refl
 pub flag_from_covers : (a b : List Bool) → covers a b ≡ true → (k : ℕ) → k < 4 → flag b k ≡ true → flag a k ≡ true
 flag_from_covers a b h k lt e = at k lt e
   where
-    first : (covers_one (flag a 0) (flag b 0) ≡ true) × ((covers_one (flag a 1) (flag b 1) && (covers_one (flag a 2) (flag b 2) && covers_one (flag a 3) (flag b 3))) ≡ true)
-    first = both (covers_one (flag a 0) (flag b 0)) (covers_one (flag a 1) (flag b 1) && (covers_one (flag a 2) (flag b 2) && covers_one (flag a 3) (flag b 3))) h
+    first : (covers_one (flag a 0) (flag b 0) ≡ true)
+        × ((covers_one (flag a 1) (flag b 1) && (covers_one (flag a 2) (flag b 2) && covers_one (flag a 3) (flag b 3))) ≡ true)
+    first = both (covers_one (flag a 0) (flag b 0))
+        (covers_one (flag a 1) (flag b 1) && (covers_one (flag a 2) (flag b 2) && covers_one (flag a 3) (flag b 3))) h
 
     second : (covers_one (flag a 1) (flag b 1) ≡ true) × ((covers_one (flag a 2) (flag b 2) && covers_one (flag a 3) (flag b 3)) ≡ true)
     second = both (covers_one (flag a 1) (flag b 1)) (covers_one (flag a 2) (flag b 2) && covers_one (flag a 3) (flag b 3)) first.1
@@ -146,28 +161,34 @@ pub covers_from_flags : (a b : List Bool) → ((k : ℕ) → k < 4 → flag b k 
 covers_from_flags a b each =
     both_true (covers_one (flag a 0) (flag b 0)) _ (covers_one-from (flag a 0) (flag b 0) (each 0 (omega arith)))
     (both_true (covers_one (flag a 1) (flag b 1)) _ (covers_one-from (flag a 1) (flag b 1) (each 1 (omega arith)))
-    (both_true (covers_one (flag a 2) (flag b 2)) (covers_one (flag a 3) (flag b 3)) (covers_one-from (flag a 2) (flag b 2) (each 2 (omega arith)))
+    (both_true (covers_one (flag a 2) (flag b 2)) (covers_one (flag a 3) (flag b 3))
+    (covers_one-from (flag a 2) (flag b 2) (each 2 (omega arith)))
     (covers_one-from (flag a 3) (flag b 3) (each 3 (omega arith)))))
 
 -- what an effect says: every guard permits the letter, and the flags are those of the guards that it meets
-pub permitted_from_effect : (guards : List Guard) (behind : Bool) (x : ℕ) (met : List Bool) → effect_of guards behind x ≡ Some met → (list_all (λ guard. permits guard behind x) guards ≡ true) × (met ≡ four_flags (meets_at guards behind x))
+pub permitted_from_effect : (guards : List Guard) (behind : Bool) (x : ℕ) (met : List Bool) → effect_of guards behind x ≡ Some met
+    → (list_all (λ guard. permits guard behind x) guards ≡ true) × (met ≡ four_flags (meets_at guards behind x))
 permitted_from_effect guards behind x met e = by (list_all (λ guard. permits guard behind x) guards) refl e
   where
-    by : (b : Bool) → list_all (λ guard. permits guard behind x) guards ≡ b → (if b then Some (four_flags (meets_at guards behind x)) else None) ≡ Some met
+    by : (b : Bool) → list_all (λ guard. permits guard behind x) guards ≡ b
+        → (if b then Some (four_flags (meets_at guards behind x)) else None) ≡ Some met
         → (list_all (λ guard. permits guard behind x) guards ≡ true) × (met ≡ four_flags (meets_at guards behind x))
     by true is e = (is, sym (same_Some _ _ e))
     by false is e = absurd (none-some met e)
 
-pub effect_from_permitted : (guards : List Guard) (behind : Bool) (x : ℕ) → list_all (λ guard. permits guard behind x) guards ≡ true → effect_of guards behind x ≡ Some (four_flags (meets_at guards behind x))
+pub effect_from_permitted : (guards : List Guard) (behind : Bool) (x : ℕ) → list_all (λ guard. permits guard behind x) guards ≡ true
+    → effect_of guards behind x ≡ Some (four_flags (meets_at guards behind x))
 effect_from_permitted guards behind x h = ap (λ b. if b then Some (four_flags (meets_at guards behind x)) else None) h
 
-pub meets_at-there : (guards : List Guard) (behind : Bool) (x k : ℕ) (guard : Guard) → slice_get guards k ≡ Some guard → meets_at guards behind x k ≡ meets guard behind x
+pub meets_at-there : (guards : List Guard) (behind : Bool) (x k : ℕ) (guard : Guard) → slice_get guards k ≡ Some guard
+    → meets_at guards behind x k ≡ meets guard behind x
 meets_at-there guards behind x k guard e = rw (e, meets_at)
 
 pub asks_at-there : (guards : List Guard) (k : ℕ) (guard : Guard) → slice_get guards k ≡ Some guard → asks_at guards k ≡ not guard.all
 asks_at-there guards k guard e = rw (e, asks_at)
 
-pub guard_from_asks : (guards : List Guard) (k : ℕ) → asks_at guards k ≡ true → (guard : Guard) × (slice_get guards k ≡ Some guard) × (not guard.all ≡ true)
+pub guard_from_asks : (guards : List Guard) (k : ℕ) → asks_at guards k ≡ true → (guard : Guard) × (slice_get guards k ≡ Some guard)
+    × (not guard.all ≡ true)
 guard_from_asks guards k h =
     elim (slice_get-cases guards k) [
       | inl found ↦ (found.0, found.1, sym (asks_at-there guards k found.0 found.1) ∙ h)
@@ -175,26 +196,32 @@ guard_from_asks guards k h =
     ]
 
 -- the flags that the effects of a side may set
-pub flag-fold : (effects : List (Option (List Bool))) (flags : List Bool) (k : ℕ) → k < 4 → flag flags k ≡ true → flag (fold widened flags effects) k ≡ true
+pub flag-fold : (effects : List (Option (List Bool))) (flags : List Bool) (k : ℕ) → k < 4 → flag flags k ≡ true
+    → flag (fold widened flags effects) k ≡ true
 flag-fold [] flags k lt h = h
 flag-fold (None ∷ effects) flags k lt h = flag-fold effects flags k lt h
-flag-fold (Some met ∷ effects) flags k lt h = flag-fold effects (union_of flags met) k lt (flag-four (λ j. flag flags j || flag met j) k lt ∙ or_left (flag flags k) (flag met k) h)
+flag-fold (Some met ∷ effects) flags k lt h = flag-fold effects (union_of flags met) k lt
+    (flag-four (λ j. flag flags j || flag met j) k lt ∙ or_left (flag flags k) (flag met k) h)
 
-pub flag-reach : (effects : List (Option (List Bool))) (flags met : List Bool) (i k : ℕ) → k < 4 → slice_get effects i ≡ Some (Some met) → flag met k ≡ true → flag (fold widened flags effects) k ≡ true
+pub flag-reach : (effects : List (Option (List Bool))) (flags met : List Bool) (i k : ℕ) → k < 4 → slice_get effects i ≡ Some (Some met)
+    → flag met k ≡ true → flag (fold widened flags effects) k ≡ true
 flag-reach [] flags met i k lt e h = absurd (none-some (Some met) e)
 flag-reach (effect ∷ effects) flags met zero k lt e h =
     subst (λ x. flag (fold widened (widened flags x) effects) k ≡ true) (sym (same_Some _ _ e))
-    (flag-fold effects (union_of flags met) k lt (flag-four (λ j. flag flags j || flag met j) k lt ∙ or_right (flag flags k) (flag met k) h))
+    (flag-fold effects (union_of flags met) k lt (flag-four (λ j. flag flags j || flag met j) k lt
+    ∙ or_right (flag flags k) (flag met k) h))
 flag-reach (effect ∷ effects) flags met (suc i) k lt e h = flag-reach effects (widened flags effect) met i k lt e h
 
 -- a flag that may be set comes from some effect
-pub effect_from_reach : (effects : List (Option (List Bool))) (flags : List Bool) (k : ℕ) → k < 4 → flag (fold widened flags effects) k ≡ true
+pub effect_from_reach : (effects : List (Option (List Bool))) (flags : List Bool) (k : ℕ) → k < 4
+    → flag (fold widened flags effects) k ≡ true
     → (flag flags k ≡ true) ⊎ ((i : ℕ) × (met : List Bool) × (slice_get effects i ≡ Some (Some met)) × (flag met k ≡ true))
 effect_from_reach [] flags k lt h = inl h
 effect_from_reach (None ∷ effects) flags k lt h =
     elim (effect_from_reach effects flags k lt h) [ inl old ↦ inl old | inr found ↦ inr (suc found.0, found.1, found.2, found.3) ]
 effect_from_reach (Some met ∷ effects) flags k lt h =
     elim (effect_from_reach effects (union_of flags met) k lt h) [
-      | inl old ↦ (elim (either_of (flag flags k) (flag met k) (sym (flag-four (λ j. flag flags j || flag met j) k lt) ∙ old)) [ inl a ↦ inl a | inr b ↦ inr (0, met, refl, b) ])
+      | inl old ↦ (elim (either_of (flag flags k) (flag met k) (sym (flag-four (λ j. flag flags j || flag met j) k lt) ∙ old))
+          [ inl a ↦ inl a | inr b ↦ inr (0, met, refl, b) ])
       | inr found ↦ inr (suc found.0, found.1, found.2, found.3)
     ]

@@ -38,7 +38,8 @@ same_exchange a b x y offset e =
 
 -- each edge exchanges two letters of the section
 pub record HasLetters (offset count : ℕ) (states : List (Node Label)) : Type 0 where
-  pub each : (p : ℕ) (edge : Label × ℕ) → Contains (edges_of states p) edge → (x y : ℕ) × (x < count) × (y < count) × (edge.0 ≡ exchange (x + offset) (y + offset))
+  pub each : (p : ℕ) (edge : Label × ℕ) → Contains (edges_of states p) edge → (x y : ℕ) × (x < count) × (y < count)
+      × (edge.0 ≡ exchange (x + offset) (y + offset))
 
 module _ (offset : ℕ) (states : List (Node Label)) where
   -- a path from the state p to an accepting state changes the first list into the second, position by position
@@ -66,7 +67,15 @@ pub record IsChanged (offset count : ℕ) (states : List (Node Label)) (p : ℕ)
 
 module _ (offset count : ℕ) (states : List (Node Label)) (letters : HasLetters offset count states) where
   pub IsChanged-exchanges : (u w : List ℕ) (p : ℕ) → Exchanges states p u w → IsChanged offset count states p u w
-  IsChanged-exchanges [] [] p h = record { old = []; new = []; old_in_range = tt; new_in_range = tt; word_before = refl; word_after = refl; changes = h }
+  IsChanged-exchanges [] [] p h = record {
+    old = [];
+    new = [];
+    old_in_range = tt;
+    new_in_range = tt;
+    word_before = refl;
+    word_after = refl;
+    changes = h;
+  }
   IsChanged-exchanges [] (b ∷ w) p h = absurd h
   IsChanged-exchanges (a ∷ u) [] p h = absurd h
   IsChanged-exchanges (a ∷ u) (b ∷ w) p h =
@@ -99,18 +108,31 @@ module _ (offset count : ℕ) (states : List (Node Label)) (letters : HasLetters
 
       to_move : Relates (record { letters = n; starts = 0 ∷ []; states = states }) u w → IsRaisedMove moves offset count u w
       to_move r =
-          let run = subst (λ q. RelatesFrom (record { letters = n; starts = 0 ∷ []; states = states }) q u w) (sym (Contains-single 0 r.start r.is_start)) r.run in
-          let c = IsChanged-exchanges u w 0 (exchanges_from_RelatesFrom (record { letters = n; starts = 0 ∷ []; states = states }) has_exchanges u w 0 run) in
-          record { old = c.old; new = c.new; old_in_range = c.old_in_range; new_in_range = c.new_in_range; word_before = c.word_before; word_after = c.word_after; leads = there c.old c.new c.changes }
+          let run = subst (λ q. RelatesFrom (record { letters = n; starts = 0 ∷ []; states = states }) q u w)
+          (sym (Contains-single 0 r.start r.is_start)) r.run in
+          let c = IsChanged-exchanges u w 0 (exchanges_from_RelatesFrom (record { letters = n; starts = 0 ∷ []; states = states })
+          has_exchanges u w 0 run) in
+          record {
+            old = c.old;
+            new = c.new;
+            old_in_range = c.old_in_range;
+            new_in_range = c.new_in_range;
+            word_before = c.word_before;
+            word_after = c.word_after;
+            leads = there c.old c.new c.changes;
+          }
 
       from_move : IsRaisedMove moves offset count u w → Relates (record { letters = n; starts = 0 ∷ []; states = states }) u w
       from_move m =
-          let run = RelatesFrom-exchanges (record { letters = n; starts = 0 ∷ []; states = states }) (raised offset m.old) (raised offset m.new) 0 (exchanges_from_Changes offset states m.old m.new 0 (back m.old m.new m.old_in_range m.new_in_range m.leads)) in
+          let run = RelatesFrom-exchanges (record { letters = n; starts = 0 ∷ []; states = states }) (raised offset m.old)
+          (raised offset m.new) 0 (exchanges_from_Changes offset states m.old m.new 0
+          (back m.old m.new m.old_in_range m.new_in_range m.leads)) in
           record {
             start = 0;
             is_start = (0, omega arith, refl);
             run = subst (λ v. RelatesFrom (record { letters = n; starts = 0 ∷ []; states = states }) 0 v w) (sym m.word_before)
-                (subst (λ v. RelatesFrom (record { letters = n; starts = 0 ∷ []; states = states }) 0 (raised offset m.old) v) (sym m.word_after) run);
+                (subst (λ v. RelatesFrom (record { letters = n; starts = 0 ∷ []; states = states }) 0 (raised offset m.old) v)
+                (sym m.word_after) run);
           }
 
 -- the lists have a common part over n letters, and then an edge of the list changes a letter
@@ -128,19 +150,36 @@ pub record Leaves (offset : ℕ) (states : List (Node Label)) (n : ℕ) (further
   pub rest : Changes offset states q old_rest new_rest
 
 -- a state that copies n letters, and has further edges
-module _ (offset : ℕ) (states : List (Node Label)) (p n : ℕ) (further : List (Label × ℕ)) (edges : edges_of states p ≡ copy_edges offset n p ++ further) where
-  pub leave : (s t : List ℕ) → Changes offset states p s t → ((s ≡ t) × AllBelow n s × IsTrue (is_accepting states p)) ⊎ Leaves offset states n further s t
+module _ (offset : ℕ) (states : List (Node Label)) (p n : ℕ) (further : List (Label × ℕ))
+    (edges : edges_of states p ≡ copy_edges offset n p ++ further) where
+  pub leave : (s t : List ℕ) → Changes offset states p s t → ((s ≡ t) × AllBelow n s × IsTrue (is_accepting states p))
+      ⊎ Leaves offset states n further s t
   leave [] [] h = inl (refl, tt, h)
   leave [] (y ∷ t) h = absurd h
   leave (x ∷ s) [] h = absurd h
   leave (x ∷ s) (y ∷ t) h =
-      elim (Contains-append_cases (copy_edges offset n p) further (exchange (x + offset) (y + offset), h.0) (subst (λ es. Contains es (exchange (x + offset) (y + offset), h.0)) edges h.1)) [
+      elim (Contains-append_cases (copy_edges offset n p) further (exchange (x + offset) (y + offset), h.0)
+      (subst (λ es. Contains es (exchange (x + offset) (y + offset), h.0)) edges h.1)) [
         | inl copied ↦ (let c = copy_from_edge offset n p (x + offset) (y + offset) h.0 copied in
-            copies x y s t (omega (arith, c.0.1)) (let e : x + offset ≡ y + offset = c.1 in omega arith) (leave s t (subst (λ q. Changes offset states q s t) c.2 h.2)))
-        | inr edge ↦ inr (record { before = []; before_in_range = tt; x = x; y = y; q = h.0; old_rest = s; new_rest = t; was = refl; becomes = refl; edge = edge; rest = h.2 })
+            copies x y s t (omega (arith, c.0.1)) (let e : x + offset ≡ y + offset = c.1 in omega arith)
+            (leave s t (subst (λ q. Changes offset states q s t) c.2 h.2)))
+        | inr edge ↦ inr (record {
+          before = [];
+          before_in_range = tt;
+          x = x;
+          y = y;
+          q = h.0;
+          old_rest = s;
+          new_rest = t;
+          was = refl;
+          becomes = refl;
+          edge = edge;
+          rest = h.2;
+        })
       ]
     where
-      copies : (x y : ℕ) (s t : List ℕ) → x < n → x ≡ y → ((s ≡ t) × AllBelow n s × IsTrue (is_accepting states p)) ⊎ Leaves offset states n further s t
+      copies : (x y : ℕ) (s t : List ℕ) → x < n → x ≡ y → ((s ≡ t) × AllBelow n s × IsTrue (is_accepting states p))
+          ⊎ Leaves offset states n further s t
           → ((x ∷ s ≡ y ∷ t) × AllBelow n (x ∷ s) × IsTrue (is_accepting states p)) ⊎ Leaves offset states n further (x ∷ s) (y ∷ t)
       copies x y s t lt e (inl h) = inl ((λ i. e i ∷ h.0 i), (lt, h.1), h.2)
       copies x y s t lt e (inr l) = inr (record {
@@ -160,14 +199,24 @@ module _ (offset : ℕ) (states : List (Node Label)) (p n : ℕ) (further : List
   copy_step : (x : ℕ) (s t : List ℕ) → x < n → Changes offset states p s t → Changes offset states p (x ∷ s) (x ∷ t)
   copy_step x s t lt rest =
       let low : offset ≤ x + offset = omega arith in
-      let high : x + offset < offset + n = omega arith in
-      (p, subst (λ es. Contains es (exchange (x + offset) (x + offset), p)) (sym edges) (Contains-append_left (copy_edges offset n p) further _ (copy_edge_from_letter offset n p (x + offset) (low, high))), rest)
+      let high : x + offset < offset + n = omega arith in (
+        p,
+        subst (λ es. Contains es (exchange (x + offset) (x + offset), p)) (sym edges)
+            (Contains-append_left (copy_edges offset n p) further _ (copy_edge_from_letter offset n p (x + offset) (low, high))),
+        rest,
+      )
 
   pub stay : (s : List ℕ) → AllBelow n s → IsTrue (is_accepting states p) → Changes offset states p s s
   stay [] h accepts = accepts
   stay (x ∷ s) h accepts = copy_step x s s h.0 (stay s h.1 accepts)
 
-  pub enter : (before : List ℕ) (x y q : ℕ) (s t : List ℕ) → AllBelow n before → Contains further (exchange (x + offset) (y + offset), q) → Changes offset states q s t
+  pub enter : (before : List ℕ) (x y q : ℕ) (s t : List ℕ) → AllBelow n before → Contains further (exchange (x + offset) (y + offset), q)
+      → Changes offset states q s t
       → Changes offset states p (before ++ x ∷ s) (before ++ y ∷ t)
-  enter [] x y q s t h edge rest = (q, subst (λ es. Contains es (exchange (x + offset) (y + offset), q)) (sym edges) (Contains-append_right (copy_edges offset n p) further _ edge), rest)
+  enter [] x y q s t h edge rest = (
+    q,
+    subst (λ es. Contains es (exchange (x + offset) (y + offset), q)) (sym edges)
+        (Contains-append_right (copy_edges offset n p) further _ edge),
+    rest,
+  )
   enter (z ∷ before) x y q s t h edge rest = copy_step z (before ++ x ∷ s) (before ++ y ∷ t) h.0 (enter before x y q s t h.1 edge rest)

@@ -1,5 +1,6 @@
 -- Lemmas on reading lists in phases: what the letters before and behind the moving position do, and what the machine of a move leads to.
-use Rattle.std.proofs.Common.{◌≡◌, ℕ, ◌<◌, ◌≤◌, Bool, true, false, ◌&&◌, ◌||◌, List, [], ◌∷◌, map, length, slice_get, slice_index, get_or, Option, Some, None, refl, sym, ap, ◌∙◌, inl, inr, arith, ◌⊎◌, true≢false, if◌then◌else◌, zero-add, ◌==◌}
+use Rattle.std.proofs.Common.{◌≡◌, ℕ, ◌<◌, ◌≤◌, Bool, true, false, ◌&&◌, ◌||◌, List, [], ◌∷◌, map, length, slice_get, slice_index, get_or}
+use Rattle.std.proofs.Common.{Option, Some, None, refl, sym, ap, ◌∙◌, inl, inr, arith, ◌⊎◌, true≢false, if◌then◌else◌, zero-add, ◌==◌}
 use Rattle.std.specs.List.{list_all, list_any, range_with_len, AllByRecursion}
 use Rattle.std.proofs.lemmas.List.FromFn.{length-range_with_len, get_or-range_with_len}
 use Rattle.std.proofs.lemmas.Option.{same_Some, none-some, slice_get_within, slice_get-get_or, get_or_from_slice_get}
@@ -9,9 +10,13 @@ use Rattle.protocol_model.specs.System.{AllBelow}
 use Rattle.protocol_model.specs.Moves.{table_value, guard_holds}
 use Rattle.array_moves.specs.declared.plan.Phase.{Phase}
 use Rattle.array_moves.specs.declared.plan.Plan.{Plan}
-use Rattle.array_moves.specs.Flags.{flag, four_flags, no_flags, union_of, covers, permits, meets, meets_at, effect_of, asks_at, required_of, reach_of}
+use Rattle.array_moves.specs.Flags.{flag, four_flags, no_flags, union_of, covers, permits, meets, meets_at, effect_of, asks_at}
+use Rattle.array_moves.specs.Flags.{required_of, reach_of}
 use Rattle.array_moves.specs.Phases.{IsPlan, first_phase, listed, with_effect, after_letter, can_end, after_move}
-use Rattle.array_moves.proofs.GuardLemmas.{either_of, or_left, or_right, all_at, all_from_each, both_true, IsSatisfied, satisfied_from_holds, holds_from_satisfied, flag-four, flag-none, flag_from_covers, covers_from_flags, permitted_from_effect, effect_from_permitted, meets_at-there, asks_at-there, guard_from_asks, flag-reach}
+use Rattle.array_moves.proofs.GuardLemmas.{either_of, or_left, or_right, all_at, all_from_each, both_true, IsSatisfied}
+use Rattle.array_moves.proofs.GuardLemmas.{satisfied_from_holds, holds_from_satisfied, flag-four, flag-none, flag_from_covers}
+use Rattle.array_moves.proofs.GuardLemmas.{covers_from_flags, permitted_from_effect, effect_from_permitted, meets_at-there, asks_at-there}
+use Rattle.array_moves.proofs.GuardLemmas.{guard_from_asks, flag-reach}
 
 or_with_false : (a : Bool) → a ≡ (a || false)
 or_with_false true = refl
@@ -24,7 +29,8 @@ or_regrouped false b c = refl
 -- the letters of a list are allowed on that side of the moving position, and change the flags to others
 abbrev pub Reads : List Guard → ℕ → Bool → List Bool → List ℕ → List Bool → Type 0
 Reads guards count behind met [] last = met ≡ last
-Reads guards count behind met (x ∷ s) last = (e : List Bool) × (x < count) × (effect_of guards behind x ≡ Some e) × Reads guards count behind (union_of met e) s last
+Reads guards count behind met (x ∷ s) last = (e : List Bool) × (x < count) × (effect_of guards behind x ≡ Some e)
+    × Reads guards count behind (union_of met e) s last
 
 -- a number is at its place in the range
 pub slice_get-range : (count x : ℕ) → x < count → slice_get (range_with_len 0 count) x ≡ Some x
@@ -34,17 +40,20 @@ slice_get-range count x h =
 
 module _ (guards : List Guard) (count : ℕ) (behind : Bool) where
   -- the flags after a list, one by one
-  pub flag-Reads : (s : List ℕ) (met last : List Bool) (k : ℕ) → k < 4 → Reads guards count behind met s last → flag last k ≡ (flag met k || list_any (λ x. meets_at guards behind x k) s)
+  pub flag-Reads : (s : List ℕ) (met last : List Bool) (k : ℕ) → k < 4 → Reads guards count behind met s last
+      → flag last k ≡ (flag met k || list_any (λ x. meets_at guards behind x k) s)
   flag-Reads [] met last k lt h = ap (λ f. flag f k) (sym h) ∙ or_with_false (flag met k)
   flag-Reads (x ∷ s) met last k lt h =
       let e = permitted_from_effect guards behind x h.0 h.2 in
       let one : flag h.0 k ≡ meets_at guards behind x k = ap (λ f. flag f k) e.1 ∙ flag-four (meets_at guards behind x) k lt in
       flag-Reads s (union_of met h.0) last k lt h.3
-      ∙ ap (λ b. b || list_any (λ x. meets_at guards behind x k) s) (flag-four (λ j. flag met j || flag h.0 j) k lt ∙ ap (λ b. flag met k || b) one)
+      ∙ ap (λ b. b || list_any (λ x. meets_at guards behind x k) s) (flag-four (λ j. flag met j || flag h.0 j) k lt
+      ∙ ap (λ b. flag met k || b) one)
       ∙ or_regrouped (flag met k) (meets_at guards behind x k) (list_any (λ x. meets_at guards behind x k) s)
 
   -- every guard permits the letters that were read
-  pub permits-Reads : (s : List ℕ) (met last : List Bool) (k : ℕ) (guard : Guard) → slice_get guards k ≡ Some guard → Reads guards count behind met s last → list_all (permits guard behind) s ≡ true
+  pub permits-Reads : (s : List ℕ) (met last : List Bool) (k : ℕ) (guard : Guard) → slice_get guards k ≡ Some guard
+      → Reads guards count behind met s last → list_all (permits guard behind) s ≡ true
   permits-Reads [] met last k guard at h = refl
   permits-Reads (x ∷ s) met last k guard at h =
       both_true (permits guard behind x) (list_all (permits guard behind) s)
@@ -52,12 +61,15 @@ module _ (guards : List Guard) (count : ℕ) (behind : Bool) where
       (permits-Reads s (union_of met h.0) last k guard at h.3)
 
   -- letters that every guard permits can be read
-  pub Reads-permitted : (s : List ℕ) (met : List Bool) → AllBelow count s → ((k : ℕ) (guard : Guard) → slice_get guards k ≡ Some guard → list_all (permits guard behind) s ≡ true)
+  pub Reads-permitted : (s : List ℕ) (met : List Bool) → AllBelow count s
+      → ((k : ℕ) (guard : Guard) → slice_get guards k ≡ Some guard → list_all (permits guard behind) s ≡ true)
       → (last : List Bool) × Reads guards count behind met s last
   Reads-permitted [] met below each = (met, refl)
   Reads-permitted (x ∷ s) met below each =
-      let here = all_from_each (λ g. permits g behind x) guards (λ k g at. (split (permits g behind x) (list_all (permits g behind) s) (each k g at)).0) in
-      let rest = Reads-permitted s (union_of met (four_flags (meets_at guards behind x))) below.1 (λ k g at. (split (permits g behind x) (list_all (permits g behind) s) (each k g at)).1) in
+      let here = all_from_each (λ g. permits g behind x) guards
+      (λ k g at. (split (permits g behind x) (list_all (permits g behind) s) (each k g at)).0) in
+      let rest = Reads-permitted s (union_of met (four_flags (meets_at guards behind x))) below.1
+      (λ k g at. (split (permits g behind x) (list_all (permits g behind) s) (each k g at)).1) in
       (rest.0, (four_flags (meets_at guards behind x), below.0, effect_from_permitted guards behind x here, rest.1))
     where
       split : (a b : Bool) → (a && b) ≡ true → (a ≡ true) × (b ≡ true)
@@ -72,7 +84,9 @@ module _ (guards : List Guard) (count : ℕ) (behind : Bool) where
       elim (reach-Reads s (union_of met h.0) last k lt h.3 set) [
         | inl now ↦ (elim (either_of (flag met k) (flag h.0 k) (sym (flag-four (λ j. flag met j || flag h.0 j) k lt) ∙ now)) [
           | inl before ↦ inl before
-          | inr new ↦ inr (flag-reach (map (effect_of guards behind) (range_with_len 0 count)) no_flags h.0 x k lt (slice_get-map_image (effect_of guards behind) (range_with_len 0 count) x x (slice_get-range count x h.1) ∙ ap Some h.2) new)
+          | inr new ↦ inr (flag-reach (map (effect_of guards behind) (range_with_len 0 count)) no_flags h.0 x k lt
+              (slice_get-map_image (effect_of guards behind) (range_with_len 0 count) x x (slice_get-range count x h.1)
+              ∙ ap Some h.2) new)
         ])
         | inr reach ↦ inr reach
       ]
@@ -82,17 +96,21 @@ listed-map count g x h = let at = slice_get-map_image g (range_with_len 0 count)
 
 -- the guards hold exactly where the lists on both sides can be read and the required guards are met then
 module _ (guards : List Guard) (count : ℕ) (limit : length guards ≤ 4) (before after : List ℕ) where
-  met_on_side : (behind : Bool) (s : List ℕ) (k : ℕ) (guard : Guard) → slice_get guards k ≡ Some guard → list_any (λ x. meets_at guards behind x k) s ≡ list_any (meets guard behind) s
+  met_on_side : (behind : Bool) (s : List ℕ) (k : ℕ) (guard : Guard) → slice_get guards k ≡ Some guard
+      → list_any (λ x. meets_at guards behind x k) s ≡ list_any (meets guard behind) s
   met_on_side behind s k guard at = λ i. list_any (λ x. meets_at-there guards behind x k guard at i) s
 
-  flags_of_both : (middle last : List Bool) (k : ℕ) (guard : Guard) → k < 4 → slice_get guards k ≡ Some guard → Reads guards count false no_flags before middle → Reads guards count true middle after last
+  flags_of_both : (middle last : List Bool) (k : ℕ) (guard : Guard) → k < 4 → slice_get guards k ≡ Some guard
+      → Reads guards count false no_flags before middle → Reads guards count true middle after last
       → flag last k ≡ (list_any (meets guard false) before || list_any (meets guard true) after)
   flags_of_both middle last k guard lt at first second =
       flag-Reads guards count true after middle last k lt second
-      ∙ (λ i. (flag-Reads guards count false before no_flags middle k lt first ∙ ap (λ b. b || list_any (λ x. meets_at guards false x k) before) (flag-none k)) i || met_on_side true after k guard at i)
+      ∙ (λ i. (flag-Reads guards count false before no_flags middle k lt first
+      ∙ ap (λ b. b || list_any (λ x. meets_at guards false x k) before) (flag-none k)) i || met_on_side true after k guard at i)
       ∙ ap (λ b. b || list_any (meets guard true) after) (met_on_side false before k guard at)
 
-  pub guarded_from_Reads : (middle last : List Bool) → Reads guards count false no_flags before middle → Reads guards count true middle after last → covers last (required_of guards) ≡ true
+  pub guarded_from_Reads : (middle last : List Bool) → Reads guards count false no_flags before middle
+      → Reads guards count true middle after last → covers last (required_of guards) ≡ true
       → list_all (guard_holds before after) guards ≡ true
   guarded_from_Reads middle last first second covered =
       all_from_each (guard_holds before after) guards (λ k guard at.
@@ -101,14 +119,17 @@ module _ (guards : List Guard) (count : ℕ) (limit : length guards ≤ 4) (befo
         permitted_before = permits-Reads guards count false before no_flags middle k guard at first;
         permitted_after = permits-Reads guards count true after middle last k guard at second;
         met = λ asks. sym (flags_of_both middle last k guard lt at first second)
-            ∙ flag_from_covers last (required_of guards) covered k lt (flag-four (asks_at guards) k lt ∙ asks_at-there guards k guard at ∙ asks);
+            ∙ flag_from_covers last (required_of guards) covered k lt (flag-four (asks_at guards) k lt ∙ asks_at-there guards k guard at
+            ∙ asks);
       }))
 
   pub Reads_from_guarded : AllBelow count before → AllBelow count after → list_all (guard_holds before after) guards ≡ true
-      → (middle last : List Bool) × Reads guards count false no_flags before middle × Reads guards count true middle after last × (covers last (required_of guards) ≡ true)
+      → (middle last : List Bool) × Reads guards count false no_flags before middle × Reads guards count true middle after last
+      × (covers last (required_of guards) ≡ true)
   Reads_from_guarded before_below after_below holds =
       let each : (k : ℕ) (guard : Guard) → slice_get guards k ≡ Some guard → IsSatisfied guard before after =
-      λ k guard at. satisfied_from_holds guard.all guard.region guard.letters before after (all_at (guard_holds before after) guards k guard holds at) in
+      λ k guard at. satisfied_from_holds guard.all guard.region guard.letters before after
+      (all_at (guard_holds before after) guards k guard holds at) in
       let first = Reads-permitted guards count false before no_flags before_below (λ k guard at. (each k guard at).permitted_before) in
       let second = Reads-permitted guards count true after first.0 after_below (λ k guard at. (each k guard at).permitted_after) in (
         first.0,
@@ -121,7 +142,8 @@ module _ (guards : List Guard) (count : ℕ) (limit : length guards ≤ 4) (befo
       )
 
 -- the letters that a table gives are in range
-pub table_value_in_range : (count : ℕ) (table : List (ℕ × ℕ)) (x : ℕ) → AllByRecursion (λ entry. (entry.0 < count) × (entry.1 < count)) table → x < count → table_value table x < count
+pub table_value_in_range : (count : ℕ) (table : List (ℕ × ℕ)) (x : ℕ)
+    → AllByRecursion (λ entry. (entry.0 < count) × (entry.1 < count)) table → x < count → table_value table x < count
 table_value_in_range count [] x h lt = lt
 table_value_in_range count (entry ∷ table) x h lt = by (entry.0 == x) (table_value_in_range count table x h.1 lt)
   where
@@ -129,61 +151,72 @@ table_value_in_range count (entry ∷ table) x h lt = by (entry.0 == x) (table_v
     by true rest = h.0.1
     by false rest = rest
 
-module _ (f t : ℕ) (guards : List Guard) (table : List (ℕ × ℕ)) (count : ℕ) (plan : Plan) (is_plan : IsPlan f t guards table count plan) where
-  pub image_is : (x : ℕ) → x < count → slice_index plan.images.items x ≡ table_value table x
-  image_is x h =
-      let at = slice_get-map_image (table_value table) (range_with_len 0 count) x x (slice_get-range count x h) in
-      ap (λ l. get_or l x 0) is_plan.images_are ∙ get_or_from_slice_get (map (table_value table) (range_with_len 0 count)) x (table_value table x) 0 at
+module _ (f t : ℕ) (guards : List Guard) (table : List (ℕ × ℕ)) (count : ℕ) (plan : Plan) (is_plan : IsPlan f t guards table count plan)
+  where
+    pub image_is : (x : ℕ) → x < count → slice_index plan.images.items x ≡ table_value table x
+    image_is x h =
+        let at = slice_get-map_image (table_value table) (range_with_len 0 count) x x (slice_get-range count x h) in
+        ap (λ l. get_or l x 0) is_plan.images_are ∙ get_or_from_slice_get (map (table_value table) (range_with_len 0 count)) x
+        (table_value table x) 0 at
 
-  effect_is : (moved : Bool) (x : ℕ) → x < count → listed (if moved then plan.behind.items else plan.before.items) x ≡ effect_of guards moved x
-  effect_is true x h = ap (λ l. listed l x) is_plan.behind_is ∙ listed-map count (effect_of guards true) x h
-  effect_is false x h = ap (λ l. listed l x) is_plan.before_is ∙ listed-map count (effect_of guards false) x h
+    effect_is : (moved : Bool) (x : ℕ) → x < count → listed (if moved then plan.behind.items else plan.before.items) x ≡ effect_of guards
+        moved x
+    effect_is true x h = ap (λ l. listed l x) is_plan.behind_is ∙ listed-map count (effect_of guards true) x h
+    effect_is false x h = ap (λ l. listed l x) is_plan.before_is ∙ listed-map count (effect_of guards false) x h
 
-  -- the phase after a letter, by its effect
-  pub effect_from_after : (moved : Bool) (met : List Bool) (x : ℕ) (q : Phase) → x < count → after_letter plan (record { moved = moved; met = met }) x ≡ Some q
-      → (e : List Bool) × (effect_of guards moved x ≡ Some e) × (q ≡ record { moved = moved; met = union_of met e })
-  effect_from_after moved met x q h after =
-      by (effect_of guards moved x) refl (ap (with_effect (record { moved = moved; met = met })) (sym (effect_is moved x h)) ∙ after)
-    where
-      by : (o : Option (List Bool)) → effect_of guards moved x ≡ o → with_effect (record { moved = moved; met = met }) o ≡ Some q
-          → (e : List Bool) × (effect_of guards moved x ≡ Some e) × (q ≡ record { moved = moved; met = union_of met e })
-      by None is e = absurd (none-some q e)
-      by (Some met') is e = (met', is, sym (same_Some _ _ e))
+    -- the phase after a letter, by its effect
+    pub effect_from_after : (moved : Bool) (met : List Bool) (x : ℕ) (q : Phase) → x < count
+        → after_letter plan (record { moved = moved; met = met }) x ≡ Some q
+        → (e : List Bool) × (effect_of guards moved x ≡ Some e) × (q ≡ record { moved = moved; met = union_of met e })
+    effect_from_after moved met x q h after =
+        by (effect_of guards moved x) refl (ap (with_effect (record { moved = moved; met = met })) (sym (effect_is moved x h)) ∙ after)
+      where
+        by : (o : Option (List Bool)) → effect_of guards moved x ≡ o → with_effect (record { moved = moved; met = met }) o ≡ Some q
+            → (e : List Bool) × (effect_of guards moved x ≡ Some e) × (q ≡ record { moved = moved; met = union_of met e })
+        by None is e = absurd (none-some q e)
+        by (Some met') is e = (met', is, sym (same_Some _ _ e))
 
-  pub after_from_effect : (moved : Bool) (met e : List Bool) (x : ℕ) → x < count → effect_of guards moved x ≡ Some e → after_letter plan (record { moved = moved; met = met }) x ≡ Some (record { moved = moved; met = union_of met e })
-  after_from_effect moved met e x h is = ap (with_effect (record { moved = moved; met = met })) (effect_is moved x h ∙ is)
+    pub after_from_effect : (moved : Bool) (met e : List Bool) (x : ℕ) → x < count → effect_of guards moved x ≡ Some e
+        → after_letter plan (record { moved = moved; met = met }) x ≡ Some (record { moved = moved; met = union_of met e })
+    after_from_effect moved met e x h is = ap (with_effect (record { moved = moved; met = met })) (effect_is moved x h ∙ is)
 
-  -- the phase behind the move
-  pub phase_from_move : (met : List Bool) (q : Phase) → after_move plan (record { moved = false; met = met }) ≡ Some q → q ≡ record { moved = true; met = met }
-  phase_from_move met q h = by (can_end plan (record { moved = true; met = met })) h
-    where
-      by : (b : Bool) → (if b then Some (let p : Phase = record { moved = true; met = met } in p) else None) ≡ Some q → q ≡ record { moved = true; met = met }
-      by true e = sym (same_Some _ _ e)
-      by false e = absurd (none-some q e)
+    -- the phase behind the move
+    pub phase_from_move : (met : List Bool) (q : Phase) → after_move plan (record { moved = false; met = met }) ≡ Some q
+        → q ≡ record { moved = true; met = met }
+    phase_from_move met q h = by (can_end plan (record { moved = true; met = met })) h
+      where
+        by : (b : Bool) → (if b then Some (let p : Phase = record { moved = true; met = met } in p) else None) ≡ Some q
+            → q ≡ record { moved = true; met = met }
+        by true e = sym (same_Some _ _ e)
+        by false e = absurd (none-some q e)
 
-  pub move_from_end : (met : List Bool) → can_end plan (record { moved = true; met = met }) ≡ true → after_move plan (record { moved = false; met = met }) ≡ Some (record { moved = true; met = met })
-  move_from_end met h = ap (λ b. if b then Some (let p : Phase = record { moved = true; met = met } in p) else None) h
+    pub move_from_end : (met : List Bool) → can_end plan (record { moved = true; met = met }) ≡ true
+        → after_move plan (record { moved = false; met = met }) ≡ Some (record { moved = true; met = met })
+    move_from_end met h = ap (λ b. if b then Some (let p : Phase = record { moved = true; met = met } in p) else None) h
 
-  -- a phase from which a list can be read to the end can end
-  pub can_end-behind : (met last : List Bool) (s : List ℕ) → Reads guards count true met s last → covers last plan.required ≡ true → can_end plan (record { moved = true; met = met }) ≡ true
-  can_end-behind met last s reads covered =
-      covers_from_flags (union_of met plan.reach_behind) plan.required (λ k lt set.
-      flag-four (λ j. flag met j || flag plan.reach_behind j) k lt
-      ∙ elim (reach-Reads guards count true s met last k lt reads (flag_from_covers last plan.required covered k lt set)) [
-        | inl before ↦ or_left (flag met k) (flag plan.reach_behind k) before
-        | inr reach ↦ or_right (flag met k) (flag plan.reach_behind k) (ap (λ r. flag r k) is_plan.reach_behind_is ∙ reach)
-      ])
+    -- a phase from which a list can be read to the end can end
+    pub can_end-behind : (met last : List Bool) (s : List ℕ) → Reads guards count true met s last → covers last plan.required ≡ true
+        → can_end plan (record { moved = true; met = met }) ≡ true
+    can_end-behind met last s reads covered =
+        covers_from_flags (union_of met plan.reach_behind) plan.required (λ k lt set.
+        flag-four (λ j. flag met j || flag plan.reach_behind j) k lt
+        ∙ elim (reach-Reads guards count true s met last k lt reads (flag_from_covers last plan.required covered k lt set)) [
+          | inl before ↦ or_left (flag met k) (flag plan.reach_behind k) before
+          | inr reach ↦ or_right (flag met k) (flag plan.reach_behind k) (ap (λ r. flag r k) is_plan.reach_behind_is ∙ reach)
+        ])
 
-  pub can_end-first : (middle last : List Bool) (s s' : List ℕ) → Reads guards count false no_flags s middle → Reads guards count true middle s' last → covers last plan.required ≡ true → can_end plan first_phase ≡ true
-  can_end-first middle last s s' first second covered =
-      covers_from_flags (union_of (union_of no_flags plan.reach_before) plan.reach_behind) plan.required (λ k lt set.
-      flag-four (λ j. flag (union_of no_flags plan.reach_before) j || flag plan.reach_behind j) k lt
-      ∙ elim (reach-Reads guards count true s' middle last k lt second (flag_from_covers last plan.required covered k lt set)) [
-        | inl earlier ↦ or_left (flag (union_of no_flags plan.reach_before) k) (flag plan.reach_behind k)
-            (flag-four (λ j. flag no_flags j || flag plan.reach_before j) k lt
-            ∙ elim (reach-Reads guards count false s no_flags middle k lt first earlier) [
-              | inl none ↦ absurd (true≢false (sym none ∙ flag-none k))
-              | inr reach ↦ or_right (flag no_flags k) (flag plan.reach_before k) (ap (λ r. flag r k) is_plan.reach_before_is ∙ reach)
-            ])
-        | inr reach ↦ or_right (flag (union_of no_flags plan.reach_before) k) (flag plan.reach_behind k) (ap (λ r. flag r k) is_plan.reach_behind_is ∙ reach)
-      ])
+    pub can_end-first : (middle last : List Bool) (s s' : List ℕ) → Reads guards count false no_flags s middle
+        → Reads guards count true middle s' last → covers last plan.required ≡ true → can_end plan first_phase ≡ true
+    can_end-first middle last s s' first second covered =
+        covers_from_flags (union_of (union_of no_flags plan.reach_before) plan.reach_behind) plan.required (λ k lt set.
+        flag-four (λ j. flag (union_of no_flags plan.reach_before) j || flag plan.reach_behind j) k lt
+        ∙ elim (reach-Reads guards count true s' middle last k lt second (flag_from_covers last plan.required covered k lt set)) [
+          | inl earlier ↦ or_left (flag (union_of no_flags plan.reach_before) k) (flag plan.reach_behind k)
+              (flag-four (λ j. flag no_flags j || flag plan.reach_before j) k lt
+              ∙ elim (reach-Reads guards count false s no_flags middle k lt first earlier) [
+                | inl none ↦ absurd (true≢false (sym none ∙ flag-none k))
+                | inr reach ↦ or_right (flag no_flags k) (flag plan.reach_before k) (ap (λ r. flag r k) is_plan.reach_before_is ∙ reach)
+              ])
+          | inr reach ↦ or_right (flag (union_of no_flags plan.reach_before) k) (flag plan.reach_behind k)
+              (ap (λ r. flag r k) is_plan.reach_behind_is ∙ reach)
+        ])

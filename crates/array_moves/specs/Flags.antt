@@ -1,5 +1,6 @@
 -- Flags for the guards of a move: which of them are met. A move has four guards at most.
-use Rattle.std.specs.Prelude.{◌&&◌, ◌||◌, ℕ, Bool, true, false, not, List, [], ◌∷◌, Option, None, Some, fold, slice_get, slice_index_or, if◌then◌else◌}
+use Rattle.std.specs.Prelude.{◌&&◌, ◌||◌, ℕ, Bool, true, false, not, List, [], ◌∷◌, Option, None, Some, fold, slice_get, slice_index_or}
+use Rattle.std.specs.Prelude.{if◌then◌else◌}
 use Rattle.std.specs.List.{list_all}
 use Rattle.protocol_syntax.specs.declared.protocol.Region.{Region}
 use Rattle.protocol_syntax.specs.declared.protocol.Region.TheVariants.{Left, Right, Others}
@@ -29,7 +30,8 @@ covers_one a b = not b || a
 -- whether the first flags have all of the second
 abbrev pub covers : List Bool → List Bool → Bool
 covers a b =
-    covers_one (flag a 0) (flag b 0) && (covers_one (flag a 1) (flag b 1) && (covers_one (flag a 2) (flag b 2) && covers_one (flag a 3) (flag b 3)))
+    covers_one (flag a 0) (flag b 0) && (covers_one (flag a 1) (flag b 1) &&
+    (covers_one (flag a 2) (flag b 2) && covers_one (flag a 3) (flag b 3)))
 
 -- whether the region has the positions behind the moving one (true), or those before it (false)
 abbrev pub has_side : Region → Bool → Bool

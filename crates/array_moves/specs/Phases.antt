@@ -1,5 +1,6 @@
 -- The phases of a machine for an `at` move: whether the moving position has been passed, and which guards are met.
-use Rattle.std.specs.Prelude.{◌≡◌, ◌+◌, ◌^◌, ◌<◌, ◌≤◌, ◌⊎◌, ◌&&◌, ℕ, zero, suc, Bool, true, false, List, [], ◌∷◌, Option, None, Some, All, Contains, IsTrue, map, length, slice_get, slice_index, if◌then◌else◌}
+use Rattle.std.specs.Prelude.{◌≡◌, ◌+◌, ◌^◌, ◌<◌, ◌≤◌, ◌⊎◌, ◌&&◌, ℕ, zero, suc, Bool, true, false, List, [], ◌∷◌, Option, None, Some, All}
+use Rattle.std.specs.Prelude.{Contains, IsTrue, map, length, slice_get, slice_index, if◌then◌else◌}
 use Rattle.std.specs.List.{range_with_len}
 use Rattle.word_automata.specs.Path.{Node}
 use Rattle.transducers.specs.declared.Label.{Label}
@@ -124,10 +125,12 @@ pub record IsTarget (states : List (Node Label)) (k : ℕ) : Type 0 where
   pub is_there : slice_get states j ≡ Some node
   pub edge : Contains node.edges (l, k)
 
--- the states made so far are those of the first phases; a phase that is not the first is the target of an edge from a phase with a smaller number
+-- the states made so far are those of the first phases; a phase that is not the first is the target of an edge from a phase with a
+-- smaller number
 pub record AreStates (plan : Plan) (offset count : ℕ) (phases : List Phase) (states : List (Node Label)) : Type 0 where
   pub within : length states ≤ length phases
-  pub each : (k : ℕ) (p : Phase) (node : Node Label) → slice_get phases k ≡ Some p → slice_get states k ≡ Some node → IsStateOf plan offset count phases p node
+  pub each : (k : ℕ) (p : Phase) (node : Node Label) → slice_get phases k ≡ Some p → slice_get states k ≡ Some node
+      → IsStateOf plan offset count phases p node
   pub reached : (k : ℕ) → k < length phases → (k ≡ 0) ⊎ IsTarget states k
 
 -- the first phase alone, where the guards can be met from there, and else none
@@ -143,7 +146,8 @@ pub record HasRoom (offset count : ℕ) (plan : Plan) : Type 0 where
   pub into_fits : plan.into + offset < 2 ^ 32
   pub letters_fit : count + offset < 2 ^ 32
 
--- the machine's states are those of the phases that can be reached, each once, of which the first is number 0; there is none where the guards cannot be met
+-- the machine's states are those of the phases that can be reached, each once, of which the first is number 0; there is none where the
+-- guards cannot be met
 pub record IsMachine (plan : Plan) (offset count : ℕ) (phases : List Phase) (states : List (Node Label)) : Type 0 where
   pub are_states : AreStates plan offset count phases states
   pub same_length : length states ≡ length phases

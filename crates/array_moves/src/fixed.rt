@@ -25,7 +25,8 @@ pub(crate) fn compile_pair(
     ensures letters { IfOk result (λ t. t.letters ≡ alphabet.letters) }
     ensures size { IfOk result (λ t. length t.states ≤ 32) }
     ensures trim { IfOk result IsTrim }
-    ensures relates { IfOk result (λ t. (u w : List ℕ) → Relates t u w ↔ IsRaisedMove (IsPairMove a b c d) alphabet.offset alphabet.count u w) }
+    ensures relates { IfOk result (λ t. (u w : List ℕ) → Relates t u w
+        ↔ IsRaisedMove (IsPairMove a b c d) alphabet.offset alphabet.count u w) }
 {
     let states = pair_states(alloc, a, b, c, d, alphabet)?;
     let starts = vec![in alloc; 0]?;
@@ -46,7 +47,8 @@ pub(crate) fn compile_ring(
     ensures letters { IfOk result (λ t. t.letters ≡ alphabet.letters) }
     ensures size { IfOk result (λ t. length t.states ≤ 32) }
     ensures trim { IfOk result IsTrim }
-    ensures relates { IfOk result (λ t. (u w : List ℕ) → Relates t u w ↔ IsRaisedMove (IsRingMove a b c d) alphabet.offset alphabet.count u w) }
+    ensures relates { IfOk result (λ t. (u w : List ℕ) → Relates t u w
+        ↔ IsRaisedMove (IsRingMove a b c d) alphabet.offset alphabet.count u w) }
 {
     let states = ring_states(alloc, a, b, c, d, alphabet)?;
     let starts = vec![in alloc; 0]?;
@@ -67,7 +69,8 @@ pub(crate) fn compile_two(
     ensures letters { IfOk result (λ t. t.letters ≡ alphabet.letters) }
     ensures size { IfOk result (λ t. length t.states ≤ 32) }
     ensures trim { IfOk result IsTrim }
-    ensures relates { IfOk result (λ t. (u w : List ℕ) → Relates t u w ↔ IsRaisedMove (IsTwoMove a b c d) alphabet.offset alphabet.count u w) }
+    ensures relates { IfOk result (λ t. (u w : List ℕ) → Relates t u w
+        ↔ IsRaisedMove (IsTwoMove a b c d) alphabet.offset alphabet.count u w) }
 {
     let states = two_states(alloc, a, b, c, d, alphabet)?;
     let starts = vec![in alloc; 0]?;

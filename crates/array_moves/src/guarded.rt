@@ -31,7 +31,8 @@ pub(crate) fn compile_at(
     ensures letters { IfOk result (λ t. t.letters ≡ alphabet.letters) }
     ensures size { IfOk result (λ t. length t.states ≤ 32) }
     ensures trim { IfOk result IsTrim }
-    ensures relates { IfOk result (λ t. (u w : List ℕ) → Relates t u w ↔ IsRaisedMove (IsAtMove from into guards.now table.now) alphabet.offset alphabet.count u w) }
+    ensures relates { IfOk result (λ t. (u w : List ℕ) → Relates t u w
+        ↔ IsRaisedMove (IsAtMove from into guards.now table.now) alphabet.offset alphabet.count u w) }
 {
     let plan = plan_of(alloc, from, into, guards, table, alphabet.count)?;
     let states = states(alloc, &plan, alphabet)?;

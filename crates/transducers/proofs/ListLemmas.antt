@@ -1,5 +1,6 @@
 -- Lemmas on the elements of lists by their places.
-use Rattle.std.proofs.Common.{◌≡◌, ℕ, zero, suc, ◌+◌, ◌-◌, ◌<◌, ◌≤◌, List, [], ◌∷◌, ◌++◌, map, length, slice_get, Option, Some, None, Contains, refl, sym, ap, ◌∙◌, inl, inr, arith, ◌⊎◌}
+use Rattle.std.proofs.Common.{◌≡◌, ℕ, zero, suc, ◌+◌, ◌-◌, ◌<◌, ◌≤◌, List, [], ◌∷◌, ◌++◌, map, length, slice_get, Option, Some, None}
+use Rattle.std.proofs.Common.{Contains, refl, sym, ap, ◌∙◌, inl, inr, arith, ◌⊎◌}
 use Rattle.std.specs.List.{range_with_len}
 use Rattle.std.specs.Option.{option_map}
 use Rattle.std.proofs.Math.Nat.{add-zero, add-suc}
@@ -14,7 +15,8 @@ slice_get-append_left (y ∷ xs) ys zero x e = e
 slice_get-append_left (y ∷ xs) ys (suc k) x e = slice_get-append_left xs ys k x e
 
 -- an element after a push is an old one or the pushed one
-pub slice_get-push_cases : {X : Type 0} (xs : List X) (y : X) (k : ℕ) (x : X) → slice_get (xs ++ y ∷ []) k ≡ Some x → (slice_get xs k ≡ Some x) ⊎ (y ≡ x)
+pub slice_get-push_cases : {X : Type 0} (xs : List X) (y : X) (k : ℕ) (x : X) → slice_get (xs ++ y ∷ []) k ≡ Some x
+    → (slice_get xs k ≡ Some x) ⊎ (y ≡ x)
 slice_get-push_cases [] y zero x e = inr (same_Some y x e)
 slice_get-push_cases [] y (suc k) x e = cc
 slice_get-push_cases (z ∷ xs) y zero x e = inl e
@@ -55,12 +57,14 @@ slice_get-within (x ∷ xs) zero h = (x, refl)
 slice_get-within (x ∷ xs) (suc k) h = slice_get-within xs k (omega arith)
 
 -- an element of a mapped list comes from one of the list
-pub slice_get-map_cases : {X Y : Type 0} (f : X → Y) (xs : List X) (k : ℕ) (y : Y) → slice_get (map f xs) k ≡ Some y → (x : X) × (slice_get xs k ≡ Some x) × (f x ≡ y)
+pub slice_get-map_cases : {X Y : Type 0} (f : X → Y) (xs : List X) (k : ℕ) (y : Y) → slice_get (map f xs) k ≡ Some y → (x : X)
+    × (slice_get xs k ≡ Some x) × (f x ≡ y)
 slice_get-map_cases f [] k y e = cc
 slice_get-map_cases f (x ∷ xs) zero y e = (x, refl, same_Some _ _ e)
 slice_get-map_cases f (x ∷ xs) (suc k) y e = slice_get-map_cases f xs k y e
 
-pub slice_get-map_image : {X Y : Type 0} (f : X → Y) (xs : List X) (k : ℕ) (x : X) → slice_get xs k ≡ Some x → slice_get (map f xs) k ≡ Some (f x)
+pub slice_get-map_image : {X Y : Type 0} (f : X → Y) (xs : List X) (k : ℕ) (x : X) → slice_get xs k ≡ Some x
+    → slice_get (map f xs) k ≡ Some (f x)
 slice_get-map_image f [] k x e = cc
 slice_get-map_image f (y ∷ xs) zero x e = ap (λ o. option_map f o) e
 slice_get-map_image f (y ∷ xs) (suc k) x e = slice_get-map_image f xs k x e
@@ -72,7 +76,8 @@ Contains-map_cases f xs y h =
     (from.0, Contains-from_place xs at.0 from.0 from.1, from.2)
 
 pub Contains-map_image : {X Y : Type 0} (f : X → Y) (xs : List X) (x : X) → Contains xs x → Contains (map f xs) (f x)
-Contains-map_image f xs x h = let at = place_from_Contains xs x h in Contains-from_place (map f xs) at.0 (f x) (slice_get-map_image f xs at.0 x at.1)
+Contains-map_image f xs x h = let at = place_from_Contains xs x h in Contains-from_place (map f xs) at.0 (f x)
+    (slice_get-map_image f xs at.0 x at.1)
 
 -- the numbers from the offset on
 pub Contains-range_cases : (offset count a : ℕ) → Contains (range_with_len offset count) a → (offset ≤ a) × (a < offset + count)

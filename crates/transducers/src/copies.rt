@@ -58,7 +58,8 @@ pub fn copy_one(
 ) -> Result<Transducer, AllocError>
     requires { offset + count ≤ letters }
     ensures letters { IfOk result (λ t. t.letters ≡ letters) }
-    ensures copies { IfOk result (λ t. (u w : List ℕ) → Relates t u w ↔ ((a : ℕ) × (offset ≤ a) × (a < offset + count) × (u ≡ a ∷ []) × (w ≡ a ∷ []))) }
+    ensures copies { IfOk result (λ t. (u w : List ℕ) → Relates t u w
+        ↔ ((a : ℕ) × (offset ≤ a) × (a < offset + count) × (u ≡ a ∷ []) × (w ≡ a ∷ []))) }
 {
     let mut builder = TransducerBuilder::new(alloc, letters);
     let first = builder.state(false)?;

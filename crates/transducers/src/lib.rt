@@ -5,6 +5,8 @@ mod builder;
 mod combination;
 mod copies;
 mod search;
+#[cfg(test)]
+mod tests;
 
 ghost use Rattle.std.specs.Prelude.{◌≡◌, ◌<◌, ◌^◌, IfOk, length};
 ghost use Rattle.word_automata.specs.Path.{edges_of, is_accepting};

@@ -14,13 +14,18 @@ letters-preserved c =
           let read = slice_get_read images (length images) c.letters.letter w.index-image.result.now refl lt w.index-image.ensures in
           let image = sym (get_or_from_slice_get images c.letters.letter w.index-image.result.now 0 read) in
           rw (w.phases-is, w.edges-is)
-          (subst (LetterEdges c.args.plan.now c.args.alphabet.offset (c.letters.letter + 1) c.args.phase c.args.phases.now.keys w.number.new.phases.keys)
+          (subst (LetterEdges c.args.plan.now c.args.alphabet.offset (c.letters.letter + 1) c.args.phase c.args.phases.now.keys
+          w.number.new.phases.keys)
           (sym (w.in_ok-push.ensures.items ∙ ap (λ l. c.letters.edges.items ++ (l, w.in_ok-target.target) ∷ []) w.exchange-label.ensures))
-          (LetterEdges-allowed c.args.plan.now c.args.alphabet.offset c.args.phase c.letters.letter _ _ _ c.letters.invariant _ _ _ w.index-image.result.now (sym w.in-Some.ensures) w.in_ok-target.ensures image))
-      | in_default w ↦ rw (w.phases-is, w.edges-is) (LetterEdges-forbidden c.args.plan.now c.args.alphabet.offset c.args.phase c.letters.letter _ _ _ c.letters.invariant (sym w.in_default.ensures))
+          (LetterEdges-allowed c.args.plan.now c.args.alphabet.offset c.args.phase c.letters.letter _ _ _ c.letters.invariant _ _ _
+          w.index-image.result.now (sym w.in-Some.ensures) w.in_ok-target.ensures image))
+      | in_default w ↦ rw (w.phases-is, w.edges-is)
+          (LetterEdges-forbidden c.args.plan.now c.args.alphabet.offset c.args.phase c.letters.letter _ _ _ c.letters.invariant
+          (sym w.in_default.ensures))
     ]
 
 pub returns : goal.returns
 returns c =
     let is : c.letters.letter ≡ c.args.alphabet.count = omega arith in
-    subst (λ n. LetterEdges c.args.plan.now c.args.alphabet.offset n c.args.phase c.args.phases.now.keys c.letters.phases.keys c.letters.edges.items) is c.letters.invariant
+    subst (λ n. LetterEdges c.args.plan.now c.args.alphabet.offset n c.args.phase c.args.phases.now.keys c.letters.phases.keys
+    c.letters.edges.items) is c.letters.invariant

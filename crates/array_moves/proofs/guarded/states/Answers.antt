@@ -9,16 +9,19 @@ use Rattle.array_moves.specs.declared.plan.Phase.{Phase}
 use Rattle.array_moves.proofs.guarded.states.Goals as goal
 
 pub phases-init : goal.phases-init
-phases-init c = rw c.new-states.ensures.items (IsGrowing-start c.args.plan.now c.args.alphabet.offset c.args.alphabet.count _ c.in_ok-phases.ensures)
+phases-init c = rw c.new-states.ensures.items (IsGrowing-start c.args.plan.now c.args.alphabet.offset c.args.alphabet.count _
+    c.in_ok-phases.ensures)
 
 pub phases-preserved : goal.phases-preserved
 phases-preserved c =
     let node : Node Label = record { accepting = c.is_final.result; edges = c.in_ok-edges.edges.items } in
     let at : slice_get c.phases.phases.keys (length c.phases.states.items) ≡ Some c.phase_at-phase.result =
-    subst (λ n. slice_get c.phases.phases.keys n ≡ Some c.phase_at-phase.result) (c.len-in-phases-2.ensures ∙ c.phases.states.ok.0) c.phase_at-phase.ensures in
+    subst (λ n. slice_get c.phases.phases.keys n ≡ Some c.phase_at-phase.result) (c.len-in-phases-2.ensures
+    ∙ c.phases.states.ok.0) c.phase_at-phase.ensures in
     subst (IsGrowing c.args.plan.now c.args.alphabet.offset c.args.alphabet.count c.phase_edges.new.phases.keys)
     (sym (c.in_ok-push.ensures.items ∙ ap (λ n. c.phases.states.items ++ n ∷ []) c.new.ensures))
-    (IsGrowing-more c.args.plan.now c.args.alphabet.offset c.args.alphabet.count c.phases.phases.keys c.phase_edges.new.phases.keys c.phases.states.items c.phase_at-phase.result node
+    (IsGrowing-more c.args.plan.now c.args.alphabet.offset c.args.alphabet.count c.phases.phases.keys c.phase_edges.new.phases.keys
+    c.phases.states.items c.phase_at-phase.result node
     c.phases.invariant at c.is_final.ensures c.in_ok-edges.ensures)
 
 beq_own : (b : Bool) → beq b b ≡ true

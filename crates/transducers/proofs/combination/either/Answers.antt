@@ -5,7 +5,11 @@ use Rattle.transducers.proofs.combination.either.Goals as goal
 use Rattle.transducers.proofs.combination.either.Goals.{After-a}
 
 the_transducer : After-a → Transducer
-the_transducer c = record { letters = c.a.inside.letters; starts = c.push_starts-2.new.starts.items; states = c.push_states-2.new.states.items }
+the_transducer c = record {
+  letters = c.a.inside.letters;
+  starts = c.push_starts-2.new.starts.items;
+  states = c.push_states-2.new.states.items;
+}
 
 is_union : (c : After-a) → the_transducer c ≡ union_of c.args.a.now c.args.b.now
 unfolding the_transducer
@@ -16,10 +20,12 @@ is_union c =
 
 pub invariant_of-result : goal.invariant_of-result
 unfolding the_transducer
-invariant_of-result c = subst IsValid (sym (is_union c)) (IsValid-union c.args.a.now c.args.b.now c.states-behind.ensures.valid c.states.ensures.valid c.requires)
+invariant_of-result c = subst IsValid (sym (is_union c))
+    (IsValid-union c.args.a.now c.args.b.now c.states-behind.ensures.valid c.states.ensures.valid c.requires)
 
 pub returns-clause-union : goal.returns-clause-union
 unfolding the_transducer
 returns-clause-union c u w =
-    subst (λ t. (Relates t u w → Relates c.args.a.now u w ⊎ Relates c.args.b.now u w) × (Relates c.args.a.now u w ⊎ Relates c.args.b.now u w → Relates t u w)) (sym (is_union c))
+    subst (λ t. (Relates t u w → Relates c.args.a.now u w ⊎ Relates c.args.b.now u w)
+    × (Relates c.args.a.now u w ⊎ Relates c.args.b.now u w → Relates t u w)) (sym (is_union c))
     (Relates-union c.args.a.now c.args.b.now c.states-behind.ensures.valid c.states.ensures.valid c.requires u w)

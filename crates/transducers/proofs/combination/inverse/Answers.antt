@@ -20,4 +20,5 @@ invariant_of-result c = subst IsValid (sym (is_inverse c)) (IsValid-inverse c.ar
 
 pub returns-clause-inverse : goal.returns-clause-inverse
 unfolding the_transducer
-returns-clause-inverse c u w = subst (λ t. (Relates t u w → Relates c.args.a.now w u) × (Relates c.args.a.now w u → Relates t u w)) (sym (is_inverse c)) (Relates-inverse c.args.a.now u w)
+returns-clause-inverse c u w = subst (λ t. (Relates t u w → Relates c.args.a.now w u)
+    × (Relates c.args.a.now w u → Relates t u w)) (sym (is_inverse c)) (Relates-inverse c.args.a.now u w)

@@ -4,11 +4,14 @@ use Rattle.transducers.proofs.copies.copy_one.Goals as goal
 
 pub edges-requires-clause-edges_in_range : goal.edges-requires-clause-edges_in_range
 edges-requires-clause-edges_in_range c =
-    one_in_range c.args.letters c.args.offset c.args.count _ _ _ _ _ _ _ c.new-builder.ensures c.in_ok-first.ensures.number c.in_ok-first.ensures.added c.in_ok-last.ensures.number c.in_ok-last.ensures.added
+    one_in_range c.args.letters c.args.offset c.args.count _ _ _ _ _ _ _ c.new-builder.ensures c.in_ok-first.ensures.number
+    c.in_ok-first.ensures.added c.in_ok-last.ensures.number c.in_ok-last.ensures.added
     c.in_ok-start.ensures.added (c.as_slice.ensures.value ∙ c.in_ok-edges.ensures) c.requires
 
 pub returns-clause-copies : goal.returns-clause-copies
 returns-clause-copies c =
-    let built = built_one c.args.letters c.args.offset c.args.count _ _ _ _ _ _ _ _ _ c.new-builder.ensures c.in_ok-first.ensures.number c.in_ok-first.ensures.added c.in_ok-last.ensures.number
-    c.in_ok-last.ensures.added c.in_ok-start.ensures.added (c.as_slice.ensures.value ∙ c.in_ok-edges.ensures) c.in_ok-edges-2.ensures.added c.finish.ensures in
+    let built = built_one c.args.letters c.args.offset c.args.count _ _ _ _ _ _ _ _ _ c.new-builder.ensures c.in_ok-first.ensures.number
+    c.in_ok-first.ensures.added c.in_ok-last.ensures.number
+    c.in_ok-last.ensures.added c.in_ok-start.ensures.added (c.as_slice.ensures.value
+    ∙ c.in_ok-edges.ensures) c.in_ok-edges-2.ensures.added c.finish.ensures in
     λ u w. rw built (Relates-one_copy c.args.letters c.args.offset c.args.count u w)
