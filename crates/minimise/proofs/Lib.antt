@@ -3,4 +3,4 @@ pub mod LeastStates
 pub mod Refining
 pub mod Splitting
 pub mod Unique
-pub mod Tests
+pub mod Comparisons

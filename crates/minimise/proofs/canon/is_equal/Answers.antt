@@ -2,7 +2,7 @@ use Rattle.std.proofs.Common.{◌≡◌, ◌<◌, ℕ, length, sym, ap, ◌∙�
 use Rattle.std.proofs.lemmas.Bool.{true≢false}
 use Rattle.word_automata.specs.Path.{edges_of, is_accepting}
 use Rattle.word_automata.specs.Automaton.{Automaton}
-use Rattle.minimise.proofs.Tests.{other_flag, same_flag, other_edges, same_edges_test}
+use Rattle.minimise.proofs.Comparisons.{other_flag, same_flag, other_edges, same_edges_test}
 use Rattle.minimise.proofs.Unique.{same_nodes}
 use Rattle.minimise.proofs.canon.is_equal.Goals as goal
 use Rattle.minimise.proofs.canon.is_equal.Goals.{then-accepting-via-then-accepting, then-accepting-via-else-accepting+then-ne}
