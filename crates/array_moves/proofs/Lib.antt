@@ -5,3 +5,4 @@ mod GuardLemmas
 mod RunLemmas
 mod MachineLemmas
 mod TrimLemmas
+mod ValidityLemmas

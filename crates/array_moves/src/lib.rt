@@ -4,6 +4,8 @@
 mod fixed;
 mod guarded;
 mod plan;
+#[cfg(test)]
+mod tests;
 
 ghost use Rattle.std.specs.Prelude.{◌≡◌, ◌↔◌, ◌+◌, ◌≤◌, ℕ, List, IfOk, length};
 ghost use Rattle.protocol_model.specs.System.{IsValidMove, kind_of_move};
