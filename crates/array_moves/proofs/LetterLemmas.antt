@@ -10,7 +10,7 @@ use Rattle.transducers.proofs.ExchangeLemmas.{Exchanges, HasExchanges, RelatesFr
 use Rattle.transducers.proofs.CopyLemmas.{copy_from_edge, copy_edge_from_letter, Contains-single}
 use Rattle.protocol_model.specs.System.{AllBelow}
 use Rattle.protocol_model.specs.Words.{raised}
-use Rattle.array_moves.specs.Compiled.{IsRaisedMove}
+use Rattle.protocol_model.specs.Raised.{IsRaisedMove}
 
 -- lists over no letter, and parts of lists in range
 pub nothing_below_zero : (s : List ℕ) → AllBelow 0 s → s ≡ []

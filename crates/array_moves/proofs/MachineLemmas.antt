@@ -18,7 +18,7 @@ use Rattle.protocol_model.specs.System.{AllBelow, IsValidAt}
 use Rattle.protocol_model.specs.Moves.{table_value, IsAtMove}
 use Rattle.array_moves.specs.declared.plan.Phase.{Phase}
 use Rattle.array_moves.specs.declared.plan.Plan.{Plan}
-use Rattle.array_moves.specs.Compiled.{IsRaisedMove}
+use Rattle.protocol_model.specs.Raised.{IsRaisedMove}
 use Rattle.array_moves.specs.Flags.{no_flags, union_of, covers, effect_of}
 use Rattle.array_moves.specs.Phases.{IsPlan, first_phase, can_end, HasRoom, starts_of, IsLetterEdge, IsMoveEdge, IsStateOf, IsMachine}
 use Rattle.array_moves.proofs.LetterLemmas.{same_exchange, Changes, AllBelow-left, AllBelow-right, HasLetters, Relates-raised}

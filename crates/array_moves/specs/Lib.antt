@@ -1,4 +1,3 @@
-pub mod Compiled
 pub mod Fixed
 pub mod Flags
 pub mod Phases

@@ -4,7 +4,7 @@ ghost use Rattle.std.specs.Prelude.{◌≡◌, ◌↔◌, ◌≤◌, ◌<◌, �
 ghost use Rattle.protocol_model.specs.System.{AllBelow};
 ghost use Rattle.protocol_model.specs.Moves.{IsPairMove, IsRingMove, IsTwoMove};
 ghost use Rattle.transducers.specs.Transducer.{Relates, IsTrim};
-ghost use Rattle.array_moves.specs.Compiled.{IsRaisedMove};
+ghost use Rattle.protocol_model.specs.Raised.{IsRaisedMove};
 ghost use Rattle.array_moves.specs.Fixed.{exchange_edge, copying_node, pair_states, ring_states, two_states};
 
 use crate::Alphabet;

@@ -5,7 +5,7 @@ ghost use Rattle.indexmap.specs.IndexSet.{index_set_len};
 ghost use Rattle.protocol_model.specs.System.{IsValidAt};
 ghost use Rattle.protocol_model.specs.Moves.{IsAtMove};
 ghost use Rattle.transducers.specs.Transducer.{Relates, IsTrim};
-ghost use Rattle.array_moves.specs.Compiled.{IsRaisedMove};
+ghost use Rattle.protocol_model.specs.Raised.{IsRaisedMove};
 ghost use Rattle.array_moves.specs.declared.plan.Phase.{Phase};
 ghost use Rattle.array_moves.specs.Phases.{HasRoom, HasFirst, Numbers, LetterEdges, PhaseEdges, IsMachine, starts_of};
 

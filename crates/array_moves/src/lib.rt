@@ -11,7 +11,7 @@ ghost use Rattle.std.specs.Prelude.{◌≡◌, ◌↔◌, ◌+◌, ◌≤◌, �
 ghost use Rattle.protocol_model.specs.System.{IsValidMove, kind_of_move};
 ghost use Rattle.protocol_model.specs.Moves.{IsMove};
 ghost use Rattle.transducers.specs.Transducer.{Relates, IsTrim};
-ghost use Rattle.array_moves.specs.Compiled.{IsRaisedMove};
+ghost use Rattle.protocol_model.specs.Raised.{IsRaisedMove};
 
 use fixed::{compile_pair, compile_ring, compile_two};
 use guarded::compile_at;

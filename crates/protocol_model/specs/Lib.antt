@@ -5,6 +5,7 @@ pub mod Patterns
 pub mod Steps
 pub mod Runs
 pub mod Words
+pub mod Raised
 pub mod Numbering
 pub mod Faults
 pub mod Allowed

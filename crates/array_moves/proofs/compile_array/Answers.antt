@@ -1,7 +1,7 @@
 use Rattle.std.proofs.Common.{◌↔◌, ℕ, List, IfOk, sym, subst}
 use Rattle.protocol_model.specs.Moves.{IsMove, IsAtMove}
 use Rattle.transducers.specs.Transducer.{Relates}
-use Rattle.array_moves.specs.Compiled.{IsRaisedMove}
+use Rattle.protocol_model.specs.Raised.{IsRaisedMove}
 use Rattle.array_moves.proofs.compile_array.Goals as goal
 
 pub returns-in-At-clause-relates : goal.returns-in-At-clause-relates

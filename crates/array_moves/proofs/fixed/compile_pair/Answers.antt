@@ -1,7 +1,7 @@
 use Rattle.std.proofs.Common.{◌≡◌, ◌∷◌, [], ◌∙◌, sym, subst}
 use Rattle.transducers.specs.Transducer.{Transducer, IsValid, IsTrim, Relates}
 use Rattle.protocol_model.specs.Moves.{IsPairMove}
-use Rattle.array_moves.specs.Compiled.{IsRaisedMove}
+use Rattle.protocol_model.specs.Raised.{IsRaisedMove}
 use Rattle.array_moves.specs.Fixed.{pair_states}
 use Rattle.array_moves.proofs.FixedLemmas.{pair_valid, pair_trim, pair_relates}
 use Rattle.array_moves.proofs.fixed.compile_pair.Goals as goal

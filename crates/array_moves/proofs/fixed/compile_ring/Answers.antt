@@ -1,7 +1,7 @@
 use Rattle.std.proofs.Common.{◌≡◌, ◌∷◌, [], ◌∙◌, sym, subst}
 use Rattle.transducers.specs.Transducer.{Transducer, IsValid, IsTrim, Relates}
 use Rattle.protocol_model.specs.Moves.{IsRingMove}
-use Rattle.array_moves.specs.Compiled.{IsRaisedMove}
+use Rattle.protocol_model.specs.Raised.{IsRaisedMove}
 use Rattle.array_moves.specs.Fixed.{ring_states}
 use Rattle.array_moves.proofs.FixedLemmas.{ring_valid, ring_trim, ring_relates}
 use Rattle.array_moves.proofs.fixed.compile_ring.Goals as goal

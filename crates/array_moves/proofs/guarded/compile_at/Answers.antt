@@ -1,7 +1,7 @@
 use Rattle.std.proofs.Common.{◌∙◌, length, ◌≤◌, arith, sym, ap, subst}
 use Rattle.transducers.specs.Transducer.{IsTrim, Relates}
 use Rattle.protocol_model.specs.Moves.{IsAtMove}
-use Rattle.array_moves.specs.Compiled.{IsRaisedMove}
+use Rattle.protocol_model.specs.Raised.{IsRaisedMove}
 use Rattle.array_moves.specs.Phases.{starts_of}
 use Rattle.array_moves.proofs.MachineLemmas.{has_room, states_valid, at_relates}
 use Rattle.array_moves.proofs.TrimLemmas.{states_size, states_trim}

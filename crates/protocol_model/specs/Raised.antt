@@ -1,4 +1,4 @@
--- What a compiled array move relates.
+-- A relation of lists of one section, on words over the letters of all sections.
 use Rattle.std.specs.Prelude.{◌≡◌, ℕ, List}
 use Rattle.protocol_model.specs.System.{AllBelow}
 use Rattle.protocol_model.specs.Words.{raised}
