@@ -1,7 +1,7 @@
 -- Numbers of known names are in range, and those of two known names differ where the names do.
-use Rattle.std.proofs.Common.{◌≡◌, ℕ, zero, suc, ◌+◌, ◌<◌, ◌≤◌, Bool, true, false, List, [], ◌∷◌, ◌++◌, Option, None, Some, map, length, refl, ap, sym, subst, ◌∙◌, arith, cond, not, ◌||◌}
-use Rattle.std.specs.List.{list_any, position_or_len, range_with_len, AllByRecursion}
-use Rattle.std.specs.Option.{option_or, option_map, option_map_or}
+use Rattle.std.proofs.Common.{◌≡◌, ℕ, zero, suc, ◌+◌, ◌<◌, ◌≤◌, Bool, true, false, List, [], ◌∷◌, Option, None, Some, map, length, refl, ap, sym, subst, ◌∙◌, arith, cond, not, ◌||◌}
+use Rattle.std.specs.List.{range_with_len, AllByRecursion}
+use Rattle.std.specs.Option.{option_map, option_map_or}
 use Rattle.std.specs.Prelude.{slice_get, sum_by}
 use Rattle.std.specs.Str.{bytes_eq}
 use Rattle.std.proofs.lemmas.Slice.Eq.{bytes_eq-Decides}
@@ -13,7 +13,7 @@ use Rattle.protocol_syntax.specs.declared.protocol.AtomText.{AtomText}
 use Rattle.protocol_syntax.specs.declared.protocol.BaseText.{BaseText}
 use Rattle.protocol_syntax.specs.declared.protocol.BaseText.TheVariants.{Letter, Set as SetText, Any}
 use Rattle.protocol_model.specs.declared.fault.ModelFault.{ModelFault}
-use Rattle.protocol_model.specs.declared.fault.ModelFault.TheVariants.{Duplicate, Unknown}
+use Rattle.protocol_model.specs.declared.fault.ModelFault.TheVariants.{Unknown}
 use Rattle.protocol_model.specs.System.{AllBelow, IsValidPattern, letter_count, letter_count_at, total_letters}
 use Rattle.protocol_model.specs.Numbering.{number_of, base_numbers, atom_of, section_of, texts_of}
 use Rattle.protocol_model.specs.Faults.{is_among, unknown, letters_fault, base_fault, first_fault_of}

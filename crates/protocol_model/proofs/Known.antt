@@ -1,12 +1,12 @@
 -- Names that are in a list, and names that are not.
-use Rattle.std.proofs.Common.{◌≡◌, ℕ, ◌+◌, ◌<◌, Bool, true, false, List, [], ◌∷◌, Option, None, Some, length, refl, ap, sym, subst, ◌∙◌, cond, not, nat_lt, arith, ◌⊎◌, inl, inr}
+use Rattle.std.proofs.Common.{◌≡◌, ℕ, ◌<◌, Bool, true, false, List, Option, None, Some, length, refl, cond, not, arith, ◌⊎◌, inl, inr}
 use Rattle.std.specs.List.{list_any, position_or_len}
 use Rattle.std.specs.Option.{option_or}
 use Rattle.std.specs.Str.{bytes_eq}
 use Rattle.protocol_syntax.specs.declared.protocol.Name.{Name}
 use Rattle.protocol_model.specs.declared.fault.ModelFault.{ModelFault}
-use Rattle.protocol_model.specs.declared.fault.ModelFault.TheVariants.{Duplicate, Unknown, TouchedTwice, WrongKind, Memory}
-use Rattle.protocol_model.specs.Faults.{is_among, duplicate, touched_twice, unknown}
+use Rattle.protocol_model.specs.declared.fault.ModelFault.TheVariants.{Memory}
+use Rattle.protocol_model.specs.Faults.{is_among}
 use Rattle.protocol_model.specs.Outcome.{IsFault}
 use Rattle.protocol_model.proofs.Lists.{position_below}
 

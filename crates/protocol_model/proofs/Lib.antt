@@ -4,4 +4,3 @@ pub mod Known
 pub mod Distinct
 pub mod InRange
 pub mod Validity
-pub mod FirstSystem

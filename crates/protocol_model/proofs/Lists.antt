@@ -1,5 +1,5 @@
 -- Lemmas on lists that std lacks.
-use Rattle.std.proofs.Common.{◌≡◌, ℕ, suc, ◌+◌, Bool, true, false, List, [], ◌∷◌, Option, None, Some, map, length, refl, ap, sym, ◌∙◌, cond, not, nat_lt, position, arith, zero, add-zero, ◌++◌}
+use Rattle.std.proofs.Common.{◌≡◌, ℕ, suc, ◌+◌, Bool, true, false, List, [], ◌∷◌, None, Some, map, length, refl, ap, sym, ◌∙◌, cond, not, nat_lt, position, arith, zero, add-zero, ◌++◌}
 use Rattle.std.specs.List.{list_any, position_or_len, range_with_len}
 use Rattle.std.specs.Prelude.{◌||◌}
 

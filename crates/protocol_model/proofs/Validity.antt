@@ -1,8 +1,7 @@
 -- The system of a protocol that is allowed and has no fault is valid.
-use Rattle.std.proofs.Common.{◌≡◌, ◌≢◌, ℕ, ◌+◌, ◌<◌, ◌≤◌, Bool, true, false, List, [], ◌∷◌, Option, None, Some, map, length, refl, ap, sym, subst, ◌∙◌}
+use Rattle.std.proofs.Common.{◌≡◌, ◌≢◌, ℕ, ◌<◌, ◌≤◌, true, false, List, [], ◌∷◌, Option, None, Some, map, length, refl, ap, subst, ◌∙◌}
 use Rattle.std.specs.List.{list_any, AllByRecursion}
-use Rattle.std.specs.Option.{option_or, option_map, option_map_or}
-use Rattle.std.specs.Prelude.{slice_get, sum_by, AllPairs}
+use Rattle.std.specs.Option.{option_map, option_map_or}
 use Rattle.std.specs.Str.{bytes_eq}
 use Rattle.std.proofs.lemmas.Option.{slice_get-map}
 use Rattle.protocol_syntax.specs.declared.protocol.Kind.{Kind}
@@ -17,11 +16,10 @@ use Rattle.protocol_syntax.specs.declared.protocol.MoveText.{MoveText}
 use Rattle.protocol_syntax.specs.declared.protocol.MoveBody.{MoveBody}
 use Rattle.protocol_syntax.specs.declared.protocol.MoveBody.TheVariants.{At, Pair, Ring, Two, Set, Send, Recv, Stack}
 use Rattle.protocol_syntax.specs.declared.protocol.RuleText.{RuleText}
-use Rattle.protocol_model.specs.declared.fault.ModelFault.{ModelFault}
 use Rattle.protocol_model.specs.declared.fault.ModelFault.TheVariants.{Duplicate, TouchedTwice, WrongKind}
-use Rattle.protocol_model.specs.System.{AllBelow, IsValidSection, IsValidPattern, IsValidRow, IsValidAt, IsValidPop, IsValidStack, IsValidMove, IsValidPart, IsValidRule, IsWithinLimits, IsValid, letter_count, letter_count_at, kind_of_move}
-use Rattle.protocol_model.specs.Numbering.{number_of, section_names, section_named, letters_named, section_of, texts_of, part_of, row_of, guard_of, entry_of, move_of_text, step_of, rule_of, system_of, atom_of}
-use Rattle.protocol_model.specs.Faults.{is_among, unknown, duplicate, touched_twice, letters_fault, base_fault, first_fault_of, section_fault, part_fault, row_fault, entry_fault, two_fault, four_fault, body_fault, kind_of_body, same_kind, wrong_kind, step_fault, rule_fault, first_fault}
+use Rattle.protocol_model.specs.System.{AllBelow, IsValidSection, IsValidPattern, IsValidRow, IsValidAt, IsValidPop, IsValidMove, IsValidPart, IsValidRule, IsValid, letter_count_at, kind_of_move}
+use Rattle.protocol_model.specs.Numbering.{number_of, section_names, section_named, letters_named, section_of, texts_of, part_of, row_of, guard_of, entry_of, move_of_text, step_of, rule_of, system_of}
+use Rattle.protocol_model.specs.Faults.{is_among, unknown, duplicate, touched_twice, letters_fault, first_fault_of, section_fault, part_fault, row_fault, entry_fault, two_fault, four_fault, body_fault, kind_of_body, same_kind, wrong_kind, step_fault, rule_fault, first_fault}
 use Rattle.protocol_model.specs.Allowed.{IsAllowed, IsAllowedSection, IsAllowedRow, IsAllowedBody, IsAllowedRule, PopsOrPushes}
 use Rattle.protocol_model.specs.Names.{IsName}
 use Rattle.protocol_model.proofs.Lists.{length_map}

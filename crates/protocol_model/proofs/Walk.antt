@@ -1,5 +1,5 @@
 -- Items whose faults are looked for one after the other, each together with the items before it.
-use Rattle.std.proofs.Common.{◌≡◌, ℕ, ◌+◌, ◌<◌, ◌≤◌, Bool, true, false, List, [], ◌∷◌, ◌++◌, Option, None, Some, map, length, take, get_or, refl, ap, sym, subst, ◌∙◌, drop, append_assoc, arith, ◌⊎◌, inl, inr}
+use Rattle.std.proofs.Common.{◌≡◌, ℕ, ◌+◌, ◌<◌, ◌≤◌, List, [], ◌∷◌, ◌++◌, Option, None, Some, map, length, take, get_or, refl, ap, sym, subst, ◌∙◌, drop, append_assoc, ◌⊎◌, inl, inr}
 use Rattle.std.specs.Option.{option_or}
 use Rattle.std.proofs.lemmas.List.{take_more, take_all, append-nil, map-append, take-append-drop}
 use Rattle.protocol_model.specs.declared.fault.ModelFault.{ModelFault}

@@ -1,5 +1,5 @@
 -- The protocols that the grammar and the limits of the language allow.
-use Rattle.std.specs.Prelude.{◌+◌, ◌<◌, ◌≤◌, ℕ, List, [], ◌∷◌, Option, None, Some, length, sum_by}
+use Rattle.std.specs.Prelude.{◌<◌, ◌≤◌, List, Option, None, Some, length, sum_by}
 use Rattle.std.specs.List.{AllByRecursion}
 use Rattle.protocol_model.specs.Names.{IsName}
 use Rattle.protocol_syntax.specs.declared.protocol.Name.{Name}

@@ -1,5 +1,5 @@
 -- The first fault of a protocol. Its names are tested in the order of the text.
-use Rattle.std.specs.Prelude.{◌≡◌, ℕ, Bool, true, false, List, [], ◌∷◌, ◌++◌, Option, None, Some, map, not, if◌then◌else◌}
+use Rattle.std.specs.Prelude.{ℕ, Bool, true, false, List, [], ◌∷◌, ◌++◌, Option, None, Some, map, if◌then◌else◌}
 use Rattle.std.specs.List.{list_any}
 use Rattle.std.specs.Option.{option_or, option_map_or}
 use Rattle.std.specs.Str.{bytes_eq}
@@ -10,10 +10,8 @@ use Rattle.protocol_syntax.specs.declared.protocol.Protocol.{Protocol}
 use Rattle.protocol_syntax.specs.declared.protocol.SectionText.{SectionText}
 use Rattle.protocol_syntax.specs.declared.protocol.RowText.{RowText}
 use Rattle.protocol_syntax.specs.declared.protocol.PartText.{PartText}
-use Rattle.protocol_syntax.specs.declared.protocol.AtomText.{AtomText}
 use Rattle.protocol_syntax.specs.declared.protocol.BaseText.{BaseText}
 use Rattle.protocol_syntax.specs.declared.protocol.BaseText.TheVariants.{Letter, Set as SetText, Any}
-use Rattle.protocol_syntax.specs.declared.protocol.GuardText.{GuardText}
 use Rattle.protocol_syntax.specs.declared.protocol.MoveText.{MoveText}
 use Rattle.protocol_syntax.specs.declared.protocol.MoveBody.{MoveBody}
 use Rattle.protocol_syntax.specs.declared.protocol.MoveBody.TheVariants as text

@@ -10,5 +10,3 @@ pub mod Numbering
 pub mod Faults
 pub mod Allowed
 pub mod Outcome
-pub mod FirstForm
-pub mod FirstProtocol

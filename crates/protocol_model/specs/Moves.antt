@@ -1,5 +1,5 @@
 -- What a move does to the list of its section. A list is cut at the positions that change.
-use Rattle.std.specs.Prelude.{◌≡◌, ◌==◌, ◌⊎◌, ℕ, Bool, true, false, List, [], ◌∷◌, ◌++◌, Option, None, Some, IsTrue, map, if◌then◌else◌}
+use Rattle.std.specs.Prelude.{◌≡◌, ◌==◌, ◌⊎◌, ℕ, Bool, List, [], ◌∷◌, ◌++◌, Option, None, Some, IsTrue, map, if◌then◌else◌}
 use Rattle.std.specs.List.{list_all, list_any}
 use Rattle.protocol_syntax.specs.declared.protocol.Region.{Region}
 use Rattle.protocol_syntax.specs.declared.protocol.Region.TheVariants.{Left, Right, Others}

@@ -7,7 +7,6 @@ use Rattle.protocol_syntax.specs.declared.protocol.Many.{Many}
 use Rattle.protocol_syntax.specs.declared.protocol.Many.TheVariants.{One, Star, Plus}
 use Rattle.protocol_model.specs.declared.system.Section.{Section}
 use Rattle.protocol_model.specs.declared.system.Atom.{Atom}
-use Rattle.protocol_model.specs.declared.system.Pattern.{Pattern}
 use Rattle.protocol_model.specs.declared.system.Row.{Row}
 use Rattle.protocol_model.specs.declared.system.Configuration.{Configuration}
 use Rattle.protocol_model.specs.System.{SystemData, letter_count}

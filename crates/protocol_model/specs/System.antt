@@ -1,12 +1,11 @@
 -- Systems as data, and when a system is valid.
-use Rattle.std.specs.Prelude.{◌≡◌, ◌≢◌, ◌+◌, ◌<◌, ◌≤◌, ℕ, List, [], ◌∷◌, Option, None, Some, IsTrue, IsSome, map, length, slice_get}
+use Rattle.std.specs.Prelude.{◌≡◌, ◌≢◌, ◌<◌, ◌≤◌, ℕ, List, [], ◌∷◌, Option, None, Some, length, slice_get}
 use Rattle.std.specs.Prelude.{AllPairs, sum_by}
 use Rattle.std.specs.List.{AllByRecursion}
 use Rattle.protocol_syntax.specs.declared.protocol.Kind.{Kind}
 use Rattle.protocol_syntax.specs.declared.protocol.Kind.TheVariants.{Cell, Array, Channel, Stack as StackKind}
 use Rattle.protocol_model.specs.Names.{IsName}
 use Rattle.protocol_model.specs.declared.system.Section.{Section}
-use Rattle.protocol_model.specs.declared.system.Atom.{Atom}
 use Rattle.protocol_model.specs.declared.system.Pattern.{Pattern}
 use Rattle.protocol_model.specs.declared.system.Row.{Row}
 use Rattle.protocol_model.specs.declared.system.Guard.{Guard}

@@ -1,21 +1,26 @@
 //! Protocols as systems: sections, rules and patterns by number, and the steps, runs and words that they determine.
 #![tactic(auto)]
 
+mod copies;
 mod fault;
-mod laws;
 mod letters;
 mod names;
-#[cfg(test)]
-mod plain;
 mod resolution;
 mod rows;
 mod rules;
 mod sections;
 mod system;
-#[cfg(test)]
-mod tests;
 
 pub use fault::ModelFault;
-pub use laws::first_form_is_kept;
 pub use resolution::resolve;
 pub use system::{Atom, Configuration, Guard, Move, Pattern, Row, Rule, Run, Section, System};
+
+/// Asks for a type that threads may share and that may be moved between them.
+fn is_shared<T: Send + Sync>() {}
+
+/// Threads may share systems, configurations and runs.
+pub fn systems_are_shared() {
+    is_shared::<System>();
+    is_shared::<Configuration>();
+    is_shared::<Run>();
+}

@@ -51,7 +51,8 @@ fn resolve_atoms(
     letters: &Names,
     atoms: &[AtomText],
 ) -> Result<Sequence<Atom>, ModelFault>
-    ensures { IsOutcome (first_fault_of (λ _ atom. base_fault letters.now atom.base) [] atoms.now) (map (atom_of letters.now) atoms.now) result }
+    ensures { IsOutcome (first_fault_of (λ _ atom. base_fault letters.now atom.base) [] atoms.now)
+        (map (atom_of letters.now) atoms.now) result }
 {
     let mut resolved = Vec::new(alloc);
     for atom in atoms {

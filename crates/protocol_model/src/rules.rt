@@ -27,7 +27,9 @@ fn four_numbers(
     c: &Name,
     d: &Name,
 ) -> Result<((u32, u32), (u32, u32)), ModelFault>
-    ensures { IsOutcome (four_fault letters.now a.now b.now c.now d.now) ((number_of letters.now a.now, number_of letters.now b.now), (number_of letters.now c.now, number_of letters.now d.now)) result }
+    ensures { IsOutcome (four_fault letters.now a.now b.now c.now d.now)
+        ((number_of letters.now a.now, number_of letters.now b.now), (number_of letters.now c.now, number_of letters.now d.now))
+        result }
 {
     let first = two_numbers(alloc, letters, a, b)?;
     let second = two_numbers(alloc, letters, c, d)?;
@@ -52,7 +54,8 @@ fn resolve_guards(
     letters: &Names,
     guards: &[GuardText],
 ) -> Result<Sequence<Guard>, ModelFault>
-    ensures { IsOutcome (first_fault_of (λ _ guard. letters_fault letters.now guard.letters) [] guards.now) (map (guard_of letters.now) guards.now) result }
+    ensures { IsOutcome (first_fault_of (λ _ guard. letters_fault letters.now guard.letters) [] guards.now)
+        (map (guard_of letters.now) guards.now) result }
 {
     let mut resolved = Vec::new(alloc);
     for guard in guards {
@@ -113,7 +116,8 @@ fn resolve_at(
     guards: &[GuardText],
     entries: &[(Name, Name)],
 ) -> Result<Move, ModelFault>
-    ensures { IsOutcome (body_fault letters.now (text.At from.now to.now guards.now entries.now)) (move_of_text letters.now (text.At from.now to.now guards.now entries.now)) result }
+    ensures { IsOutcome (body_fault letters.now (text.At from.now to.now guards.now entries.now))
+        (move_of_text letters.now (text.At from.now to.now guards.now entries.now)) result }
 {
     let (from, to) = two_numbers(alloc, letters, from, to)?;
     let guards = resolve_guards(alloc, letters, guards)?;
@@ -133,7 +137,8 @@ fn resolve_stack(
     pop: &Option<Name>,
     push: &[Name],
 ) -> Result<Move, ModelFault>
-    ensures { IsOutcome (body_fault letters.now (text.Stack pop.now push.now)) (move_of_text letters.now (text.Stack pop.now push.now)) result }
+    ensures { IsOutcome (body_fault letters.now (text.Stack pop.now push.now))
+        (move_of_text letters.now (text.Stack pop.now push.now)) result }
 {
     let pop = match pop {
         Some(name) => Some(letter_number(alloc, letters, name)?),

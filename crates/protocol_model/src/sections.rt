@@ -31,7 +31,8 @@ impl<'a> Model for Sections<'a> {
 
     ghost view = { λ s. s.texts.now };
 
-    ghost invariant = { λ s. (s.numbers ≡ section_names s.texts.now) × (s.letters.items ≡ map (λ section. texts_of section.letters) s.texts.now) };
+    ghost invariant = { λ s. (s.numbers ≡ section_names s.texts.now)
+        × (s.letters.items ≡ map (λ section. texts_of section.letters) s.texts.now) };
 }
 
 /// A section, as a protocol's other parts see it.

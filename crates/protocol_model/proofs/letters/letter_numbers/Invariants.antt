@@ -1,4 +1,3 @@
-use Rattle.std.proofs.Common.{ℕ, List}
 use Rattle.protocol_model.specs.Numbering.{number_of}
 use Rattle.protocol_model.specs.Faults.{unknown}
 use Rattle.protocol_model.proofs.Walk.{IsWalked}

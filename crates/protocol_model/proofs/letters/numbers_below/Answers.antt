@@ -1,4 +1,4 @@
-use Rattle.std.proofs.Common.{◌≡◌, add-one, zero-add, refl}
+use Rattle.std.proofs.Common.{add-one, zero-add, refl}
 use Rattle.protocol_model.proofs.Lists.{range_with_len_push}
 use Rattle.protocol_model.proofs.letters.numbers_below.Goals as goal
 

@@ -1,4 +1,4 @@
-use Rattle.std.proofs.Common.{◌≡◌, ℕ, List, [], ◌∷◌, map, take, get_or, refl}
+use Rattle.std.proofs.Common.{[], ◌∷◌, take, get_or, refl}
 use Rattle.std.proofs.lemmas.List.{take_more, map-append}
 use Rattle.protocol_model.proofs.resolution.copy_letters.Goals as goal
 

@@ -1,4 +1,4 @@
-use Rattle.std.proofs.Common.{◌≡◌, ℕ, List, map, take}
+use Rattle.std.proofs.Common.{◌≡◌, map, take}
 use Rattle.protocol_model.proofs.resolution.copy_letters.Given as goal
 
 abbrev pub invariant-loop-letter : goal.invariant-loop-letter

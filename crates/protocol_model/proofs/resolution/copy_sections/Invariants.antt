@@ -1,4 +1,4 @@
-use Rattle.std.proofs.Common.{◌≡◌, ℕ, List, map, take}
+use Rattle.std.proofs.Common.{◌≡◌, map, take}
 use Rattle.protocol_model.specs.Numbering.{section_of}
 use Rattle.protocol_model.proofs.resolution.copy_sections.Given as goal
 

@@ -1,8 +1,6 @@
-use Rattle.std.proofs.Common.{◌≡◌, ℕ, List, [], Option, None, Some, map, length, refl, ap, sym, subst, ◌∙◌}
+use Rattle.std.proofs.Common.{◌≡◌, [], None, length, refl, ◌∙◌}
 use Rattle.std.specs.Option.{option_or}
 use Rattle.std.proofs.lemmas.Result.{err_from_is_err_and}
-use Rattle.protocol_model.specs.System.{SystemData, IsValid, data_of}
-use Rattle.protocol_model.specs.Numbering.{section_of, row_of, rule_of, system_of}
 use Rattle.protocol_model.specs.Faults.{first_fault, first_fault_of, section_fault, row_fault, rule_fault}
 use Rattle.protocol_model.proofs.Known.{or_left, or_right, or_none}
 use Rattle.protocol_model.proofs.InRange.{each_at_most}

@@ -1,9 +1,6 @@
-use Rattle.std.proofs.Common.{◌≡◌, ℕ, Bool, true, false, List, [], ◌∷◌, ◌++◌, Option, None, Some, cond, map, take, refl, ap, sym, subst, ◌∙◌, if◌then◌else◌}
-use Rattle.std.specs.Str.{bytes_eq}
-use Rattle.std.specs.Option.{option_or}
+use Rattle.std.proofs.Common.{◌≡◌, true, false, [], ◌∷◌, ◌++◌, None, Some, cond, map, take, refl, ap, subst, ◌∙◌, if◌then◌else◌}
 use Rattle.std.proofs.lemmas.Result.{err_from_is_err_and}
-use Rattle.protocol_model.proofs.Lists.{list_any_map}
-use Rattle.protocol_model.proofs.Known.{fault_where_true, fault_where_false, or_left, or_right, or_none, added_before, added_now}
+use Rattle.protocol_model.proofs.Known.{fault_where_true, or_left, or_right, or_none, added_before, added_now}
 use Rattle.std.proofs.Common.{get_or}
 use Rattle.std.proofs.lemmas.List.{take_more, map-append}
 use Rattle.protocol_model.specs.declared.fault.ModelFault.TheVariants.{Duplicate}

@@ -1,4 +1,4 @@
-use Rattle.std.proofs.Common.{◌≡◌, ℕ, List, map, take}
+use Rattle.std.proofs.Common.{◌≡◌, map, take}
 use Rattle.protocol_model.specs.Numbering.{rule_of}
 use Rattle.protocol_model.specs.Faults.{rule_fault}
 use Rattle.protocol_model.proofs.Walk.{IsWalked}

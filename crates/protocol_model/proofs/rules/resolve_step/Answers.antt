@@ -1,13 +1,12 @@
-use Rattle.std.proofs.Common.{◌≡◌, ℕ, Bool, true, false, List, [], ◌∷◌, ◌++◌, Option, None, Some, cond, map, take, refl, ap, sym, subst, ◌∙◌, if◌then◌else◌}
+use Rattle.std.proofs.Common.{◌≡◌, Bool, true, false, Option, None, Some, cond, map, refl, ap, sym, ◌∙◌}
 use Rattle.std.specs.Str.{bytes_eq}
 use Rattle.std.specs.Option.{option_or}
 use Rattle.std.proofs.lemmas.Result.{err_from_is_err_and}
 use Rattle.protocol_model.proofs.Lists.{list_any_map}
-use Rattle.protocol_model.proofs.Known.{fault_where_true, fault_where_false, or_left, or_right, or_none, added_before, added_now}
+use Rattle.protocol_model.proofs.Known.{fault_where_true, fault_where_false, or_left, or_right, or_none}
 use Rattle.std.specs.Option.{option_map, option_map_or}
 use Rattle.protocol_syntax.specs.declared.protocol.Kind.{Kind}
 use Rattle.protocol_syntax.specs.declared.protocol.SectionText.{SectionText}
-use Rattle.protocol_model.specs.declared.fault.ModelFault.{ModelFault}
 use Rattle.protocol_model.specs.declared.fault.ModelFault.TheVariants.{Unknown, TouchedTwice, WrongKind}
 use Rattle.protocol_model.specs.Numbering.{section_names, section_named, letters_named}
 use Rattle.protocol_model.specs.Faults.{is_among, unknown, touched_twice, wrong_kind, body_fault, same_kind, kind_of_body}

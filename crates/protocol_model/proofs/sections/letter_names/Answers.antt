@@ -1,4 +1,4 @@
-use Rattle.std.proofs.Common.{◌≡◌, List, ℕ, true, false, Option, None, Some, cond, ap, subst, ◌∙◌, ◌∷◌, [], ◌++◌, take, if◌then◌else◌}
+use Rattle.std.proofs.Common.{◌≡◌, true, false, None, Some, cond, ap, subst, ◌∙◌, ◌∷◌, [], ◌++◌, take, if◌then◌else◌}
 use Rattle.protocol_model.specs.Numbering.{texts_of}
 use Rattle.protocol_model.specs.Faults.{duplicate, is_among}
 use Rattle.protocol_model.specs.declared.fault.ModelFault.TheVariants.{Duplicate}

@@ -1,4 +1,3 @@
-use Rattle.std.proofs.Common.{ℕ, List, ◌≤◌, ◌≡◌, take}
 use Rattle.protocol_model.specs.Numbering.{texts_of}
 use Rattle.protocol_model.specs.Faults.{duplicate}
 use Rattle.protocol_model.proofs.Walk.{IsWalked}

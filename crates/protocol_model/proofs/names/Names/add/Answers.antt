@@ -1,4 +1,4 @@
-use Rattle.std.proofs.Common.{rules, arith, ◌≡◌, not, ap, sym, ◌∙◌}
+use Rattle.std.proofs.Common.{rules}
 use Rattle.std.specs.Str.{bytes_eq}
 use Rattle.protocol_model.proofs.Lists.{list_any_map}
 use Rattle.protocol_model.proofs.names.Names.add.Goals as goal

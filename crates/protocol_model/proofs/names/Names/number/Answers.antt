@@ -1,4 +1,4 @@
-use Rattle.std.proofs.Common.{rules, arith, ◌≡◌, ap, sym, ◌∙◌}
+use Rattle.std.proofs.Common.{rules}
 use Rattle.std.specs.Str.{bytes_eq}
 use Rattle.protocol_model.proofs.Lists.{position_is}
 use Rattle.protocol_model.proofs.names.Names.number.Goals as goal

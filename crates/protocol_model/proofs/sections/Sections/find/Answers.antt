@@ -1,13 +1,12 @@
-use Rattle.std.proofs.Common.{◌≡◌, List, ℕ, true, false, Option, None, Some, cond, ap, sym, subst, ◌∙◌, ◌∷◌, [], ◌++◌, take, length, ◌<◌, arith, refl, get_or, slice_get}
+use Rattle.std.proofs.Common.{◌≡◌, true, Some, length, ◌<◌, refl, get_or, slice_get}
 use Rattle.std.specs.Str.{bytes_eq}
 use Rattle.std.specs.List.{list_any, position_or_len}
 use Rattle.std.proofs.lemmas.List.{get_or-map}
-use Rattle.std.proofs.lemmas.Option.{slice_get-get_or, slice_get-map}
+use Rattle.std.proofs.lemmas.Option.{slice_get-get_or}
 use Rattle.protocol_model.specs.Numbering.{texts_of, section_names, number_of}
 use Rattle.protocol_model.specs.Faults.{is_among}
-use Rattle.protocol_model.specs.Outcome.{IsSectionNamed}
 use Rattle.protocol_model.proofs.Lists.{length_map}
-use Rattle.protocol_model.proofs.Known.{some_of_cond, none_of_cond, number_below}
+use Rattle.protocol_model.proofs.Known.{some_of_cond, number_below}
 use Rattle.protocol_model.proofs.sections.Sections.find.Goals as goal
 use Rattle.protocol_model.proofs.sections.Sections.find.Goals.{In_ok-number}
 

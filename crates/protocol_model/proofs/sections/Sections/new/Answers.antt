@@ -1,4 +1,4 @@
-use Rattle.std.proofs.Common.{◌≡◌, List, ℕ, true, false, Option, None, Some, cond, ap, subst, ◌∙◌, ◌∷◌, [], ◌++◌, take, get_or, refl, if◌then◌else◌}
+use Rattle.std.proofs.Common.{◌≡◌, true, false, None, Some, cond, ap, subst, ◌∙◌, ◌∷◌, [], ◌++◌, take, get_or, refl, if◌then◌else◌}
 use Rattle.std.proofs.lemmas.List.{take_more, map-append}
 use Rattle.std.proofs.lemmas.Result.{err_from_is_err_and}
 use Rattle.protocol_model.specs.Numbering.{texts_of, section_names}

@@ -1,4 +1,4 @@
-use Rattle.std.proofs.Common.{ℕ, List, ◌≤◌, ◌≡◌, take, map}
+use Rattle.std.proofs.Common.{◌≡◌, take, map}
 use Rattle.protocol_model.specs.Numbering.{texts_of}
 use Rattle.protocol_model.specs.Faults.{section_fault}
 use Rattle.protocol_model.proofs.Walk.{IsWalked}
