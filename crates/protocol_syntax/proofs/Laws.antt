@@ -1,15 +1,14 @@
 -- What a reader answers about a form of the grammar, and that this carries over from parts to wholes.
-use Rattle.std.proofs.Common.{◌≡◌, ℕ, ◌+◌, ◌≤◌, ◌<◌, Bool, true, false, cond, List, [], ◌∷◌, ◌++◌, Result, Ok, Err, refl, sym, ap, subst, ◌∙◌, inl, inr, ◌⊎◌, arith}
+use Rattle.std.proofs.Common.{length, ◌≡◌, ℕ, ◌+◌, ◌≤◌, ◌<◌, Bool, true, false, cond, List, [], ◌++◌, Ok, Err, refl, sym, subst, inl, inr, ◌⊎◌, arith}
 use Rattle.std.proofs.Math.Nat.{eq-or-lt_of_le}
 use Rattle.std.proofs.lemmas.Bool.{cases_order}
 use Rattle.protocol_syntax.specs.declared.fault.What.{What}
-use Rattle.protocol_syntax.specs.declared.fault.What.TheVariants.{NameBytes}
 use Rattle.protocol_syntax.specs.declared.fault.SyntaxFault.{SyntaxFault}
 use Rattle.protocol_syntax.specs.declared.fault.SyntaxFault.TheVariants as Faults
 use Rattle.protocol_syntax.specs.Symbol.{Source, place_at}
-use Rattle.protocol_syntax.specs.Form.{Form, gives, ◌>>=◌, ◌or◌, optional, item}
+use Rattle.protocol_syntax.specs.Form.{Form, gives, ◌>>=◌}
 use Rattle.protocol_syntax.specs.Reading.{Answer, Reader, follow, code_at, returns, read_then}
-use Rattle.protocol_syntax.proofs.Sets.{is_in, are_apart, apart, in_left, in_right, in_either}
+use Rattle.protocol_syntax.proofs.Sets.{is_in, are_apart, apart, in_left, in_right}
 
 -- what holds of every form; its sequences begin with one of the symbols of `first`
 pub record Lawful (s : Source) {A : Type 0} (X : Form A) (first : List ℕ) : Type 0 where
@@ -19,6 +18,7 @@ pub record Lawful (s : Source) {A : Type 0} (X : Form A) (first : List ℕ) : Ty
   pub said : (i j : ℕ) (a : A) → X.Says s i j a → X.Begins s i j
   pub passed : (w : What) (i j : ℕ) → X.Passes s w i j → X.Begins s i j × (i < j)
   pub starts : (i j : ℕ) → X.Begins s i j → i < j → is_in first (code_at s i) ≡ true
+  pub bound : (i j : ℕ) → X.Begins s i j → i < j → j ≤ length s.tokens
 
 -- The span from i to j begins the form, and no item up to j is past a limit. Where a shorter span, below n, is a sequence, the form may go
 -- on there with a symbol of `cont` alone.
@@ -251,6 +251,13 @@ module _ (s : Source) (A B : Type 0) (X : Form A) (Y : A → Form B) (fX fY : Li
       | inr q ↦ let y = (ly q.1).passed w q.0 j q.3 in
           (inr (q.0, q.1, q.2, y.0), omega (arith, lx.order i q.0 (lx.said i q.0 q.1 q.2), y.1))
     ];
+    bound = λ i j b h. elim b [
+      | inl q ↦ lx.bound i j q h
+      | inr q ↦ elim (eq-or-lt_of_le ((ly q.1).order q.0 j q.3)) [
+        | inl e ↦ lx.bound i j (subst (λ (n : ℕ). X.Begins s i n) e (lx.said i q.0 q.1 q.2)) h
+        | inr g ↦ (ly q.1).bound q.0 j q.3 g
+      ]
+    ];
     starts = λ i j b h. elim b [
       | inl q ↦ one (code_at s i) (lx.starts i j q h)
       | inr q ↦ elim (eq-or-lt_of_le (lx.order i q.0 (lx.said i q.0 q.1 q.2))) [
@@ -310,7 +317,7 @@ bind_reads_maybe {s} {A} {B} {X} {Y} {g} {h} {fX} {cX} {fY} {cY} {rx} {ry} x y s
 }
 
 pub gives_reads : {s : Source} {A : Type 0} (a : A) → Reads s (gives a) false [] [] (returns a)
-unfolding gives returns
+unfolding gives
 gives_reads {s} {A} a = record {
   lawful = record {
     empty = λ i. refl;
@@ -318,6 +325,7 @@ gives_reads {s} {A} a = record {
     shorten = λ i k j b h g. omega arith;
     said = λ i j b p. p.0;
     passed = λ w i j p. absurd p;
+    bound = λ i j b h. absurd (omega arith);
     starts = λ i j b h. absurd (omega arith);
   };
   growing = λ e i j b p. cc;

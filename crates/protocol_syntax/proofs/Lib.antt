@@ -5,4 +5,7 @@ pub mod Words
 pub mod TokenLaws
 pub mod Repeats
 pub mod Openings
-pub mod FirstLaws
+pub mod AllTokens
+pub mod GrammarLaws
+pub mod ParseLaws
+pub mod Letters

@@ -1,5 +1,5 @@
 -- A loop that reads one item after the other.
-use Rattle.std.proofs.Common.{◌≡◌, ℕ, zero, suc, ◌+◌, ◌≤◌, ◌<◌, Bool, true, false, cond, List, [], ◌∷◌, ◌++◌, length, Result, Ok, Err, refl, sym, ap, subst, ◌∙◌, arith}
+use Rattle.std.proofs.Common.{◌≡◌, ℕ, zero, suc, ◌+◌, ◌≤◌, ◌<◌, Bool, true, false, List, [], ◌∷◌, ◌++◌, length, Ok, Err, refl, sym, ap, ◌∙◌, arith}
 use Rattle.protocol_syntax.specs.declared.fault.SyntaxFault.{SyntaxFault}
 use Rattle.protocol_syntax.specs.declared.fault.SyntaxFault.TheVariants as Faults
 use Rattle.protocol_syntax.specs.Symbol.{Source}

@@ -1,12 +1,11 @@
 -- The first tokens of forms, as the reader tests them.
-use Rattle.std.proofs.Common.{◌≡◌, ℕ, ◌+◌, ◌-◌, ◌<◌, Bool, true, false, not, cond, ◌||◌, eqb, List, [], ◌∷◌, Option, Some, None, refl, sym, ap, subst, ◌∙◌, inl, inr, arith}
+use Rattle.std.proofs.Common.{◌≡◌, ℕ, ◌-◌, ◌<◌, Bool, true, false, not, cond, ◌||◌, eqb, List, [], ◌∷◌, Option, Some, None, refl, sym, ap, subst, ◌∙◌, inl, inr, arith}
 use Rattle.std.proofs.lemmas.Bool.{ltb-true, ltb-false}
 use Rattle.protocol_lexer.specs.declared.Token.{Token}
-use Rattle.protocol_syntax.specs.declared.fault.What.{What}
 use Rattle.protocol_syntax.specs.declared.symbol.Symbol.{Symbol}
 use Rattle.protocol_syntax.specs.declared.symbol.Symbol.TheVariants.{Unreserved, Reserved, Sign}
 use Rattle.protocol_syntax.specs.Symbol.{Source, token_at}
-use Rattle.protocol_syntax.specs.Form.{token, sign, name, IsAt, IsTooLong, max_name_bytes}
+use Rattle.protocol_syntax.specs.Form.{token, sign, name, IsAt, max_name_bytes}
 use Rattle.protocol_syntax.specs.Reading.{code, code_at, next_is, begins_name, is_short_name, is_too_long}
 use Rattle.protocol_syntax.proofs.Sets.{is_in}
 use Rattle.protocol_syntax.proofs.TokenLaws.{found, is_next, one_token}

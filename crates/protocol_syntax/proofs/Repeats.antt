@@ -1,5 +1,5 @@
 -- Choices, what may be missing, repetition, and limits.
-use Rattle.std.proofs.Common.{◌≡◌, ℕ, zero, suc, ◌+◌, ◌≤◌, ◌<◌, Bool, true, false, cond, ◌&&◌, ◌||◌, List, [], ◌∷◌, ◌++◌, length, Option, Some, None, Result, Ok, Err, refl, sym, ap, subst, ◌∙◌, inl, inr, ◌⊎◌, append_assoc, arith}
+use Rattle.std.proofs.Common.{◌≡◌, ℕ, zero, suc, ◌+◌, ◌≤◌, ◌<◌, Bool, true, false, cond, ◌&&◌, ◌||◌, List, [], ◌∷◌, ◌++◌, length, Ok, Err, refl, sym, ap, subst, ◌∙◌, inl, inr, ◌⊎◌, append_assoc, arith}
 use Rattle.std.proofs.lemmas.List.{append-nil}
 use Rattle.std.proofs.lemmas.Option.{slice_get_past}
 use Rattle.std.proofs.Math.Nat.{eq-or-lt_of_le}
@@ -8,12 +8,12 @@ use Rattle.protocol_syntax.specs.declared.fault.What.{What}
 use Rattle.protocol_syntax.specs.declared.fault.What.TheVariants.{NameBytes}
 use Rattle.protocol_syntax.specs.declared.fault.SyntaxFault.{SyntaxFault}
 use Rattle.protocol_syntax.specs.declared.fault.SyntaxFault.TheVariants as Faults
-use Rattle.std.specs.Prelude.{nat_le, slice_get}
+use Rattle.std.specs.Prelude.{nat_le}
 use Rattle.protocol_syntax.specs.Symbol.{Source, place_at}
 use Rattle.protocol_syntax.specs.Form.{Form, ◌>>=◌, ◌or◌, optional, many_by, many, item, up_to, SaysMany}
 use Rattle.protocol_syntax.specs.Reading.{Answer, Reader, follow, code_at, read_item, read_many, read_all, read_or, read_optional}
 use Rattle.protocol_syntax.proofs.Sets.{is_in, are_apart, apart, in_left, in_right, in_either}
-use Rattle.protocol_syntax.proofs.Laws.{Lawful, Begun, Done, Failed, Wrong, Outcome, Reads, Continues, bind_outcome, bind_lawful}
+use Rattle.protocol_syntax.proofs.Laws.{Lawful, Begun, Done, Failed, Wrong, Outcome, Reads, bind_outcome, bind_lawful}
 
 -- two forms that are the same from i on
 pub record Same (s : Source) {A : Type 0} (X Z : Form A) (i : ℕ) : Type 0 where
@@ -67,6 +67,7 @@ or_lawful s X Y fX fY lx ly = record {
     | inl q ↦ let y = lx.passed w i j q in (inl y.0, y.1)
     | inr q ↦ let y = ly.passed w i j q in (inr y.0, y.1)
   ];
+  bound = λ i j b h. elim b [ inl q ↦ lx.bound i j q h | inr q ↦ ly.bound i j q h ];
   starts = λ i j b h. elim b [
     | inl q ↦ in_left fX fY (code_at s i) (lx.starts i j q h)
     | inr q ↦ in_right fX fY (code_at s i) (ly.starts i j q h)
@@ -148,6 +149,7 @@ optional_lawful s a X f l = record {
   ];
   said = λ i j b p. elim p [ inl e ↦ inl e.0 | inr q ↦ inr (l.said i j b q) ];
   passed = λ w i j p. let y = l.passed w i j p in (inr y.0, y.1);
+  bound = λ i j b h. elim b [ inl e ↦ absurd (omega (arith, e)) | inr q ↦ l.bound i j q h ];
   starts = λ i j b h. elim b [ inl e ↦ absurd (omega (arith, e)) | inr q ↦ l.starts i j q h ];
 }
 
@@ -277,6 +279,15 @@ module _ (s : Source) (A : Type 0) (x : List A → Form A) (f c : List ℕ) (l :
   many_starts before i k j [] e b h = (l (before ++ [])).starts i j (subst (λ (n : ℕ). (x (before ++ [])).Begins s n j) e b) h
   many_starts before i k j (a ∷ values) p b h = (l before).starts i p.0 ((l before).said i p.0 a p.1) (grows before i p.0 a p.1)
 
+  many_bound : (before : List A) (i k : ℕ) (values : List A) → SaysMany x s before i k values → i < k → k ≤ length s.tokens
+  many_bound before i k [] e h = absurd (omega (arith, e, h))
+  many_bound before i k (a ∷ values) p h = elim (eq-or-lt_of_le (many_order (before ++ a ∷ []) p.0 k values p.2)) [
+    | inl e ↦
+        subst (λ (n : ℕ). n ≤ length s.tokens) e
+        ((l before).bound i p.0 ((l before).said i p.0 a p.1) (grows before i p.0 a p.1))
+    | inr g ↦ many_bound (before ++ a ∷ []) p.0 k values p.2 g
+  ]
+
   many_lawful : (before : List A) → Lawful s (many_from x before) f
   unfolding many_from
   many_lawful before = record {
@@ -299,6 +310,14 @@ module _ (s : Source) (A : Type 0) (x : List A → Form A) (f c : List ℕ) (l :
     passed = λ w i j p.
         let y = (l (before ++ p.1)).passed w p.0 j p.3 in
         (inr (p.0, p.1, p.2, y.0), omega (arith, many_order before i p.0 p.1 p.2, y.1));
+    bound = λ i j b h. elim b [
+      | inl e ↦ absurd (omega (arith, e))
+      | inr q ↦ elim (eq-or-lt_of_le ((l (before ++ q.1)).order q.0 j q.3)) [
+        | inl e ↦
+            subst (λ (n : ℕ). n ≤ length s.tokens) e (many_bound before i q.0 q.1 q.2 (omega (arith, e, h)))
+        | inr g ↦ (l (before ++ q.1)).bound q.0 j q.3 g
+      ]
+    ];
     starts = λ i j b h. elim b [
       | inl e ↦ absurd (omega (arith, e))
       | inr q ↦ many_starts before i q.0 j q.1 q.2 q.3 h
@@ -436,6 +455,7 @@ module _ (s : Source) (A : Type 0) (x : List A → Form A) (f c : List ℕ) (l :
         shorten = m.shorten;
         said = λ i j a p. m.said i j a (a, refl, p);
         passed = m.passed;
+        bound = m.bound;
         starts = m.starts;
       }
 
@@ -487,6 +507,7 @@ item_lawful s full what X f l = record {
   shorten = l.shorten;
   said = l.said;
   passed = λ w i j p. elim p [ inl q ↦ l.passed w i j q | inr q ↦ (q.3, omega (arith, q.2)) ];
+  bound = l.bound;
   starts = l.starts;
 }
 

@@ -1,25 +1,22 @@
 -- A token of the grammar is read as it stands.
-use Rattle.std.proofs.Common.{◌≡◌, ℕ, zero, suc, ◌+◌, ◌-◌, ◌≤◌, ◌<◌, Bool, true, false, cond, eqb, ltb, List, [], ◌∷◌, Option, Some, None, Result, Ok, Err, refl, sym, ap, subst, ◌∙◌, inl, inr, ◌⊎◌, get_or, arith, slice_index_or}
-use Rattle.std.specs.Prelude.{slice_get, IsTrue, ◌↔◌, ⊤}
+use Rattle.std.proofs.Common.{◌≡◌, ℕ, ◌+◌, ◌-◌, ◌<◌, Bool, true, false, cond, eqb, List, [], ◌∷◌, Option, Some, None, Ok, Err, refl, sym, ap, subst, ◌∙◌, inl, inr, arith, slice_index_or}
+use Rattle.std.specs.Prelude.{slice_get, IsTrue, ◌↔◌}
 use Rattle.std.specs.Option.{option_map}
 use Rattle.std.proofs.Math.Nat.{eq-or-lt_of_le}
-use Rattle.std.proofs.lemmas.Bool.{eqb-true, eq-eqb, ltb-true, ltb-false, cases_order}
-use Rattle.protocol_lexer.specs.declared.Place.{Place}
+use Rattle.std.proofs.lemmas.Option.{slice_get_within}
+use Rattle.std.proofs.lemmas.Bool.{eqb-true, eq-eqb, ltb-true, ltb-false}
 use Rattle.protocol_lexer.specs.declared.Token.{Token}
-use Rattle.protocol_lexer.specs.declared.TokenKind.{TokenKind}
 use Rattle.protocol_lexer.specs.declared.TokenKind.TheVariants.{Word, BraceLeft, BraceRight, Colon, Semicolon, Star, Plus, Arrow}
-use Rattle.protocol_syntax.specs.declared.fault.What.{What}
 use Rattle.protocol_syntax.specs.declared.fault.What.TheVariants.{NameBytes}
 use Rattle.protocol_syntax.specs.declared.fault.SyntaxFault.TheVariants as Faults
-use Rattle.protocol_syntax.specs.declared.protocol.Name.{Name}
 use Rattle.protocol_syntax.specs.declared.symbol.Keyword.TheVariants as Words
 use Rattle.protocol_syntax.specs.declared.symbol.Symbol.{Symbol}
 use Rattle.protocol_syntax.specs.declared.symbol.Symbol.TheVariants.{Unreserved, Reserved, Sign}
 use Rattle.protocol_syntax.specs.Symbol.{Source, symbol, token_at, place_at, place_of}
-use Rattle.protocol_syntax.specs.Form.{Form, token, sign, name, name_of, IsAt, IsTooLong, max_name_bytes}
-use Rattle.protocol_syntax.specs.Reading.{Answer, Reader, code, code_of_keyword, code_of_sign, code_of_token, code_at, next_is, read_sign, read_name, read_named, read_word, is_too_long}
-use Rattle.protocol_syntax.proofs.Sets.{is_in, in_one}
-use Rattle.protocol_syntax.proofs.Laws.{Lawful, Begun, Done, Failed, Outcome, Reads}
+use Rattle.protocol_syntax.specs.Form.{token, sign, name, name_of, IsAt, IsTooLong, max_name_bytes}
+use Rattle.protocol_syntax.specs.Reading.{code, code_of_keyword, code_of_sign, code_of_token, code_at, next_is, read_sign, read_name, read_named, is_too_long}
+use Rattle.protocol_syntax.proofs.Sets.{in_one}
+use Rattle.protocol_syntax.proofs.Laws.{Lawful, Done, Failed, Outcome, Reads}
 
 -- the symbols by their numbers
 abbrev table : List (Option Symbol)
@@ -118,6 +115,19 @@ pub one_token : (s : Source) (i : ℕ) (x y : Symbol) (t u : Token) → IsAt s i
 unfolding part_token
 one_token s i x y t u h g = ap (part_token t) (sym h ∙ g)
 
+with_symbol : List ℕ → Token → Symbol × Token
+with_symbol text u = (symbol text u, u)
+
+token_of_map : (text : List ℕ) (o : Option Token) (x : Symbol) (t : Token)
+    → option_map (λ (u : Token). with_symbol text u) o ≡ Some (x, t) → o ≡ Some t
+unfolding with_symbol part_token
+token_of_map text None x t e = cc
+token_of_map text (Some u) x t e = ap (λ (o : Option (Symbol × Token)). Some (part_token t o)) e
+
+token_is : (s : Source) (i : ℕ) (x : Symbol) (t : Token) → IsAt s i x t → slice_get s.tokens i ≡ Some t
+unfolding with_symbol
+token_is s i x t h = token_of_map s.text (slice_get s.tokens i) x t h
+
 token_lawful : (s : Source) {A : Type 0} (x : Symbol) (value : List ℕ → Token → A) → Lawful s (token x value) (code x ∷ [])
 unfolding token
 token_lawful s x value = record {
@@ -132,6 +142,10 @@ token_lawful s x value = record {
   ];
   said = λ i j a p. inr (p.0, (p.1.0, p.1.1));
   passed = λ w i j p. (inr (p.0, (p.1.0, p.1.1)), omega (arith, p.0));
+  bound = λ i j b h. elim b [
+    | inl e ↦ absurd (omega (arith, e))
+    | inr p ↦ omega (arith, p.0, slice_get_within s.tokens i p.1.0 (token_is s i x p.1.0 p.1.1))
+  ];
   starts = λ i j b h. elim b [
     | inl e ↦ absurd (omega (arith, e))
     | inr p ↦ in_one (code_at s i) (code x) (code_is s x i p.1.0 p.1.1)
@@ -188,15 +202,6 @@ sign_reads {s} x other = record {
   growing = λ _. token_grows s x (λ _ _. tt);
   reads = λ i. sign_outcome s x i (next_is s x i) refl other;
 }
-
-with_symbol : List ℕ → Token → Symbol × Token
-with_symbol text u = (symbol text u, u)
-
-token_of_map : (text : List ℕ) (o : Option Token) (x : Symbol) (t : Token)
-    → option_map (λ (u : Token). with_symbol text u) o ≡ Some (x, t) → o ≡ Some t
-unfolding with_symbol part_token
-token_of_map text None x t e = cc
-token_of_map text (Some u) x t e = ap (λ (o : Option (Symbol × Token)). Some (part_token t o)) e
 
 place_is : (s : Source) (i : ℕ) (x : Symbol) (t : Token) → IsAt s i x t → t.place ≡ place_at s i
 unfolding with_symbol

@@ -1,11 +1,9 @@
 -- Words are ASCII, and symbols are told apart by their numbers.
-use Rattle.std.proofs.Common.{◌≡◌, ℕ, ◌+◌, ◌<◌, Bool, true, false, cond, eqb, ◌&&◌, ◌||◌, zero, suc, List, [], ◌∷◌, Option, Some, None, Result, Ok, Err, MatchResult, refl, sym, ap, subst, ◌∙◌, inl, inr, ◌⊎◌, slice_index, get_or, arith, tests, rules}
-use Rattle.std.proofs.lemmas.Bool.{or_cases, leb-true, eqb-true, eq-eqb, false≢true}
+use Rattle.std.proofs.Common.{◌≡◌, ℕ, ◌<◌, Bool, true, false, ◌&&◌, zero, suc, List, [], ◌∷◌, refl, slice_index, arith}
 use Rattle.std.proofs.lemmas.Bool.Decides.{nat_tests}
 use Rattle.std.proofs.lemmas.Str.{IsUtf8-from_ascii}
-use Rattle.std.specs.Prelude.{slice_get, IsOk, IsTrue}
 use Rattle.std.specs.List.{list_all}
-use Rattle.std.specs.Str.{IsAscii, IsUtf8}
+use Rattle.std.specs.Str.{IsUtf8}
 use Rattle.protocol_lexer.specs.Piece.{is_word_byte}
 
 word_byte_is_ascii : (b : ℕ) → is_word_byte b ≡ true → b < 128

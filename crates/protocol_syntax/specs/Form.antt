@@ -1,12 +1,12 @@
 -- Forms of a grammar over the tokens of a text, each with the spans of tokens that are sequences of it, the spans that begin one, and
 -- the spans whose last token begins an item past a limit. A span from i to j has the tokens at i and after it, up to the one before j.
-use Rattle.std.specs.Prelude.{◌≡◌, ◌<◌, ◌≤◌, ℕ, ◌+◌, ◌-◌, Bool, true, List, [], ◌∷◌, ◌++◌, length, Some, None, nat_le, ⊤, ◌⊎◌, slice_get}
+use Rattle.std.specs.Prelude.{◌≡◌, ◌<◌, ◌≤◌, ℕ, ◌+◌, ◌-◌, Bool, true, List, [], ◌∷◌, ◌++◌, length, Some, nat_le, ⊤, ◌⊎◌}
 use Rattle.protocol_lexer.specs.declared.Token.{Token}
 use Rattle.protocol_syntax.specs.declared.fault.What.{What}
 use Rattle.protocol_syntax.specs.declared.fault.What.TheVariants.{NameBytes}
 use Rattle.protocol_syntax.specs.declared.protocol.Name.{Name}
 use Rattle.protocol_syntax.specs.declared.symbol.Symbol.{Symbol}
-use Rattle.protocol_syntax.specs.declared.symbol.Symbol.TheVariants.{Unreserved, Reserved, Sign}
+use Rattle.protocol_syntax.specs.declared.symbol.Symbol.TheVariants.{Unreserved}
 use Rattle.protocol_syntax.specs.Symbol.{Source, token_at, spelled}
 
 pub record Form (A : Type 0) : Type 1 where
@@ -115,3 +115,8 @@ item full what x = record {
 -- none or more sequences of the form, and no more than so many
 abbrev pub up_to : {A : Type 0} → ℕ → What → Form A → Form (List A)
 up_to limit what x = many_by (λ before. item (nat_le limit (length before)) what x)
+
+-- the tokens are a sequence of the form, within the limits, and say this
+pub record IsWithin {A : Type 0} (form : Form A) (source : Source) (a : A) : Type 0 where
+  pub says : form.Says source 0 (length source.tokens) a
+  pub within : (w : What) (k : ℕ) → k ≤ length source.tokens → form.Passes source w 0 k → ⊥

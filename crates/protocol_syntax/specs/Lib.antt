@@ -1,5 +1,5 @@
 pub mod Symbol
 pub mod Form
 pub mod Reading
-pub mod FirstForm
-pub mod FirstReading
+pub mod Grammar
+pub mod GrammarReading

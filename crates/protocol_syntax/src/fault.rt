@@ -1,7 +1,5 @@
 //! Why a text is refused.
 
-ghost use Rattle.std.specs.Prelude.{◌≡◌, ◌↔◌, IsTrue};
-
 use protocol_lexer::Place;
 use thiserror::Error;
 
@@ -52,13 +50,4 @@ pub enum SyntaxFault {
     /// There is no memory for the protocol.
     #[error("out of memory")]
     Memory,
-}
-
-impl SyntaxFault {
-    /// Whether there was no memory.
-    pub(crate) fn is_memory(&self) -> bool
-        ensures { IsTrue result ↔ (self.now ≡ SyntaxFault.Memory) }
-    {
-        matches!(self, SyntaxFault::Memory)
-    }
 }

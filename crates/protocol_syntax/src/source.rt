@@ -12,7 +12,7 @@ use crate::fault::{SyntaxFault, What};
 use crate::protocol::Name;
 use crate::symbol::{Symbol, keyword_of};
 use protocol_lexer::{Place, Token, TokenKind};
-use sequence::Text;
+use sequence::{Sequence, Text};
 use std::alloc::Global;
 
 /// The most bytes of a name.
@@ -34,6 +34,16 @@ pub fn push<T: Drop>(items: &mut Vec<T>, item: T) -> Result<(), SyntaxFault>
     ensures memory { OnErr result (result ≡ Err SyntaxFault.Memory) }
 {
     items.push(item).map_err(|_| SyntaxFault::Memory)
+}
+
+/// A sequence of an item and of more after it.
+pub fn with_first<T: Drop>(first: T, more: Vec<T>) -> Result<Sequence<T>, SyntaxFault>
+    ensures ok { IfOk result (λ s. s ≡ first ∷ more.items) }
+    ensures memory { OnErr result (result ≡ Err SyntaxFault.Memory) }
+{
+    let mut items = more;
+    items.insert(0, first).map_err(|_| SyntaxFault::Memory)?;
+    Ok(Sequence::from_vec(items))
 }
 
 fn item_at(tokens: &[Token], at: usize) -> Option<Token>
@@ -190,8 +200,9 @@ impl Source<'_> {
         Ok(names)
     }
 
+    /// Reads a name; where `full`, a name that is not too long is one too many.
     #[tactic(auto, unfolding(crate::specs::Reading::read_item))]
-    fn name_if_room(&self, at: &mut usize, full: bool, what: What) -> Result<Name, SyntaxFault>
+    pub fn name_if_room(&self, at: &mut usize, full: bool, what: What) -> Result<Name, SyntaxFault>
         ensures gives { let source = source_of self.now.text.now self.now.tokens.now in
             Gives (read_item source full (begins_name source) what (read_name source) at.old) at.new result }
         ensures onward { OnOk result (at.old < at.new) }
