@@ -1,0 +1,11 @@
+pub mod Lexing
+pub mod Openings
+pub mod Ensured
+pub mod Readings
+pub mod Said
+pub mod LayoutTokens
+pub mod Symbols
+pub mod PartsAgain
+pub mod SectionsAgain
+pub mod MovesAgain
+pub mod ReadBack

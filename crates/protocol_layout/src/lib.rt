@@ -1,0 +1,435 @@
+//! Printing a protocol in its canonical layout: each item on a line of its own, and its words with
+//! one space between them, but none before `:`, `;`, `*` and `+`.
+#![tactic(auto)]
+
+ghost use Rattle.std.specs.Prelude.{◌≡◌, ◌++◌, ◌∷◌, [], codes, map, IfOk, OnOk, if◌then◌else◌};
+ghost use Rattle.std.specs.List.{flat_map};
+ghost use Rattle.protocol_layout.specs.Layout.{Adds, AddsLine, AddsLines, atom_words, base_words, count_words, entry_words};
+ghost use Rattle.protocol_layout.specs.Layout.{four_words, guard_words, in_braces, is_attached, items, kind_word, layout};
+ghost use Rattle.protocol_layout.specs.Layout.{move_words, names_words, part_words, pattern_words, popped_words};
+ghost use Rattle.protocol_layout.specs.Layout.{pushed_words, region_word, row_words, rule_words, section_words, spaced};
+ghost use Rattle.protocol_layout.specs.Layout.{step_words, table_words};
+ghost use Rattle.protocol_layout.specs.Places.{IsReadBack};
+
+use protocol_syntax::{
+    AtomText, BaseText, GuardText, Kind, Many, MoveBody, MoveText, Name, PartText, Protocol,
+    Region, RowText, RuleText, SectionText,
+};
+use std::alloc::{AllocError, Global};
+
+/// Whether no space stands before the word.
+fn is_attached(word: &[u8]) -> bool
+    ensures { result ≡ is_attached word.now }
+{
+    match word {
+        [] => false,
+        [first, ..] => *first == b':' || *first == b';' || *first == b'*' || *first == b'+',
+    }
+}
+
+/// Writes a word after others on its line.
+fn write_word(out: &mut Vec<u8>, word: &[u8]) -> Result<(), AllocError>
+    ensures { OnOk result (out.new.items ≡ out.old.items ++ spaced word.now) }
+{
+    if is_attached(word) {
+        out.extend_from_slice(word)?;
+        return Ok(());
+    }
+    out.push(b' ')?;
+    out.extend_from_slice(word)?;
+    Ok(())
+}
+
+fn write_name(out: &mut Vec<u8>, name: &Name) -> Result<(), AllocError>
+    ensures { OnOk result (out.new.items ≡ out.old.items ++ spaced name.now.text) }
+{
+    write_word(out, name.text.as_str().as_bytes())?;
+    Ok(())
+}
+
+fn write_names(out: &mut Vec<u8>, names: &[Name]) -> Result<(), AllocError>
+    ensures { OnOk result (Adds out.old.items out.new.items (names_words names.now)) }
+{
+    'names: for name in names {
+        write_name(out, name)?;
+    }
+    Ok(())
+}
+
+fn write_set(out: &mut Vec<u8>, letters: &[Name]) -> Result<(), AllocError>
+    ensures { OnOk result (Adds out.old.items out.new.items (in_braces (names_words letters.now))) }
+{
+    write_word(out, b"{")?;
+    write_names(out, letters)?;
+    write_word(out, b"}")?;
+    Ok(())
+}
+
+fn kind_word(kind: Kind) -> &'static [u8]
+    ensures { result.now ≡ kind_word kind }
+{
+    match kind {
+        Kind::Cell => b"cell",
+        Kind::Array => b"array",
+        Kind::Channel => b"channel",
+        Kind::Stack => b"stack",
+    }
+}
+
+fn write_section(out: &mut Vec<u8>, section: &SectionText) -> Result<(), AllocError>
+    ensures { OnOk result (AddsLine out.old.items out.new.items (section_words section.now)) }
+{
+    out.extend_from_slice(kind_word(section.kind))?;
+    write_name(out, &section.name)?;
+    write_set(out, section.letters.as_slice())?;
+    out.push(b'\n')?;
+    Ok(())
+}
+
+fn write_count(out: &mut Vec<u8>, many: Many) -> Result<(), AllocError>
+    ensures { OnOk result (Adds out.old.items out.new.items (count_words many)) }
+{
+    match many {
+        Many::One => Ok(()),
+        Many::Star => write_word(out, b"*"),
+        Many::Plus => write_word(out, b"+"),
+    }
+}
+
+fn write_base(out: &mut Vec<u8>, base: &BaseText) -> Result<(), AllocError>
+    ensures { OnOk result (Adds out.old.items out.new.items (base_words base.now)) }
+{
+    match base {
+        BaseText::Letter(letter) => write_name(out, letter),
+        BaseText::Set(letters) => write_set(out, letters.as_slice()),
+        BaseText::Any => write_word(out, b"any"),
+    }
+}
+
+fn write_atom(out: &mut Vec<u8>, atom: &AtomText) -> Result<(), AllocError>
+    ensures { OnOk result (Adds out.old.items out.new.items (atom_words atom.now)) }
+{
+    write_base(out, &atom.base)?;
+    write_count(out, atom.many)?;
+    Ok(())
+}
+
+fn write_atoms(out: &mut Vec<u8>, atoms: &[AtomText]) -> Result<(), AllocError>
+    ensures { OnOk result (Adds out.old.items out.new.items (flat_map atom_words atoms.now)) }
+{
+    'atoms: for atom in atoms {
+        write_atom(out, atom)?;
+    }
+    Ok(())
+}
+
+fn write_pattern(out: &mut Vec<u8>, pattern: &[AtomText]) -> Result<(), AllocError>
+    ensures { OnOk result (Adds out.old.items out.new.items (pattern_words pattern.now)) }
+{
+    match pattern {
+        [] => write_word(out, b"empty"),
+        [_, ..] => write_atoms(out, pattern),
+    }
+}
+
+fn write_part(out: &mut Vec<u8>, part: &PartText) -> Result<(), AllocError>
+    ensures { OnOk result (Adds out.old.items out.new.items (part_words part.now)) }
+{
+    write_name(out, &part.section)?;
+    write_word(out, b":")?;
+    write_pattern(out, part.atoms.as_slice())?;
+    write_word(out, b";")?;
+    Ok(())
+}
+
+fn write_parts(out: &mut Vec<u8>, parts: &[PartText]) -> Result<(), AllocError>
+    ensures { OnOk result (Adds out.old.items out.new.items (flat_map part_words parts.now)) }
+{
+    'parts: for part in parts {
+        write_part(out, part)?;
+    }
+    Ok(())
+}
+
+fn write_row(out: &mut Vec<u8>, head: &[u8], row: &RowText) -> Result<(), AllocError>
+    ensures { OnOk result (AddsLine out.old.items out.new.items (row_words head.now row.now)) }
+{
+    out.extend_from_slice(head)?;
+    write_word(out, b"{")?;
+    write_parts(out, row.parts.as_slice())?;
+    write_word(out, b"}")?;
+    out.push(b'\n')?;
+    Ok(())
+}
+
+fn quantifier_word(all: bool) -> &'static [u8]
+    ensures { result.now ≡ (if all then codes "all" else codes "some") }
+{
+    if all { b"all" } else { b"some" }
+}
+
+fn region_word(region: Region) -> &'static [u8]
+    ensures { result.now ≡ region_word region }
+{
+    match region {
+        Region::Left => b"left",
+        Region::Right => b"right",
+        Region::Others => b"others",
+    }
+}
+
+fn write_guard(out: &mut Vec<u8>, guard: &GuardText) -> Result<(), AllocError>
+    ensures { OnOk result (Adds out.old.items out.new.items (guard_words guard.now)) }
+{
+    write_word(out, b"when")?;
+    write_word(out, quantifier_word(guard.all))?;
+    write_word(out, region_word(guard.region))?;
+    write_word(out, b"in")?;
+    write_set(out, guard.letters.as_slice())?;
+    Ok(())
+}
+
+fn write_guards(out: &mut Vec<u8>, guards: &[GuardText]) -> Result<(), AllocError>
+    ensures { OnOk result (Adds out.old.items out.new.items (flat_map guard_words guards.now)) }
+{
+    'guards: for guard in guards {
+        write_guard(out, guard)?;
+    }
+    Ok(())
+}
+
+fn write_entry(out: &mut Vec<u8>, entry: &(Name, Name)) -> Result<(), AllocError>
+    ensures { OnOk result (Adds out.old.items out.new.items (entry_words entry.now)) }
+{
+    write_name(out, &entry.0)?;
+    write_word(out, b"->")?;
+    write_name(out, &entry.1)?;
+    write_word(out, b";")?;
+    Ok(())
+}
+
+fn write_entries(out: &mut Vec<u8>, entries: &[(Name, Name)]) -> Result<(), AllocError>
+    ensures { OnOk result (Adds out.old.items out.new.items (flat_map entry_words entries.now)) }
+{
+    'entries: for entry in entries {
+        write_entry(out, entry)?;
+    }
+    Ok(())
+}
+
+fn write_table(out: &mut Vec<u8>, table: &[(Name, Name)]) -> Result<(), AllocError>
+    ensures { OnOk result (Adds out.old.items out.new.items (table_words table.now)) }
+{
+    match table {
+        [] => Ok(()),
+        [_, ..] => {
+            write_word(out, b"map")?;
+            write_word(out, b"{")?;
+            write_entries(out, table)?;
+            write_word(out, b"}")?;
+            Ok(())
+        }
+    }
+}
+
+fn write_pushed(out: &mut Vec<u8>, letters: &[Name]) -> Result<(), AllocError>
+    ensures { OnOk result (Adds out.old.items out.new.items (pushed_words letters.now)) }
+{
+    match letters {
+        [] => Ok(()),
+        [_, ..] => {
+            write_word(out, b"push")?;
+            write_names(out, letters)?;
+            Ok(())
+        }
+    }
+}
+
+fn write_popped(out: &mut Vec<u8>, letter: &Option<Name>) -> Result<(), AllocError>
+    ensures { OnOk result (Adds out.old.items out.new.items (popped_words letter.now)) }
+{
+    match letter {
+        None => Ok(()),
+        Some(letter) => {
+            write_word(out, b"pop")?;
+            write_name(out, letter)?;
+            Ok(())
+        }
+    }
+}
+
+/// Writes the word, two names, `->` and two names.
+fn write_four(
+    out: &mut Vec<u8>,
+    head: &[u8],
+    a: &Name,
+    b: &Name,
+    c: &Name,
+    d: &Name,
+) -> Result<(), AllocError>
+    ensures { OnOk result (Adds out.old.items out.new.items (four_words head.now a.now b.now c.now d.now)) }
+{
+    write_word(out, head)?;
+    write_name(out, a)?;
+    write_name(out, b)?;
+    write_word(out, b"->")?;
+    write_name(out, c)?;
+    write_name(out, d)?;
+    Ok(())
+}
+
+fn write_at_move(
+    out: &mut Vec<u8>,
+    from: &Name,
+    to: &Name,
+    when: &[GuardText],
+    map: &[(Name, Name)],
+) -> Result<(), AllocError>
+    ensures { OnOk result (Adds out.old.items out.new.items
+        (codes "at" ∷ from.now.text ∷ codes "->" ∷ to.now.text ∷ (flat_map guard_words when.now ++ table_words map.now))) }
+{
+    write_word(out, b"at")?;
+    write_name(out, from)?;
+    write_word(out, b"->")?;
+    write_name(out, to)?;
+    write_guards(out, when)?;
+    write_table(out, map)?;
+    Ok(())
+}
+
+fn write_set_move(out: &mut Vec<u8>, from: &Name, to: &Name) -> Result<(), AllocError>
+    ensures { OnOk result (Adds out.old.items out.new.items
+        (codes "set" ∷ from.now.text ∷ codes "->" ∷ to.now.text ∷ [])) }
+{
+    write_word(out, b"set")?;
+    write_name(out, from)?;
+    write_word(out, b"->")?;
+    write_name(out, to)?;
+    Ok(())
+}
+
+fn write_letter_move(out: &mut Vec<u8>, head: &[u8], letter: &Name) -> Result<(), AllocError>
+    ensures { OnOk result (Adds out.old.items out.new.items (head.now ∷ letter.now.text ∷ [])) }
+{
+    write_word(out, head)?;
+    write_name(out, letter)?;
+    Ok(())
+}
+
+fn write_stack_move(out: &mut Vec<u8>, pop: &Option<Name>, push: &[Name]) -> Result<(), AllocError>
+    ensures { OnOk result (Adds out.old.items out.new.items (popped_words pop.now ++ pushed_words push.now)) }
+{
+    write_popped(out, pop)?;
+    write_pushed(out, push)?;
+    Ok(())
+}
+
+fn write_body(out: &mut Vec<u8>, body: &MoveBody) -> Result<(), AllocError>
+    ensures { OnOk result (Adds out.old.items out.new.items (move_words body.now)) }
+{
+    match body {
+        MoveBody::At {
+            from,
+            to,
+            guards,
+            map,
+        } => {
+            write_at_move(out, from, to, guards.as_slice(), map.as_slice())?;
+            Ok(())
+        }
+        MoveBody::Pair { a, b, c, d } => write_four(out, b"pair", a, b, c, d),
+        MoveBody::Ring { a, b, c, d } => write_four(out, b"ring", a, b, c, d),
+        MoveBody::Two { a, b, c, d } => write_four(out, b"two", a, b, c, d),
+        MoveBody::Set { from, to } => write_set_move(out, from, to),
+        MoveBody::Send { letter } => write_letter_move(out, b"send", letter),
+        MoveBody::Recv { letter } => write_letter_move(out, b"recv", letter),
+        MoveBody::Stack { pop, push } => write_stack_move(out, pop, push.as_slice()),
+    }
+}
+
+fn write_step(out: &mut Vec<u8>, step: &MoveText) -> Result<(), AllocError>
+    ensures { OnOk result (Adds out.old.items out.new.items (step_words step.now)) }
+{
+    write_name(out, &step.section)?;
+    write_word(out, b":")?;
+    write_body(out, &step.body)?;
+    write_word(out, b";")?;
+    Ok(())
+}
+
+fn write_steps(out: &mut Vec<u8>, steps: &[MoveText]) -> Result<(), AllocError>
+    ensures { OnOk result (Adds out.old.items out.new.items (flat_map step_words steps.now)) }
+{
+    'steps: for step in steps {
+        write_step(out, step)?;
+    }
+    Ok(())
+}
+
+fn write_rule(out: &mut Vec<u8>, rule: &RuleText) -> Result<(), AllocError>
+    ensures { OnOk result (AddsLine out.old.items out.new.items (rule_words rule.now)) }
+{
+    out.extend_from_slice(b"rule")?;
+    write_name(out, &rule.name)?;
+    write_word(out, b"{")?;
+    write_steps(out, rule.moves.as_slice())?;
+    write_word(out, b"}")?;
+    out.push(b'\n')?;
+    Ok(())
+}
+
+fn write_sections(out: &mut Vec<u8>, sections: &[SectionText]) -> Result<(), AllocError>
+    ensures { OnOk result (AddsLines out.old.items out.new.items (map section_words sections.now)) }
+{
+    'sections: for section in sections {
+        write_section(out, section)?;
+    }
+    Ok(())
+}
+
+fn write_rows(out: &mut Vec<u8>, head: &[u8], rows: &[RowText]) -> Result<(), AllocError>
+    ensures { OnOk result (AddsLines out.old.items out.new.items (map (row_words head.now) rows.now)) }
+{
+    'rows: for row in rows {
+        write_row(out, head, row)?;
+    }
+    Ok(())
+}
+
+fn write_rules(out: &mut Vec<u8>, rules: &[RuleText]) -> Result<(), AllocError>
+    ensures { OnOk result (AddsLines out.old.items out.new.items (map rule_words rules.now)) }
+{
+    'rules: for rule in rules {
+        write_rule(out, rule)?;
+    }
+    Ok(())
+}
+
+fn write_items(out: &mut Vec<u8>, protocol: &Protocol) -> Result<(), AllocError>
+    ensures { OnOk result (AddsLines out.old.items out.new.items (items protocol.now)) }
+{
+    out.extend_from_slice(b"protocol")?;
+    write_name(out, &protocol.name)?;
+    out.push(b'\n')?;
+    write_sections(out, protocol.sections.as_slice())?;
+    write_rows(out, b"init", protocol.init.as_slice())?;
+    write_rules(out, protocol.rules.as_slice())?;
+    write_rows(out, b"bad", protocol.bad.as_slice())?;
+    Ok(())
+}
+
+/// The text of the protocol in its canonical layout. A table without an entry is left out.
+///
+/// Where some text is the protocol, the layout is a text of it too, apart from the places of names.
+/// An error is answered where there is no memory for the text.
+pub fn print(alloc: Global, protocol: &Protocol) -> Result<Vec<u8>, AllocError>
+    ensures layout { IfOk result (λ text. text.items ≡ layout protocol.now) }
+    ensures read_back { IfOk result (λ text. IsReadBack text.items protocol.now) }
+{
+    let mut text = Vec::new(alloc);
+    write_items(&mut text, protocol)?;
+    Ok(text)
+}
+
+#[cfg(test)]
+mod tests;
