@@ -1,0 +1,5 @@
+pub mod CutLemmas
+pub mod WordLemmas
+pub mod EncodingLemmas
+pub mod DecodingLemmas
+pub mod TextLemmas

@@ -1,0 +1,28 @@
+use Rattle.std.proofs.Common.{◌≡◌, ◌<◌, ◌++◌, ◌∷◌, [], length, get_or, subst, sym, ap, ◌∙◌}
+use Rattle.std.proofs.lemmas.List.{append-nil}
+use Rattle.protocol_model.specs.Words.{raised, separator_of}
+use Rattle.configuration_words.proofs.EncodingLemmas.{lead, lead_none, lead_some, encoded_next}
+use Rattle.configuration_words.proofs.encoding.encode.Goals as goal
+use Rattle.configuration_words.proofs.encoding.encode.Goals.{then-index-gt0+in_ok-push, else-index-gt0}
+
+pub sections-preserved : goal.sections-preserved
+sections-preserved c =
+    let s = c.args.system.now in
+    let index = c.sections.index in
+    let sections = c.as_slice-section-items.ensures ∙ ap (λ d. d.sections) c.system.view_is in
+    let within = subst (λ xs. index < length xs) sections c.sections-test.true in
+    let is = subst (λ xs. c.section-item.result ≡ get_or xs index c.section-item.result) sections c.section-item.is in
+    let is_list = subst (λ xs. c.index-lists-index.result ≡ get_or xs index c.index-lists-index.result) c.as_slice-lists.ensures c.index-lists-index.is in
+    let begun : c.if-index-gt0.word.items ≡ c.sections.word.items ++ lead (separator_of s) index =
+    elim c.if-index-gt0.branch [
+      | then-index-gt0+in_ok-push w ↦
+          ap (λ v. v.items) w.word-is ∙ w.in_ok-push.ensures.items
+          ∙ ap (λ a. c.sections.word.items ++ a ∷ []) c.separator-separator.ensures.separator
+          ∙ ap (λ xs. c.sections.word.items ++ xs) (sym (lead_some (separator_of s) index w.if-index-gt0.true))
+      | else-index-gt0 w ↦
+          ap (λ v. v.items) w.word-is ∙ sym (append-nil c.sections.word.items)
+          ∙ ap (λ xs. c.sections.word.items ++ xs) (sym (lead_none (separator_of s) index w.if-index-gt0.false))
+    ] in
+    encoded_next s c.args.configuration.now.lists index c.sections.offset c.sections.word.items c.section-item.result within is c.sections.invariant
+    c.index-lists-index.result is_list c.if-index-gt0.word.items c.push_raised.new.word.items c.letter_count-offset.result begun
+    (c.in_ok-push_raised.ensures ∙ ap (λ xs. c.if-index-gt0.word.items ++ raised c.sections.offset xs) c.as_slice.ensures) c.letter_count-offset.ensures

@@ -1,0 +1,27 @@
+use Rattle.std.proofs.Common.{◌≡◌, ◌<◌, ◌≤◌, ◌++◌, length, get_or, subst, sym, ap, ◌∙◌}
+use Rattle.std.proofs.lemmas.List.{append-nil}
+use Rattle.configuration_words.specs.Texts.{part_text}
+use Rattle.configuration_words.proofs.TextLemmas.{lead, lead_none, lead_some, written_more}
+use Rattle.configuration_words.proofs.texts.configuration_text.Goals as goal
+use Rattle.configuration_words.proofs.texts.configuration_text.Goals.{then-index-gt0+in_ok-extend_from_slice, else-index-gt0}
+
+pub sections-preserved : goal.sections-preserved
+sections-preserved c =
+    let s = c.args.system.now in
+    let index = c.sections.index in
+    let sections = c.as_slice-section-items.ensures ∙ ap (λ d. d.sections) c.system.view_is in
+    let within = subst (λ xs. index < length xs) sections c.sections-test.true in
+    let is = subst (λ xs. c.section-item.result ≡ get_or xs index c.section-item.result) sections c.section-item.is in
+    let is_list = subst (λ xs. c.index-lists-index.result ≡ get_or xs index c.index-lists-index.result) c.as_slice-lists.ensures c.index-lists-index.is in
+    let begun : c.if-index-gt0.text.items ≡ c.sections.text.items ++ lead index =
+    elim c.if-index-gt0.branch [
+      | then-index-gt0+in_ok-extend_from_slice w ↦
+          ap (λ v. v.items) w.text-is ∙ w.in_ok-extend_from_slice.ensures.items
+          ∙ ap (λ xs. c.sections.text.items ++ xs) (sym (lead_some index w.if-index-gt0.true))
+      | else-index-gt0 w ↦
+          ap (λ v. v.items) w.text-is ∙ sym (append-nil c.sections.text.items)
+          ∙ ap (λ xs. c.sections.text.items ++ xs) (sym (lead_none index w.if-index-gt0.false))
+    ] in
+    written_more s c.args.configuration.now.lists index c.sections.text.items c.section-item.result within is c.sections.invariant
+    c.index-lists-index.result is_list c.if-index-gt0.text.items c.push_part.new.text.items begun
+    (c.in_ok-push_part.ensures ∙ ap (λ xs. c.if-index-gt0.text.items ++ part_text c.section-item.result xs) c.as_slice.ensures)

@@ -1,0 +1,13 @@
+//! Configurations as words over the letters of a system's automata, and as texts.
+#![tactic(auto)]
+
+mod alphabet;
+mod decoding;
+mod encoding;
+#[cfg(test)]
+mod tests;
+mod texts;
+
+pub use decoding::decode;
+pub use encoding::encode;
+pub use texts::configuration_text;
