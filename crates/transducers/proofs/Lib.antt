@@ -4,4 +4,5 @@ mod SearchLemmas
 pub mod PathLemmas
 pub mod ExchangeLemmas
 mod CombinationLemmas
+pub mod JoiningLemmas
 pub mod CopyLemmas

@@ -53,7 +53,11 @@ fn inverse_states(alloc: Global, t: &Transducer) -> Result<Vec<State>, AllocErro
 }
 
 /// Appends the start states of `t`, with their numbers raised by `by`.
-fn push_starts(starts: &mut Vec<usize>, t: &Transducer, by: usize) -> Result<(), AllocError>
+pub(crate) fn push_starts(
+    starts: &mut Vec<usize>,
+    t: &Transducer,
+    by: usize,
+) -> Result<(), AllocError>
     requires { length t.now.states + by < 2 ^ 64 }
     ensures { OnOk result (starts.new.items ≡ starts.old.items ++ map (λ q. q + by) t.now.starts) }
 {
@@ -103,7 +107,7 @@ fn inverse_state(alloc: Global, state: &State) -> Result<State, AllocError>
 }
 
 /// The edges with their targets' numbers raised by `by`.
-fn shifted_edges(
+pub(crate) fn shifted_edges(
     alloc: Global,
     edges: &[(Label, usize)],
     by: usize,

@@ -4,6 +4,7 @@
 mod builder;
 mod combination;
 mod copies;
+mod joining;
 mod search;
 #[cfg(test)]
 mod tests;
@@ -15,6 +16,7 @@ ghost use Rattle.transducers.specs.Combination.{exchange};
 pub use builder::TransducerBuilder;
 pub use combination::{either, inverse};
 pub use copies::{copy_any, copy_edges, copy_one};
+pub use joining::join_sections;
 pub use search::relates;
 use std::alloc::{AllocError, Global};
 use std::marker::Model;
@@ -162,4 +164,14 @@ impl Transducer {
             states,
         })
     }
+}
+
+/// Asks for a type that threads may share and that may be moved between them.
+fn is_shared<T: Send + Sync>() {}
+
+/// Threads may share transducers and their parts.
+pub fn transducers_are_shared() {
+    is_shared::<Transducer>();
+    is_shared::<State>();
+    is_shared::<Label>();
 }

@@ -1,6 +1,10 @@
 //! Small transducers on worked examples.
 
-use crate::{Transducer, TransducerBuilder, copy_any, copy_one, either, inverse, relates};
+ghost use Rattle.std.specs.Prelude.{◌≡◌, ◌<◌, IfOk};
+
+use crate::{
+    Transducer, TransducerBuilder, copy_any, copy_one, either, inverse, join_sections, relates,
+};
 use std::alloc::{AllocError, Global};
 use std::test::Fail;
 
@@ -46,5 +50,52 @@ fn either_has_both_relations(rt: HostRuntime) -> Result<(), Fail> {
     assert!(rt; relates(alloc, &one, &[2], &[2])?);
     assert!(rt; !relates(alloc, &one, &[2, 1], &[2, 1])?);
     assert!(rt; !relates(alloc, &one, &[0], &[0])?);
+    Ok(())
+}
+
+/// Reads one letter and writes another.
+fn change(alloc: Global, from: u32, to: u32) -> Result<Transducer, AllocError>
+    requires from { from < 4 }
+    requires to { to < 4 }
+    ensures { IfOk result (λ t. t.letters ≡ 4) }
+{
+    let mut builder = TransducerBuilder::new(alloc, 4);
+    let first = builder.state(false)?;
+    let last = builder.state(true)?;
+    builder.start(first)?;
+    builder.edge(first, Some(from), Some(to), last)?;
+    Ok(builder.finish())
+}
+
+/// Copies any number of twos, and then writes one more.
+fn sender(alloc: Global) -> Result<Transducer, AllocError>
+    ensures { IfOk result (λ t. t.letters ≡ 4) }
+{
+    let mut builder = TransducerBuilder::new(alloc, 4);
+    let first = builder.state(false)?;
+    let last = builder.state(true)?;
+    builder.start(first)?;
+    builder.edge(first, Some(2), Some(2), first)?;
+    builder.edge(first, None, Some(2), last)?;
+    Ok(builder.finish())
+}
+
+#[test]
+fn sections_are_joined_by_the_separator(rt: HostRuntime) -> Result<(), Fail> {
+    let alloc = rt.alloc();
+    let cell = change(alloc, 0, 1)?;
+    let channel = sender(alloc)?;
+    let other = cell.copy(alloc)?;
+    let parts = vec![in alloc; cell, channel, other]?;
+    let two = join_sections(alloc, &parts[..2], 3)?;
+    assert!(rt; relates(alloc, &two, &[0, 3], &[1, 3, 2])?);
+    assert!(rt; relates(alloc, &two, &[0, 3, 2], &[1, 3, 2, 2])?);
+    assert!(rt; !relates(alloc, &two, &[0, 3], &[1, 3])?);
+    assert!(rt; !relates(alloc, &two, &[0], &[1])?);
+    let back = inverse(alloc, &two)?;
+    assert!(rt; relates(alloc, &back, &[1, 3, 2], &[0, 3])?);
+    let three = join_sections(alloc, parts.as_slice(), 3)?;
+    assert!(rt; relates(alloc, &three, &[0, 3, 3, 0], &[1, 3, 2, 3, 1])?);
+    assert!(rt; !relates(alloc, &three, &[0, 3], &[1, 3, 2])?);
     Ok(())
 }
