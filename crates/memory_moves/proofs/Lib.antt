@@ -1,0 +1,3 @@
+mod RunLemmas
+mod MachineLemmas
+mod MoveLemmas

@@ -1,0 +1,28 @@
+use Rattle.std.proofs.Common.{◌↔◌, ℕ, List, None, IfOk, All, sym, ap, subst, ◌∙◌}
+use Rattle.std.proofs.lemmas.Result.{IfOk-weaker}
+use Rattle.transducers.specs.Transducer.{Relates}
+use Rattle.protocol_model.specs.declared.system.Move.TheVariants.{Stack}
+use Rattle.protocol_model.specs.System.{IsValidMove}
+use Rattle.protocol_model.specs.Moves.{IsMove}
+use Rattle.protocol_model.specs.Raised.{IsRaisedMove}
+use Rattle.memory_moves.specs.Machine.{IsLabel, IsCopiedBetween, stack_prefix}
+use Rattle.memory_moves.proofs.MoveLemmas.{stack_relates, stack_in_range, joined}
+use Rattle.memory_moves.proofs.compile_stack.Goals as goal
+
+pub copy_between-requires-clause-prefix : goal.copy_between-requires-clause-prefix
+copy_between-requires-clause-prefix c = subst (All (IsLabel c.args.letters)) (sym (c.as_slice-in-Stack.ensures.value ∙ c.in_ok-prefix-in-Stack.ensures
+    ∙ ap (λ push. stack_prefix c.args.offset c.in-Stack.pop push) c.as_slice.ensures))
+    (stack_in_range c.args.offset c.args.count c.args.letters c.in-Stack.pop c.in-Stack.push c.requires.fits (subst (IsValidMove c.args.count) c.in-Stack.is c.requires.valid))
+
+pub returns-clause-relates : goal.returns-clause-relates
+returns-clause-relates c =
+    subst (λ m. IfOk c.copy_between.result (λ t. (u w : List ℕ) → Relates t u w ↔ IsRaisedMove (IsMove m) c.args.offset c.args.count u w))
+    (sym c.in-Stack.is)
+    (IfOk-weaker c.copy_between.result
+    (λ t. (u w : List ℕ) → Relates t u w
+    ↔ IsCopiedBetween (stack_prefix c.args.offset c.in-Stack.pop c.in-Stack.push) None c.args.offset c.args.count u w)
+    (λ t. (u w : List ℕ) → Relates t u w ↔ IsRaisedMove (IsMove (Stack c.in-Stack.pop c.in-Stack.push)) c.args.offset c.args.count u w)
+    (λ t h u w. joined (h u w) (stack_relates c.args.offset c.args.count u w c.in-Stack.pop c.in-Stack.push (subst (IsValidMove c.args.count) c.in-Stack.is c.requires.valid)))
+    (subst (λ labels. IfOk c.copy_between.result (λ t. (u w : List ℕ) → Relates t u w
+    ↔ IsCopiedBetween labels None c.args.offset c.args.count u w)) (c.as_slice-in-Stack.ensures.value ∙ c.in_ok-prefix-in-Stack.ensures
+    ∙ ap (λ push. stack_prefix c.args.offset c.in-Stack.pop push) c.as_slice.ensures) c.copy_between.ensures.relates))

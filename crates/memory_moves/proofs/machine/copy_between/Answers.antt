@@ -1,0 +1,19 @@
+use Rattle.std.proofs.Common.{sym, subst, ◌∙◌}
+use Rattle.transducers.specs.Transducer.{IsValid, Relates}
+use Rattle.memory_moves.specs.Machine.{IsCopiedBetween}
+use Rattle.memory_moves.proofs.MachineLemmas.{is_machine, IsValid-machine, Relates-machine}
+use Rattle.memory_moves.proofs.machine.copy_between.Goals as goal
+
+pub from_states-requires : goal.from_states-requires
+from_states-requires c = subst IsValid (sym (is_machine c.args.letters c.args.offset c.args.count c.args.prefix.now c.args.suffix _ _ _
+    c.in_ok-starts.ensures.items c.in_ok-states.ensures c.in_ok-push_end.ensures))
+    (IsValid-machine c.args.letters c.args.offset c.args.count c.args.prefix.now c.args.suffix c.requires.prefix c.requires.suffix
+    c.requires.fits)
+
+pub returns-clause-relates : goal.returns-clause-relates
+returns-clause-relates c u w =
+    subst (λ t. (Relates t u w → IsCopiedBetween c.args.prefix.now c.args.suffix c.args.offset c.args.count u w)
+    × (IsCopiedBetween c.args.prefix.now c.args.suffix c.args.offset c.args.count u w → Relates t u w))
+    (sym (c.from_states.ensures ∙ is_machine c.args.letters c.args.offset c.args.count c.args.prefix.now c.args.suffix _ _ _
+    c.in_ok-starts.ensures.items c.in_ok-states.ensures c.in_ok-push_end.ensures))
+    (Relates-machine c.args.letters c.args.offset c.args.count c.args.prefix.now c.args.suffix u w)

@@ -1,0 +1,66 @@
+//! Transducers that exchange what stands at the two ends of a word, and copy what lies between.
+
+ghost use Rattle.std.specs.Prelude.{◌≡◌, ◌↔◌, ◌+◌, ◌++◌, ◌<◌, ◌≤◌, ◌^◌, ℕ, List, All, IfOk, IfSome, OnOk, length};
+ghost use Rattle.transducers.specs.Transducer.{Relates};
+ghost use Rattle.memory_moves.specs.Machine.{IsLabel, IsCopiedBetween, chain, copying_end};
+
+use std::alloc::{AllocError, Global};
+use transducers::{Label, State, Transducer, copy_edges};
+
+/// The transducer that follows the labels of the prefix, then copies letters, of the `count` letters from `offset` on, and then
+/// follows the label of the suffix, if there is one.
+pub(crate) fn copy_between(
+    alloc: Global,
+    prefix: &[Label],
+    suffix: Option<Label>,
+    letters: u32,
+    offset: u32,
+    count: u32,
+) -> Result<Transducer, AllocError>
+    requires prefix { All (IsLabel letters) prefix.now }
+    requires suffix { IfSome suffix (IsLabel letters) }
+    requires fits { offset + count ≤ letters }
+    ensures letters { IfOk result (λ t. t.letters ≡ letters) }
+    ensures relates { IfOk result (λ t. (u w : List ℕ) → Relates t u w ↔ IsCopiedBetween prefix.now suffix offset count u w) }
+{
+    let mut states = chain(alloc, prefix)?;
+    push_end(alloc, &mut states, suffix, offset, count)?;
+    let starts = vec![in alloc; 0]?;
+    Ok(Transducer::from_states(letters, starts, states))
+}
+
+/// A state for each label, which leads to the next state.
+fn chain(alloc: Global, labels: &[Label]) -> Result<Vec<State>, AllocError>
+    ensures { IfOk result (λ states. states.items ≡ chain 0 labels.now) }
+{
+    let mut states = Vec::new(alloc);
+    'labels: for (i, label) in labels.iter().enumerate() {
+        let edges = vec![in alloc; (*label, i + 1)]?;
+        states.push(State::new(false, edges))?;
+    }
+    Ok(states)
+}
+
+/// Appends the state that copies letters, and the state behind the suffix.
+fn push_end(
+    alloc: Global,
+    states: &mut Vec<State>,
+    suffix: Option<Label>,
+    offset: u32,
+    count: u32,
+) -> Result<(), AllocError>
+    requires { offset + count < 2 ^ 32 }
+    ensures { OnOk result (states.new.items ≡ states.old.items ++ copying_end (length states.old.items) offset count suffix) }
+{
+    let copying = states.len();
+    let mut edges = copy_edges(alloc, offset, count, copying)?;
+    match suffix {
+        None => states.push(State::new(true, edges))?,
+        Some(label) => {
+            edges.push((label, copying + 1))?;
+            states.push(State::new(false, edges))?;
+            states.push(State::new(true, Vec::new(alloc)))?;
+        }
+    }
+    Ok(())
+}
