@@ -1,0 +1,3 @@
+mod SectionLemmas
+mod WordLemmas
+mod RuleLemmas

@@ -1,0 +1,9 @@
+//! Rules of a system as transducers: the transducer of a rule relates the words of configurations before and after its steps.
+#![tactic(auto)]
+
+mod laws;
+mod rules;
+mod sections;
+
+pub use laws::word_steps_are_rule_steps;
+pub use rules::compile;

@@ -1,0 +1,126 @@
+//! What a rule does to each section as a transducer.
+
+ghost use Rattle.std.specs.Prelude.{◌≡◌, ◌↔◌, ◌+◌, ◌^◌, ◌<◌, ◌≤◌, ℕ, List, Some, None, IfOk, MatchOption, length};
+ghost use Rattle.std.specs.List.{AllByRecursion};
+ghost use Rattle.protocol_model.specs.System.{IsValidMove, IsValidPart, letter_count, total_letters};
+ghost use Rattle.protocol_model.specs.Moves.{IsMove};
+ghost use Rattle.protocol_model.specs.Raised.{IsRaisedMove};
+ghost use Rattle.protocol_model.specs.Steps.{move_of};
+ghost use Rattle.protocol_model.specs.declared.system.Move.{Move};
+ghost use Rattle.transducers.specs.Transducer.{Relates};
+ghost use Rattle.step_compiler.specs.Sections.{Stays, IsMoveOf, IsSectionTransducer, AreSectionTransducers};
+
+use array_moves::compile_array;
+use memory_moves::{compile_cell, compile_channel, compile_stack};
+use protocol_model::{Move, Section};
+use protocol_syntax::Kind;
+use std::alloc::{AllocError, Global};
+use transducers::{Transducer, copy_any, copy_one};
+
+/// The letters of a section among those of the automata: their number of letters, the section's first letter, and the
+/// section's number of letters.
+#[derive(Clone, Copy, Debug)]
+struct Alphabet {
+    letters: u32,
+    offset: u32,
+    count: u32,
+}
+
+/// For each section the transducer, over `letters` letters, of its move among `moves`, or of no move where there is none.
+/// The letters of a section stand behind those of the sections before.
+pub(crate) fn compile_sections(
+    alloc: Global,
+    sections: &[Section],
+    moves: &[(u32, Move)],
+    letters: u32,
+) -> Result<Vec<Transducer>, AllocError>
+    requires valid { AllByRecursion (IsValidPart sections.now) moves.now }
+    requires fits { total_letters sections.now ≤ letters }
+    requires few { length sections.now ≤ 16 }
+    ensures { IfOk result (λ parts. AreSectionTransducers moves.now letters 0 0 sections.now parts.items) }
+{
+    let mut parts = Vec::with_capacity(alloc, sections.len())?;
+    let mut offset = 0;
+    'sections: for (number, section) in sections.iter().enumerate() {
+        let part = compile_section(alloc, section, moves, number as u32, letters, offset)?;
+        parts.push(part)?;
+        offset += section.letters.len() as u32;
+    }
+    Ok(parts)
+}
+
+/// The transducer of the section of this number: that of its move among `moves`, or of no move.
+fn compile_section(
+    alloc: Global,
+    section: &Section,
+    moves: &[(u32, Move)],
+    number: u32,
+    letters: u32,
+    offset: u32,
+) -> Result<Transducer, AllocError>
+    requires valid { (m : Move) → move_of moves.now number ≡ Some m → IsMoveOf section.now m }
+    requires fits { offset + letter_count section.now ≤ letters }
+    ensures { IfOk result (IsSectionTransducer section.now (move_of moves.now number) letters offset) }
+{
+    let alphabet = Alphabet {
+        letters,
+        offset,
+        count: section.letters.len() as u32,
+    };
+    match find_move(moves, number) {
+        Some(step) => compile_move(alloc, step, alphabet),
+        None => compile_copy(alloc, section.kind, alphabet),
+    }
+}
+
+/// The move of the section of this number, if there is one. At most one move belongs to a section, and there are few.
+fn find_move(moves: &[(u32, Move)], number: u32) -> Option<&Move>
+    ensures { MatchOption result (move_of moves.now number ≡ None) (λ step. move_of moves.now number ≡ Some step.now) }
+{
+    'moves: for part in moves {
+        if part.0 == number {
+            return Some(&part.1);
+        }
+    }
+    None
+}
+
+/// The transducer of the lists before and after the move.
+fn compile_move(alloc: Global, step: &Move, alphabet: Alphabet) -> Result<Transducer, AllocError>
+    requires valid { IsValidMove alphabet.count step.now }
+    requires fits { alphabet.offset + alphabet.count ≤ alphabet.letters }
+    ensures letters { IfOk result (λ t. t.letters ≡ alphabet.letters) }
+    ensures relates { IfOk result (λ t. (u w : List ℕ) → Relates t u w
+        ↔ IsRaisedMove (IsMove step.now) alphabet.offset alphabet.count u w) }
+{
+    let Alphabet {
+        letters,
+        offset,
+        count,
+    } = alphabet;
+    match step {
+        Move::Set { from, to } => compile_cell(alloc, *from, *to, letters, offset, count),
+        Move::Send { .. } | Move::Recv { .. } => {
+            compile_channel(alloc, step, letters, offset, count)
+        }
+        Move::Stack { .. } => compile_stack(alloc, step, letters, offset, count),
+        Move::At { .. } | Move::Pair { .. } | Move::Ring { .. } | Move::Two { .. } => {
+            compile_array(alloc, step, letters, offset, count)
+        }
+    }
+}
+
+/// The transducer of the lists of a section of this kind that stays.
+fn compile_copy(alloc: Global, kind: Kind, alphabet: Alphabet) -> Result<Transducer, AllocError>
+    requires fits { alphabet.offset + alphabet.count ≤ alphabet.letters }
+    ensures letters { IfOk result (λ t. t.letters ≡ alphabet.letters) }
+    ensures relates { IfOk result (λ t. (u w : List ℕ) → Relates t u w
+        ↔ IsRaisedMove (Stays kind) alphabet.offset alphabet.count u w) }
+{
+    match kind {
+        Kind::Cell => copy_one(alloc, alphabet.letters, alphabet.offset, alphabet.count),
+        Kind::Array | Kind::Channel | Kind::Stack => {
+            copy_any(alloc, alphabet.letters, alphabet.offset, alphabet.count)
+        }
+    }
+}
