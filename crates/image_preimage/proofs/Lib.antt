@@ -1,0 +1,4 @@
+mod GraphLemmas
+mod PairLemmas
+mod ImageLemmas
+mod RelatedLetters

@@ -1,0 +1,26 @@
+use Rattle.std.proofs.Common.{◌<◌, ℕ, None, Contains, length, take, get_or, subst, arith}
+use Rattle.std.proofs.lemmas.List.{take_more}
+use Rattle.std.proofs.lemmas.List.Elements.{Contains-get_or}
+use Rattle.transducers.specs.declared.Label.{Label}
+use Rattle.transducers.proofs.PathLemmas.{target_in_range}
+use Rattle.image_preimage.proofs.PairLemmas.{FollowsAll-more}
+use Rattle.image_preimage.proofs.pairs.expand.Goals as goal
+
+pub follow-requires-clause-in_range : goal.follow-requires-clause-in_range
+follow-requires-clause-in_range c =
+    let edges = c.edges-edge-items.result.now in
+    let none : Label × ℕ = (record { read = None; write = None }, 0) in
+    let edge = get_or edges c.edges.edge-index none in
+    let lt : c.edges.edge-index < length edges = omega arith in
+    target_in_range c.args.t.now c.pair_at-pair.result.left edge c.requires.valid
+    (subst (λ es. Contains es edge) c.edges-edge-items.ensures (Contains-get_or edges c.edges.edge-index none lt))
+
+pub edges-preserved : goal.edges-preserved
+edges-preserved c =
+    let edges = c.edges-edge-items.result.now in
+    let none : Label × ℕ = (record { read = None; write = None }, 0) in
+    let lt : c.edges.edge-index < length edges = omega arith in
+    rw (take_more edges c.edges.edge-index none lt)
+    (FollowsAll-more c.args.t.now c.args.a.now c.args.found.now.keys c.args.builder.now c.args.from c.pair_at-pair.result
+    c.edges.found.keys c.follow.new.found.keys c.edges.builder c.follow.new.builder (take c.edges.edge-index edges)
+    (get_or edges c.edges.edge-index none) c.edges.invariant c.in_ok-follow.ensures)

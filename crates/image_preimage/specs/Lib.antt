@@ -1,0 +1,4 @@
+pub mod Images
+pub mod Problem
+pub mod Pairs
+pub mod OneRule
