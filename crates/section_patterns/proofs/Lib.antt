@@ -1,0 +1,5 @@
+pub mod StateLemmas
+pub mod ListLemmas
+pub mod PatternLemmas
+pub mod SectionLemmas
+pub mod RowLemmas

@@ -1,0 +1,274 @@
+-- Rows as states: a row matches a configuration where its patterns match the lists of the sections, one after the other.
+use Rattle.std.proofs.Common.{◌≡◌, ◌≢◌, ◌==◌, ◌<◌, ◌≤◌, ◌+◌, ◌||◌, ◌↔◌, ◌⊎◌, ℕ, zero, suc, Bool, true, false, List, [], ◌∷◌, Option, None, Some, Contains, AllPairs, length, take, get_or, slice_get, unwrap_or, refl, sym, ap, subst, ◌∙◌, inl, inr, arith, eq-eqb, eqb-true, ne_eqb, if◌then◌else◌, add-zero}
+use Rattle.std.specs.List.{list_all, list_any, AllByRecursion}
+use Rattle.std.proofs.lemmas.Bool.{cases_Bool, false≢true, and_parts, and_from}
+use Rattle.std.proofs.lemmas.Option.{same_Some, slice_get_within, slice_get-get_or, get_or_from_slice_get}
+use Rattle.std.proofs.lemmas.List.{take_all}
+use Rattle.std.proofs.lemmas.List.Folds.{list_any_more}
+use Rattle.std.proofs.lemmas.List.Elements.{Contains-append_left, Contains-push, Contains-push_cases}
+use Rattle.word_automata.specs.Nondeterministic.{NondeterministicAutomaton, Accepts, with_start, empty_nondeterministic}
+use Rattle.word_automata.proofs.Members.{Contains-none}
+use Rattle.protocol_model.specs.declared.system.Section.{Section}
+use Rattle.protocol_model.specs.declared.system.Pattern.{Pattern}
+use Rattle.protocol_model.specs.declared.system.Row.{Row}
+use Rattle.protocol_model.specs.declared.system.Configuration.{Configuration}
+use Rattle.protocol_model.specs.System.{SystemData, letter_count, letter_count_at, AllBelow, IsValidRow, IsValidPattern}
+use Rattle.protocol_model.specs.Patterns.{atoms_match, lists_fit, list_fits, list_at, row_matches, fits}
+use Rattle.protocol_model.specs.Words.{separator_of, word_of}
+use Rattle.section_patterns.specs.Languages.{AcceptsFrom, IsAdded}
+use Rattle.section_patterns.specs.Lists.{IsRest, IsWordOfRows, HasPatternOf, HasPatternsOf, part_matches, pattern_for, parts_match}
+use Rattle.section_patterns.proofs.ListLemmas.{or_left, or_right}
+
+-- the pattern of a section that the row names
+pattern_for_named : (parts : List (ℕ × Pattern)) (k : ℕ) (pattern : Pattern) → pattern_for parts k ≡ Some pattern
+    → (i : ℕ) × ((part : ℕ × Pattern) × ((slice_get parts i ≡ Some part) × (part.0 ≡ k) × (part.1 ≡ pattern)))
+pattern_for_named [] k pattern e = cc
+pattern_for_named (part ∷ parts) k pattern e = elim (cases_Bool (part.0 == k)) [
+  | inl here ↦
+      let e' = sym (ap (λ b. if b then Some part.1 else pattern_for parts k) here) ∙ e in
+      (0, (part, (refl, eqb-true part.0 k here, same_Some part.1 pattern e')))
+  | inr other ↦
+      let e' = sym (ap (λ b. if b then Some part.1 else pattern_for parts k) other) ∙ e in
+      let rest = pattern_for_named parts k pattern e' in
+      (suc rest.0, rest.1)
+]
+
+-- what all of a list have, at a place
+all_at : {X : Type 0} (P : X → Type 0) (xs : List X) → AllByRecursion P xs → (i : ℕ) (x : X) → slice_get xs i ≡ Some x → P x
+all_at P [] h i x e = cc
+all_at P (y ∷ xs) h zero x e = subst P (same_Some y x e) h.0
+all_at P (y ∷ xs) h (suc i) x e = all_at P xs h.1 i x e
+
+-- patterns of a valid row are those of their sections
+patterns_by : (parts : List (ℕ × Pattern)) (number : ℕ) (sections : List Section)
+    → ((k : ℕ) (section : Section) → slice_get sections k ≡ Some section → HasPatternOf (pattern_for parts (number + k)) section)
+    → HasPatternsOf parts number sections
+patterns_by parts number [] each = tt
+patterns_by parts number (section ∷ sections) each = (
+  subst (λ n. HasPatternOf (pattern_for parts n) section) (add-zero number) (each 0 section refl),
+  patterns_by parts (number + 1) sections
+      (λ k s e. let same : number + suc k ≡ (number + 1) + k = omega arith in
+      subst (λ n. HasPatternOf (pattern_for parts n) s) same (each (suc k) s e)),
+)
+
+count_at : (sections : List Section) (k : ℕ) (section : Section) → slice_get sections k ≡ Some section → letter_count_at sections k ≡ letter_count section
+count_at sections k section e = ap (λ o. elim o as (λ v. ℕ) [ None ↦ 0 | Some s ↦ letter_count s ]) e
+
+pub valid_patterns : (sections : List Section) (row : Row) → IsValidRow sections row → HasPatternsOf row.parts 0 sections
+valid_patterns sections row valid = patterns_by row.parts 0 sections (λ k section e. by k section e (pattern_for row.parts (0 + k)) refl)
+  where
+    by : (k : ℕ) (section : Section) → slice_get sections k ≡ Some section → (pattern : Option Pattern) → pattern_for row.parts (0 + k) ≡ pattern
+        → HasPatternOf pattern section
+    by k section e None found = tt
+    by k section e (Some pattern) found =
+        let named = pattern_for_named row.parts (0 + k) pattern found in
+        let part = named.1.0 in
+        let valid_pattern = all_at (λ part. IsValidPattern (letter_count_at sections part.0) part.1) row.parts valid.patterns named.0 part named.1.1.0 in
+        let count : letter_count_at sections part.0 ≡ letter_count section =
+        ap (letter_count_at sections) (named.1.1.1 ∙ (omega arith)) ∙ count_at sections k section e in
+        subst (λ p. AllByRecursion (λ atom. AllBelow (letter_count section) atom.letters) p.atoms) named.1.1.2
+        (subst (λ n. AllByRecursion (λ atom. AllBelow n atom.letters) part.1.atoms) count valid_pattern.in_range)
+
+-- a section that the row names once has the pattern
+pattern_for_distinct : (parts : List (ℕ × Pattern)) → AllPairs (λ a b. a.0 ≢ b.0) parts → (i : ℕ) (part : ℕ × Pattern) → slice_get parts i ≡ Some part
+    → pattern_for parts part.0 ≡ Some part.1
+pattern_for_distinct [] distinct i part e = cc
+pattern_for_distinct (first ∷ parts) distinct zero part e =
+    let same = same_Some first part e in
+    ap (λ b. if b then Some first.1 else pattern_for parts part.0) (eq-eqb first.0 part.0 (ap (λ p. p.0) same)) ∙ ap (λ p. Some p.1) same
+pattern_for_distinct (first ∷ parts) distinct (suc i) part e =
+    let within = slice_get_within parts i part e in
+    let at : get_or (first ∷ parts) (suc i) part ≡ part = get_or_from_slice_get parts i part part e in
+    let differs : first.0 ≢ part.0 = subst (λ p. first.0 ≢ p.0) at (distinct 0 (suc i) part (omega arith) (omega arith)) in
+    let later : AllPairs (λ a b. a.0 ≢ b.0) parts = λ j k d less inside. distinct (suc j) (suc k) d (omega arith) (omega arith) in
+    ap (λ b. if b then Some first.1 else pattern_for parts part.0) (ne_eqb first.0 part.0 differs) ∙ pattern_for_distinct parts later i part e
+
+-- the tests of the lists, one by one and together
+parts_match_by : (parts : List (ℕ × Pattern)) (number : ℕ) (lists : List (List ℕ))
+    → ((k : ℕ) (list : List ℕ) → slice_get lists k ≡ Some list → part_matches (pattern_for parts (number + k)) list ≡ true)
+    → parts_match parts number lists ≡ true
+parts_match_by parts number [] each = refl
+parts_match_by parts number (list ∷ lists) each =
+    and_from (part_matches (pattern_for parts number) list) (parts_match parts (number + 1) lists)
+    (subst (λ n. part_matches (pattern_for parts n) list ≡ true) (add-zero number) (each 0 list refl))
+    (parts_match_by parts (number + 1) lists
+    (λ k l e. let same : number + suc k ≡ (number + 1) + k = omega arith in
+    subst (λ n. part_matches (pattern_for parts n) l ≡ true) same (each (suc k) l e)))
+
+parts_match_at : (parts : List (ℕ × Pattern)) (number : ℕ) (lists : List (List ℕ)) → parts_match parts number lists ≡ true
+    → (k : ℕ) (list : List ℕ) → slice_get lists k ≡ Some list → part_matches (pattern_for parts (number + k)) list ≡ true
+parts_match_at parts number [] h k list e = cc
+parts_match_at parts number (first ∷ lists) h zero list e =
+    let here = (and_parts (part_matches (pattern_for parts number) first) (parts_match parts (number + 1) lists) h).0 in
+    subst (λ n. part_matches (pattern_for parts n) list ≡ true) (sym (add-zero number))
+    (subst (λ l. part_matches (pattern_for parts number) l ≡ true) (same_Some first list e) here)
+parts_match_at parts number (first ∷ lists) h (suc k) list e =
+    let rest = (and_parts (part_matches (pattern_for parts number) first) (parts_match parts (number + 1) lists) h).1 in
+    let same : (number + 1) + k ≡ number + suc k = omega arith in
+    subst (λ n. part_matches (pattern_for parts n) list ≡ true) same (parts_match_at parts (number + 1) lists rest k list e)
+
+-- a test of all elements, by places
+list_all_by : {X : Type 0} (p : X → Bool) (xs : List X) → ((i : ℕ) (x : X) → slice_get xs i ≡ Some x → p x ≡ true) → list_all p xs ≡ true
+list_all_by p [] each = refl
+list_all_by p (x ∷ xs) each = and_from (p x) (list_all p xs) (each 0 x refl) (list_all_by p xs (λ i y e. each (suc i) y e))
+
+list_all_get : {X : Type 0} (p : X → Bool) (xs : List X) → list_all p xs ≡ true → (i : ℕ) (x : X) → slice_get xs i ≡ Some x → p x ≡ true
+list_all_get p [] h i x e = cc
+list_all_get p (y ∷ xs) h zero x e = subst (λ z. p z ≡ true) (same_Some y x e) (and_parts (p y) (list_all p xs) h).0
+list_all_get p (y ∷ xs) h (suc i) x e = list_all_get p xs (and_parts (p y) (list_all p xs) h).1 i x e
+
+lists_counted : (sections : List Section) (lists : List (List ℕ)) → lists_fit sections lists ≡ true → length lists ≡ length sections
+lists_counted [] [] h = refl
+lists_counted [] (list ∷ lists) h = absurd (false≢true h)
+lists_counted (section ∷ sections) [] h = absurd (false≢true h)
+lists_counted (section ∷ sections) (list ∷ lists) h =
+    ap suc (lists_counted sections lists (and_parts (list_fits section list) (lists_fit sections lists) h).1)
+
+module _ (sections : List Section) (row : Row) (valid : IsValidRow sections row) (c : Configuration) where
+  -- a row that matches has a pattern for each list
+  row_in : row_matches c row ≡ true → parts_match row.parts 0 c.lists ≡ true
+  row_in h = parts_match_by row.parts 0 c.lists (λ k list e. by k list e (pattern_for row.parts (0 + k)) refl)
+    where
+      by : (k : ℕ) (list : List ℕ) → slice_get c.lists k ≡ Some list → (pattern : Option Pattern) → pattern_for row.parts (0 + k) ≡ pattern
+          → part_matches pattern list ≡ true
+      by k list e None found = refl
+      by k list e (Some pattern) found =
+          let named = pattern_for_named row.parts (0 + k) pattern found in
+          let part = named.1.0 in
+          let here = list_all_get (λ part. atoms_match part.1.atoms (list_at c part.0)) row.parts h named.0 part named.1.1.0 in
+          let number : part.0 ≡ k = named.1.1.1 ∙ (omega arith) in
+          let at : list_at c part.0 ≡ list = ap (list_at c) number ∙ ap (λ o. unwrap_or o []) e in
+          subst (λ l. atoms_match pattern.atoms l ≡ true) at
+          (subst (λ p. atoms_match p.atoms (list_at c part.0) ≡ true) named.1.1.2 here)
+
+  row_out : lists_fit sections c.lists ≡ true → parts_match row.parts 0 c.lists ≡ true → row_matches c row ≡ true
+  row_out fitting h = list_all_by (λ part. atoms_match part.1.atoms (list_at c part.0)) row.parts (λ i part e.
+      let number : part.0 < length c.lists =
+      omega (arith, all_at (λ part. part.0 < length sections) row.parts valid.in_range i part e, lists_counted sections c.lists fitting) in
+      let there : slice_get c.lists part.0 ≡ Some (get_or c.lists part.0 []) = slice_get-get_or c.lists part.0 [] number in
+      let here = parts_match_at row.parts 0 c.lists h part.0 (get_or c.lists part.0 []) there in
+      let found : pattern_for row.parts (0 + part.0) ≡ Some part.1 =
+      ap (pattern_for row.parts) (omega arith) ∙ pattern_for_distinct row.parts valid.distinct i part e in
+      let at : get_or c.lists part.0 [] ≡ list_at c part.0 = sym (ap (λ o. unwrap_or o []) there) in
+      subst (λ l. atoms_match part.1.atoms l ≡ true) at
+      (subst (λ o. part_matches o (get_or c.lists part.0 []) ≡ true) found here))
+
+-- the words of the configurations that a row matches
+module _ (s : SystemData) (row : Row) (valid : IsValidRow s.sections row) (w : List ℕ) where
+  pub rest_in : IsRest row.parts 0 0 (separator_of s) s.sections w
+      → (c : Configuration) × ((fits s c ≡ true) × (row_matches c row ≡ true) × (w ≡ word_of s c))
+  rest_in r =
+      let c : Configuration = record { lists = r.lists } in
+      (c, (r.fitting, row_out s.sections row valid c r.fitting r.matches, r.spelled))
+
+  pub rest_out : (c : Configuration) → fits s c ≡ true → row_matches c row ≡ true → w ≡ word_of s c → IsRest row.parts 0 0 (separator_of s) s.sections w
+  rest_out c fitting matches e =
+      record { lists = c.lists; fitting = fitting; matches = row_in s.sections row valid c matches; spelled = e }
+
+-- the automaton accepts the words of so many rows
+pub record HasRows (s : SystemData) (rows : List Row) (n : NondeterministicAutomaton) : Type 0 where
+  pub letters : n.letters ≡ separator_of s + 1
+  pub starts : (q : ℕ) → Contains n.starts q → q < length n.states
+  pub into : (w : List ℕ) (q : ℕ) → Contains n.starts q → AcceptsFrom n q w → IsWordOfRows s rows w
+  pub from : (w : List ℕ) → IsWordOfRows s rows w → (q : ℕ) × (Contains n.starts q × AcceptsFrom n q w)
+
+pub rows_none : (s : SystemData) → HasRows s [] (empty_nondeterministic (separator_of s + 1))
+rows_none s = record {
+  letters = refl;
+  starts = λ q h. absurd (Contains-none q h);
+  into = λ w q h a. absurd (Contains-none q h);
+  from = λ w r. absurd (false≢true (and_parts (fits s r.0) false r.1).1);
+}
+
+-- a state accepts the same in an automaton with one more start state
+starts_same : (n : NondeterministicAutomaton) (start q : ℕ) (w : List ℕ) → AcceptsFrom n q w → AcceptsFrom (with_start n start) q w
+starts_same n start q w a = record { moves = a.moves; end = a.end; path = a.path; accepting = a.accepting; spells = a.spells }
+
+starts_back : (n : NondeterministicAutomaton) (start q : ℕ) (w : List ℕ) → AcceptsFrom (with_start n start) q w → AcceptsFrom n q w
+starts_back n start q w a = record { moves = a.moves; end = a.end; path = a.path; accepting = a.accepting; spells = a.spells }
+
+-- a configuration that one row more matches
+module _ (s : SystemData) (rows : List Row) (index : ℕ) (row : Row) (within : index < length rows) (is : row ≡ get_or rows index row) where
+  one_more : (c : Configuration) → list_any (row_matches c) (take (index + 1) rows) ≡ (list_any (row_matches c) (take index rows) || row_matches c row)
+  one_more c = list_any_more (row_matches c) rows index row within
+      ∙ ap (λ r. list_any (row_matches c) (take index rows) || row_matches c r) (sym is)
+
+  more_old : (w : List ℕ) → IsWordOfRows s (take index rows) w → IsWordOfRows s (take (index + 1) rows) w
+  more_old w (c, matches, e) =
+      let parts = and_parts (fits s c) (list_any (row_matches c) (take index rows)) matches in (
+        c,
+        and_from (fits s c) (list_any (row_matches c) (take (index + 1) rows)) parts.0
+            (one_more c ∙ or_left (list_any (row_matches c) (take index rows)) (row_matches c row) parts.1),
+        e,
+      )
+
+  more_new : (w : List ℕ) (c : Configuration) → fits s c ≡ true → row_matches c row ≡ true → w ≡ word_of s c → IsWordOfRows s (take (index + 1) rows) w
+  more_new w c fitting matches e = (
+    c,
+    and_from (fits s c) (list_any (row_matches c) (take (index + 1) rows)) fitting
+        (one_more c ∙ or_right (list_any (row_matches c) (take index rows)) (row_matches c row) matches),
+    e,
+  )
+
+  more_cases : (w : List ℕ) → IsWordOfRows s (take (index + 1) rows) w
+      → IsWordOfRows s (take index rows) w ⊎ ((c : Configuration) × ((fits s c ≡ true) × (row_matches c row ≡ true) × (w ≡ word_of s c)))
+  more_cases w (c, matches, e) =
+      let parts = and_parts (fits s c) (list_any (row_matches c) (take (index + 1) rows)) matches in
+      let either = sym (one_more c) ∙ parts.1 in
+      elim (cases_Bool (list_any (row_matches c) (take index rows))) [
+        | inl old ↦ inl (c, and_from (fits s c) (list_any (row_matches c) (take index rows)) parts.0 old, e)
+        | inr none ↦ inr (c, (parts.0, sym (ap (λ b. b || row_matches c row) none) ∙ either, e))
+      ]
+
+  pub rows_more : (old mid new : NondeterministicAutomaton) (start : ℕ) → IsValidRow s.sections row → HasRows s (take index rows) old
+      → IsAdded old mid start (IsRest row.parts 0 0 (separator_of s) s.sections) → new ≡ with_start mid start → HasRows s (take (index + 1) rows) new
+  rows_more old mid new start valid has added e = subst (HasRows s (take (index + 1) rows)) (sym e) (record {
+    letters = added.same_letters ∙ has.letters;
+    starts = λ q h. elim (Contains-push_cases mid.starts start q h) [
+      | inl before ↦ let inside = has.starts q (subst (λ starts. Contains starts q) added.same_starts before) in omega (arith, inside, added.more)
+      | inr last ↦ omega (arith, added.is_state, last)
+    ];
+    into = λ w q h a. elim (Contains-push_cases mid.starts start q h) [
+      | inl before ↦
+          let there = subst (λ starts. Contains starts q) added.same_starts before in
+          more_old w (has.into w q there ((added.kept q (has.starts q there) w).0 (starts_back mid start q w a)))
+      | inr last ↦
+          let here = subst (λ p. AcceptsFrom mid p w) (sym last) (starts_back mid start q w a) in
+          let r = rest_in s row valid w ((added.accepts w).0 here) in
+          more_new w r.0 r.1.0 r.1.1 r.1.2
+    ];
+    from = λ w r. elim (more_cases w r) [
+      | inl before ↦
+          let found = has.from w before in
+          let inside = has.starts found.0 found.1.0 in (
+            found.0,
+            (
+              Contains-append_left mid.starts (start ∷ []) found.0 (subst (λ starts. Contains starts found.0) (sym added.same_starts) found.1.0),
+              starts_same mid start found.0 w ((added.kept found.0 inside w).1 found.1.1),
+            ),
+          )
+      | inr new ↦ (
+        start,
+        (Contains-push mid.starts start, starts_same mid start start w ((added.accepts w).1 (rest_out s row valid w new.0 new.1.0 new.1.1 new.1.2))),
+      )
+    ];
+  })
+
+-- the words of all rows
+pub rows_all : (s : SystemData) (rows : List Row) (index : ℕ) (n : NondeterministicAutomaton) → length rows ≤ index → HasRows s (take index rows) n
+    → (w : List ℕ) → Accepts n w ↔ IsWordOfRows s rows w
+rows_all s rows index n past has w =
+    let all = subst (λ r. HasRows s r n) (take_all index rows past) has in (
+      λ (start, moves, end, contains, path, accepting, spells). all.into w start contains
+          (record { moves = moves; end = end; path = path; accepting = accepting; spells = spells }),
+      λ r.
+          let found = all.from w r in
+          let a = found.1.1 in
+          (found.0, a.moves, a.end, found.1.0, a.path, a.accepting, a.spells),
+    )
+
+-- each row is valid
+pub row_valid : (sections : List Section) (rows : List Row) (index : ℕ) (row : Row) → AllByRecursion (IsValidRow sections) rows → index < length rows
+    → row ≡ get_or rows index row → IsValidRow sections row
+row_valid sections rows index row all within is =
+    all_at (IsValidRow sections) rows all index row (slice_get-get_or rows index row within ∙ ap (λ r. Some r) (sym is))

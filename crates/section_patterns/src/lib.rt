@@ -1,0 +1,39 @@
+//! The words of the initial and of the bad configurations of a system, as automata.
+//!
+//! The words of all rows are accepted by one nondeterministic automaton. It is built from the ends of the words to their fronts: each
+//! state is added in front of a state that accepts what may follow.
+#![tactic(auto)]
+
+mod letters;
+mod patterns;
+mod rows;
+mod sections;
+mod states;
+
+ghost use Rattle.std.specs.Prelude.{◌≡◌, ◌↔◌, ℕ, List, IfOk, IsTrue};
+ghost use Rattle.word_automata.specs.Automaton.{accepts};
+ghost use Rattle.minimise.specs.Canonical.{IsCanonical};
+ghost use Rattle.protocol_model.specs.Words.{IsBadWord, IsInitialWord, automata_letters};
+
+use minimise::Canon;
+use protocol_model::System;
+use rows::words_of_rows;
+use std::alloc::{AllocError, Global};
+
+/// The canonical automaton of the words of the initial configurations.
+pub fn initial_words(alloc: Global, system: &System) -> Result<Canon, AllocError>
+    ensures language { IfOk result (λ c. (w : List ℕ) → IsTrue (accepts c w) ↔ IsInitialWord system.now w) }
+    ensures letters { IfOk result (λ c. c.letters ≡ automata_letters system.now) }
+    ensures canonical { IfOk result IsCanonical }
+{
+    Ok(words_of_rows(alloc, system, system.init.as_slice())?)
+}
+
+/// The canonical automaton of the words of the bad configurations.
+pub fn bad_words(alloc: Global, system: &System) -> Result<Canon, AllocError>
+    ensures language { IfOk result (λ c. (w : List ℕ) → IsTrue (accepts c w) ↔ IsBadWord system.now w) }
+    ensures letters { IfOk result (λ c. c.letters ≡ automata_letters system.now) }
+    ensures canonical { IfOk result IsCanonical }
+{
+    Ok(words_of_rows(alloc, system, system.bad.as_slice())?)
+}
