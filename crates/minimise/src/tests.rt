@@ -79,3 +79,80 @@ fn of_a_nondeterministic_automaton(rt: HostRuntime) -> Result<(), Fail> {
     assert!(rt; same(&a, &b));
     Ok(())
 }
+
+/// States are numbered breadth first: both successors of the start come before the successor of the first of them.
+#[test]
+fn numbers_breadth_first(rt: HostRuntime) -> Result<(), Fail> {
+    let alloc = rt.alloc();
+    let written = automaton(
+        alloc,
+        2,
+        &[false, false, true, false],
+        &[(0, 0, 1), (1, 0, 2), (0, 1, 3), (3, 1, 2), (2, 0, 2)],
+    )?;
+    let least = canonical(alloc, &written)?;
+    assert_eq!(rt; least.size(), 4);
+    let dfa = least.as_dfa();
+    if dfa.states() == 4 {
+        assert_eq!(rt; dfa.target(0, 0), Some(1));
+        assert_eq!(rt; dfa.target(0, 1), Some(2));
+        assert_eq!(rt; dfa.target(1, 0), Some(3));
+    }
+    Ok(())
+}
+
+/// No word, the empty word alone, and every word over no letter.
+#[test]
+fn of_the_smallest_languages(rt: HostRuntime) -> Result<(), Fail> {
+    let alloc = rt.alloc();
+    let nothing = canonical(alloc, &automaton(alloc, 1, &[], &[])?)?;
+    assert_eq!(rt; nothing.size(), 0);
+    let refused = canonical(alloc, &automaton(alloc, 1, &[false], &[(0, 0, 0)])?)?;
+    assert!(rt; same(&nothing, &refused));
+    let empty = canonical(alloc, &automaton(alloc, 0, &[true], &[])?)?;
+    assert_eq!(rt; empty.size(), 1);
+    assert!(rt; empty.accepts(&[]));
+    Ok(())
+}
+
+/// The arrays with a token at the first or at the second position, by five states: three are enough.
+#[test]
+fn of_token_passing_after_one_step(rt: HostRuntime) -> Result<(), Fail> {
+    let alloc = rt.alloc();
+    let edges = [
+        (0, 1, 1),
+        (1, 0, 2),
+        (2, 0, 2),
+        (0, 0, 3),
+        (3, 1, 4),
+        (4, 0, 4),
+    ];
+    let written = automaton(alloc, 2, &[false, true, true, false, true], &edges)?;
+    let least = canonical(alloc, &written)?;
+    assert_eq!(rt; least.size(), 3);
+    Ok(())
+}
+
+/// The words whose third letter from the end is 1: four states without a choice become eight.
+#[test]
+fn doubles_with_each_letter_from_the_end(rt: HostRuntime) -> Result<(), Fail> {
+    let alloc = rt.alloc();
+    let mut builder = NfaBuilder::new(alloc, 2);
+    let first = builder.state(false)?;
+    let second = builder.state(false)?;
+    let third = builder.state(false)?;
+    let last = builder.state(true)?;
+    builder.start(first)?;
+    builder.edge(first, Some(0), first)?;
+    builder.edge(first, Some(1), first)?;
+    builder.edge(first, Some(1), second)?;
+    builder.edge(second, Some(0), third)?;
+    builder.edge(second, Some(1), third)?;
+    builder.edge(third, Some(0), last)?;
+    builder.edge(third, Some(1), last)?;
+    let least = canonical_nfa(alloc, &builder.finish())?;
+    assert_eq!(rt; least.size(), 8);
+    assert!(rt; least.accepts(&[1, 0, 0]));
+    assert!(rt; !least.accepts(&[0, 1, 1]));
+    Ok(())
+}
