@@ -2,7 +2,7 @@
 use Rattle.std.proofs.Common.{true, ◌&&◌, nat_lt, nat_le, ◌≡◌, ◌≢◌, ℕ, zero, suc, ◌+◌, ◌-◌, ◌<◌, ◌≤◌, ltb, List, [], ◌∷◌, ◌++◌, Option}
 use Rattle.std.proofs.Common.{Some, None, Vec}
 use Rattle.std.proofs.Common.{length, map, slice_get, get_or, codes, IfSome, IsSome, IsTrue, Contains, AllPairs, refl, sym, ap}
-use Rattle.std.proofs.Common.{subst, ◌∙◌, arith, inl, inr, ◌⊎◌, flat_map}
+use Rattle.std.proofs.Common.{option_map, subst, ◌∙◌, arith, inl, inr, ◌⊎◌, flat_map}
 use Rattle.std.specs.List.{AllByRecursion, list_all}
 use Rattle.std.specs.HashMap.{HashMap}
 use Rattle.std.proofs.lemmas.List.{append_assoc, length-append, length-map}
@@ -10,7 +10,7 @@ use Rattle.std.proofs.lemmas.List.Sums.{sum_by-cons}
 use Rattle.std.proofs.lemmas.List.Elements.{All-from_recursion}
 use Rattle.std.proofs.lemmas.Bool.{and_parts, cases_lt, cond-true, cond-false, lt-ltb, le-ltb, cases_order}
 use Rattle.std.proofs.lemmas.Bool.Decides.{nat_tests}
-use Rattle.std.proofs.lemmas.Option.{slice_get_within, unwrap_or-slice_get, same_Some, IfSome_then}
+use Rattle.std.proofs.lemmas.Option.{slice_get_within, unwrap_or-slice_get, same_Some, IfSome_then, slice_get-map}
 use Rattle.protocol_lexer.specs.Piece.{is_word_byte}
 use Rattle.protocol_model.specs.declared.system.Section.{Section}
 use Rattle.protocol_model.specs.System.{SystemData, letter_count, total_letters, IsValid, IsValidSection}
@@ -18,7 +18,8 @@ use Rattle.protocol_model.specs.Names.{IsName}
 use Rattle.protocol_model.specs.Words.{automata_letters}
 use Rattle.certificate.specs.Bytes.{Lacks}
 use Rattle.certificate.specs.SafeText.{letter_text}
-use Rattle.certificate.specs.Alphabet.{section_texts, letter_texts, get_by_bytes, IsAlphabetOf}
+use Rattle.certificate.specs.Faults.{IsLetterField}
+use Rattle.certificate.specs.Alphabet.{section_texts, letter_texts, lists_of, get_by_bytes, IsAlphabetOf}
 use Rattle.certificate.proofs.IndexLemmas.{slice_get-append_left, slice_get-append_right}
 use Rattle.certificate.proofs.TextLemmas.{cut_unique, Lacks-append}
 
@@ -197,27 +198,29 @@ letter_text-injective (section ∷ sections) h a b la lb e =
 no_word_byte : (b : ℕ) → b < 48 → IsTrue (is_word_byte b) → ⊥
 no_word_byte b low w = grind (arith, nat_tests)
 
+-- a name lacks each byte before the digits
+word_lacks : (byte : ℕ) → byte < 48 → (name : List ℕ) → list_all is_word_byte name ≡ true → Lacks byte name
+word_lacks byte low [] w = tt
+word_lacks byte low (b ∷ name) w =
+    let parts = and_parts (is_word_byte b) (list_all is_word_byte name) w in
+    (λ e. no_word_byte b (omega arith) parts.0, word_lacks byte low name parts.1)
+
+pub name_lacks : (byte : ℕ) → byte < 48 → (name : List ℕ) → IsName name → Lacks byte name
+name_lacks byte low name w =
+    word_lacks byte low name (and_parts (nat_lt 0 (length name) && nat_le (length name) 32) (list_all is_word_byte name) w).1
+
 -- a system's names lack each byte that no name has
 pub IsValid-NamesLack : (s : SystemData) → IsValid s → (byte : ℕ) → byte < 48 → AllByRecursion (NamesLack byte) s.sections
 IsValid-NamesLack s h byte low = sections_lack s.sections h.each_section
   where
-    word_lacks : (name : List ℕ) → list_all is_word_byte name ≡ true → Lacks byte name
-    word_lacks [] w = tt
-    word_lacks (b ∷ name) w =
-        let parts = and_parts (is_word_byte b) (list_all is_word_byte name) w in
-        (λ e. no_word_byte b (omega arith) parts.0, word_lacks name parts.1)
-
-    name_lacks : (name : List ℕ) → IsName name → Lacks byte name
-    name_lacks name w = word_lacks name (and_parts (nat_lt 0 (length name) && nat_le (length name) 32) (list_all is_word_byte name) w).1
-
     letters_lack : (letters : List (List ℕ)) → AllByRecursion IsName letters → AllByRecursion (Lacks byte) letters
     letters_lack [] w = tt
-    letters_lack (letter ∷ letters) w = (name_lacks letter w.0, letters_lack letters w.1)
+    letters_lack (letter ∷ letters) w = (name_lacks byte low letter w.0, letters_lack letters w.1)
 
     sections_lack : (sections : List Section) → AllByRecursion IsValidSection sections → AllByRecursion (NamesLack byte) sections
     sections_lack [] w = tt
     sections_lack (section ∷ sections) w = (
-      record { name = name_lacks section.name w.0.named; letters = letters_lack section.letters w.0.letters_named },
+      record { name = name_lacks byte low section.name w.0.named; letters = letters_lack section.letters w.0.letters_named },
       sections_lack sections w.1,
     )
 
@@ -240,6 +243,24 @@ letter_text-Lacks byte dot bar (section ∷ sections) a h l =
           (letter_text-Lacks byte dot bar sections (a - letter_count section) h.1 (omega (arith, total_letters-cons section sections)))
     ]
 
+-- the text of a letter is laid out as one
+letter_text-field : (sections : List Section) (a : ℕ) → AllByRecursion IsValidSection sections → a < total_letters sections + 1
+    → IsLetterField (letter_text sections a)
+letter_text-field [] a h l = inl refl
+letter_text-field (section ∷ sections) a h l =
+    elim (cases_lt a (letter_count section)) [
+      | inl first ↦
+          let named = All-from_recursion IsName section.letters h.0.letters_named a [] first in
+          subst IsLetterField (sym (letter_text-first section sections a first))
+          (inr (section.name, get_or section.letters a [], h.0.named, named, refl))
+      | inr later ↦
+          subst IsLetterField (sym (letter_text-later section sections a later))
+          (letter_text-field sections (a - letter_count section) h.1 (omega (arith, total_letters-cons section sections)))
+    ]
+
+pub letter_text-laid_out : (s : SystemData) → IsValid s → (a : ℕ) → a < automata_letters s → IsLetterField (letter_text s.sections a)
+letter_text-laid_out s h a l = letter_text-field s.sections a h.each_section l
+
 pub letter_text-no_space : (s : SystemData) → IsValid s → (a : ℕ) → a < automata_letters s → Lacks 32 (letter_text s.sections a)
 letter_text-no_space s h a l = letter_text-Lacks 32 (omega arith) (omega arith) s.sections a (IsValid-NamesLack s h 32 (omega arith)) l
 
@@ -251,10 +272,11 @@ pub system_letter_text-injective : (s : SystemData) → IsValid s → (a b : ℕ
 system_letter_text-injective s h = letter_text-injective s.sections (IsValid-IsNamed s h)
 
 -- the letter that is kept for a text is one of the alphabet's, with this text
-pub letter_found : {Y S : Type 0} (s : SystemData) (numbers : HashMap (Vec ℕ Y) ℕ S) (size : ℕ) (text : List ℕ) (r : Option ℕ)
-    → IsAlphabetOf s numbers size
+pub letter_found : {X Y S : Type 0} (s : SystemData) (texts : List (Vec ℕ X)) (numbers : HashMap (Vec ℕ Y) ℕ S) (text : List ℕ)
+    (r : Option ℕ)
+    → IsAlphabetOf s texts numbers
     → r ≡ get_by_bytes numbers text → IfSome r (λ a. (a < automata_letters s) × (text ≡ letter_text s.sections a))
-letter_found s numbers size text r h e =
+letter_found s texts numbers text r h e =
     subst (λ o. IfSome o (λ a. (a < automata_letters s) × (text ≡ letter_text s.sections a))) (sym e)
     (IfSome_then (get_by_bytes numbers text) (h.index.place text)
     (λ a at.
@@ -266,12 +288,13 @@ letter_found s numbers size text r h e =
     (within, same_Some text (letter_text s.sections a) (sym at ∙ letter_texts-at s.sections a within))))
 
 -- the letter with a text is kept for it
-pub letter_only : {Y S : Type 0} (s : SystemData) (numbers : HashMap (Vec ℕ Y) ℕ S) (size : ℕ) (text : List ℕ) (r : Option ℕ)
-    → IsAlphabetOf s numbers size
+pub letter_only : {X Y S : Type 0} (s : SystemData) (texts : List (Vec ℕ X)) (numbers : HashMap (Vec ℕ Y) ℕ S) (text : List ℕ)
+    (r : Option ℕ)
+    → IsAlphabetOf s texts numbers
     → r ≡ get_by_bytes numbers text → (a : ℕ) → a < automata_letters s → text ≡ letter_text s.sections a → r ≡ Some a
-letter_only s numbers size text r h e a within is =
+letter_only s texts numbers text r h e a within is =
     let kept : IsSome r = subst (λ o. IsSome o) (sym e) (h.index.each text a (letter_texts-at s.sections a within ∙ ap Some (sym is))) in
-    found_is_only s text r a kept (letter_found s numbers size text r h e) h.valid within is
+    found_is_only s text r a kept (letter_found s texts numbers text r h e) h.valid within is
   where
     found_is_only : (s : SystemData) (text : List ℕ) (r : Option ℕ) (a : ℕ) → IsSome r
         → IfSome r (λ b. (b < automata_letters s) × (text ≡ letter_text s.sections b))
@@ -279,3 +302,17 @@ letter_only s numbers size text r h e a within is =
     found_is_only s text None a kept found valid within is = cc kept
     found_is_only s text (Some b) a kept found valid within is =
         ap Some (system_letter_text-injective s valid b a found.0 within (sym found.1 ∙ is))
+
+-- there are as many texts as letters
+pub letters_counted : {X : Type 0} (s : SystemData) (texts : List (Vec ℕ X)) → lists_of texts ≡ letter_texts s.sections → length texts
+    ≡ automata_letters s
+letters_counted s texts e = sym (length-map texts (λ text. text.items)) ∙ ap length e ∙ length-letter_texts s.sections
+
+-- the text at a letter's number
+pub letter_text-at : {X : Type 0} (s : SystemData) (texts : List (Vec ℕ X)) → lists_of texts ≡ letter_texts s.sections
+    → (a : ℕ) (text : Vec ℕ X) → a < automata_letters s → slice_get texts a ≡ Some text → text.items ≡ letter_text s.sections a
+letter_text-at s texts e a text within at =
+    same_Some text.items (letter_text s.sections a)
+    (sym (slice_get-map (λ text. text.items) texts a ∙ ap (option_map (λ text. text.items)) at)
+    ∙ ap (λ all. slice_get all a) e
+    ∙ letter_texts-at s.sections a within)

@@ -1,8 +1,16 @@
 mod AlphabetLemmas
+mod FaultLemmas
+mod HasFaultLemmas
 mod IndexLemmas
+mod LayoutLemmas
 mod LineLemmas
 mod NextLemmas
 mod NumberLemmas
+mod OneReadingLemmas
+mod OpeningLemmas
 mod ReadingLemmas
 mod SafeTextLemmas
+mod SameAutomatonLemmas
 mod TextLemmas
+mod WritingLemmas
+mod WrittenLemmas

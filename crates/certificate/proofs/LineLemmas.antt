@@ -29,13 +29,13 @@ three_unique fields f l t g m u h k =
 pub heads_differ : (a b : ℕ) (x y : List ℕ) → a ≢ b → a ∷ x ≡ b ∷ y → ⊥
 heads_differ a b x y differ e = differ cc
 
-final_is_no_edge : (x y : List ℕ) → codes "final " ++ x ≡ codes "edge " ++ y → ⊥
+pub final_is_no_edge : (x y : List ℕ) → codes "final " ++ x ≡ codes "edge " ++ y → ⊥
 final_is_no_edge x y e = heads_differ 102 101 _ _ (omega arith) e
 
-final_cancel : (x y : List ℕ) → codes "final " ++ x ≡ codes "final " ++ y → x ≡ y
+pub final_cancel : (x y : List ℕ) → codes "final " ++ x ≡ codes "final " ++ y → x ≡ y
 final_cancel x y e = append_cancel_left (codes "final ") x y e
 
-edge_cancel : (x y : List ℕ) → codes "edge " ++ x ≡ codes "edge " ++ y → x ≡ y
+pub edge_cancel : (x y : List ℕ) → codes "edge " ++ x ≡ codes "edge " ++ y → x ≡ y
 edge_cancel x y e = append_cancel_left (codes "edge ") x y e
 
 -- the text of an edge, as its fields

@@ -18,13 +18,13 @@ use Rattle.certificate.proofs.LineLemmas.{line_unique, line_spelled, heads_diffe
 use Rattle.certificate.proofs.ReadingLemmas.{Begins, ends, continues, GoesOn-begins, IsInRange-weaken, second_edge_ends}
 use Rattle.certificate.proofs.ReadingLemmas.{HasLines-push, AllByRecursion-push, lines_text-push, body_text-append}
 
-second_differs : (x y : List ℕ) → 101 ∷ (110 ∷ x) ≡ 101 ∷ (100 ∷ y) → ⊥
+pub second_differs : (x y : List ℕ) → 101 ∷ (110 ∷ x) ≡ 101 ∷ (100 ∷ y) → ⊥
 second_differs x y e =
     let tails : 110 ∷ x ≡ 100 ∷ y = cc in
     heads_differ 110 100 x y (omega arith) tails
 
 -- the line `end` is no other line
-end_is_no_line : (s : SystemData) (x : Line) → codes "end" ≡ line_text s x → ⊥
+pub end_is_no_line : (s : SystemData) (x : Line) → codes "end" ≡ line_text s x → ⊥
 end_is_no_line s (Final q) e = heads_differ 101 102 _ _ (omega arith) e
 end_is_no_line s (Edge p a q) e =
     second_differs _ _ e

@@ -3,7 +3,6 @@ use Rattle.std.specs.Prelude.{◌≡◌, ℕ, List, [], ◌∷◌, ◌++◌, Opt
 use Rattle.std.specs.HashMap.{HashMap, get_by}
 use Rattle.protocol_model.specs.declared.system.Section.{Section}
 use Rattle.protocol_model.specs.System.{SystemData, IsValid}
-use Rattle.protocol_model.specs.Words.{automata_letters}
 
 -- the texts of a section's letters, in their order
 abbrev pub section_texts : Section → List (List ℕ)
@@ -26,8 +25,8 @@ pub record IsIndexOf {Y S : Type 0} (texts : List (List ℕ)) (places : HashMap 
   pub each : (text : List ℕ) (place : ℕ) → slice_get texts place ≡ Some text → IsSome (get_by_bytes places text)
   pub place : (text : List ℕ) → IfSome (get_by_bytes places text) (λ place. slice_get texts place ≡ Some text)
 
--- the numbers and the size are those of the letters of the system's automata
-pub record IsAlphabetOf {Y S : Type 0} (s : SystemData) (numbers : HashMap (Vec ℕ Y) ℕ S) (size : ℕ) : Type 0 where
+-- the texts and numbers are those of the letters of the system's automata
+pub record IsAlphabetOf {X Y S : Type 0} (s : SystemData) (texts : List (Vec ℕ X)) (numbers : HashMap (Vec ℕ Y) ℕ S) : Type 0 where
   pub valid : IsValid s
+  pub texts_are : lists_of texts ≡ letter_texts s.sections
   pub index : IsIndexOf (letter_texts s.sections) numbers
-  pub counted : size ≡ automata_letters s

@@ -1,6 +1,9 @@
 pub mod Alphabet
 pub mod Bytes
+pub mod Faults
 pub mod NextLine
 pub mod Numbers
+pub mod OneReading
 pub mod Reading
 pub mod SafeText
+pub mod Writing

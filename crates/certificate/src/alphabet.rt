@@ -16,8 +16,8 @@ use std::marker::Model;
 #[derive(Drop)]
 pub struct Alphabet<'a> {
     system: &'a System,
+    texts: Vec<Vec<u8>>,
     numbers: HashMap<Vec<u8>, u32>,
-    size: u32,
 }
 
 impl<'a> Model for Alphabet<'a> {
@@ -28,7 +28,7 @@ impl<'a> Model for Alphabet<'a> {
 
     ghost view = { λ alphabet. alphabet.system.now };
 
-    ghost invariant = { λ alphabet. IsAlphabetOf alphabet.system.now alphabet.numbers alphabet.size };
+    ghost invariant = { λ alphabet. IsAlphabetOf alphabet.system.now alphabet.texts.items alphabet.numbers };
 }
 
 impl<'a> Alphabet<'a> {
@@ -38,11 +38,11 @@ impl<'a> Alphabet<'a> {
         ensures valid { OnOk result (IsValid system.now) }
     {
         let texts = letter_texts(alloc, system)?;
-        let size = texts.len() as u32;
+        let numbers = index_of(alloc, &texts)?;
         Ok(Alphabet {
             system,
-            numbers: index_of(alloc, texts)?,
-            size,
+            texts,
+            numbers,
         })
     }
 
@@ -50,7 +50,16 @@ impl<'a> Alphabet<'a> {
     pub fn size(&self) -> u32
         ensures { result ≡ automata_letters self.now }
     {
-        self.size
+        self.texts.len() as u32
+    }
+
+    /// The text of a letter.
+    pub fn text(&self, letter: u32) -> &[u8]
+        requires { letter < automata_letters self.now }
+        ensures { result.now ≡ letter_text self.now.sections letter }
+    {
+        let text: &Vec<u8> = &self.texts[letter as usize];
+        text.as_slice()
     }
 
     /// The letter with this text, if there is one.
@@ -101,14 +110,14 @@ fn joined(alloc: Global, section: &str, letter: &str) -> Result<Vec<u8>, AllocEr
 }
 
 /// The place of each text, by the text.
-fn index_of(alloc: Global, texts: Vec<Vec<u8>>) -> Result<HashMap<Vec<u8>, u32>, AllocError>
-    requires { length texts.items < 2 ^ 32 }
-    ensures { IfOk result (λ places. IsIndexOf (lists_of texts.items) places) }
+fn index_of(alloc: Global, texts: &[Vec<u8>]) -> Result<HashMap<Vec<u8>, u32>, AllocError>
+    requires { length texts.now < 2 ^ 32 }
+    ensures { IfOk result (λ places. IsIndexOf (lists_of texts.now) places) }
 {
     let mut places = HashMap::new(alloc);
     let mut place = 0;
     'texts: for text in texts {
-        places.insert(text, place)?;
+        places.insert(Vec::from_slice(alloc, text)?, place)?;
         place += 1;
     }
     Ok(places)

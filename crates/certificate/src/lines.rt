@@ -1,14 +1,16 @@
 //! The lines of the text of an automaton.
 
-ghost use Rattle.std.specs.Prelude.{◌≡◌, ◌++◌, ◌∷◌, List, ℕ, IfOk, OnErr, MatchOption, codes};
+ghost use Rattle.std.specs.Prelude.{◌≡◌, ◌++◌, ◌∷◌, List, ℕ, IfOk, IfErr, OnErr, MatchOption, codes};
 ghost use Rattle.protocol_model.specs.System.{IsValid};
 ghost use Rattle.protocol_model.specs.Words.{automata_letters};
 ghost use Rattle.certificate.specs.declared.lines.Line.{Line};
 ghost use Rattle.certificate.specs.Bytes.{Lacks};
+ghost use Rattle.certificate.specs.NextLine.{HasLineFault, IsLetterFault};
 ghost use Rattle.certificate.specs.Reading.{IsLineOf, IsNoLine, IsThreeFields};
 
 use crate::alphabet::Alphabet;
 use crate::bytes::{after_prefix, cut_at};
+use crate::names::is_letter;
 use crate::numbers::read_number;
 
 /// A line after the number of states.
@@ -41,6 +43,7 @@ pub fn read_line(alphabet: &Alphabet, line: &[u8]) -> Result<Line, LineFault>
     requires { IsValid alphabet.now }
     ensures line { IfOk result (IsLineOf alphabet.now line.now) }
     ensures refused { OnErr result (IsNoLine alphabet.now line.now) }
+    ensures fault { IfErr result (HasLineFault alphabet.now line.now) }
 {
     if let Some(field) = after_prefix(line, b"final ") {
         return match read_number(field) {
@@ -59,6 +62,7 @@ fn read_edge(alphabet: &Alphabet, fields: &[u8]) -> Result<Line, LineFault>
     requires { IsValid alphabet.now }
     ensures line { IfOk result (IsLineOf alphabet.now (codes "edge " ++ fields.now)) }
     ensures refused { OnErr result (IsNoLine alphabet.now (codes "edge " ++ fields.now)) }
+    ensures fault { IfErr result (HasLineFault alphabet.now (codes "edge " ++ fields.now)) }
 {
     let Some((from, letter, to)) = three_fields(fields) else {
         return Err(LineFault::BadLine);
@@ -68,8 +72,18 @@ fn read_edge(alphabet: &Alphabet, fields: &[u8]) -> Result<Line, LineFault>
     };
     match alphabet.letter(letter) {
         Some(letter) => Ok(Line::Edge { from, letter, to }),
-        None => Err(LineFault::UnknownName),
+        None => Err(letter_fault(letter)),
     }
+}
+
+/// What is wrong with a letter that the system does not have.
+fn letter_fault(letter: &[u8]) -> LineFault
+    ensures { IsLetterFault letter.now result }
+{
+    if is_letter(letter) {
+        return LineFault::UnknownName;
+    }
+    LineFault::BadLine
 }
 
 /// What stands before the first space, between it and the second one, and after the second one.

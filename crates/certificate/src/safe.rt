@@ -1,24 +1,58 @@
 //! The text of a certificate that is an automaton.
 
-ghost use Rattle.std.specs.Prelude.{◌≡◌, ◌++◌, ◌<◌, ◌≤◌, ℕ, List, [], IfOk, IfSome, IsSomeAnd, OnOk, OnErr, Err, MatchOption, length};
+ghost use Rattle.std.specs.Prelude.{◌≡◌, ◌≢◌, ◌↔◌, ◌+◌, ◌^◌, ◌<◌, ◌≤◌, ℕ, [], IfOk, IfErr, OnOk, Err, MatchOption, length};
 ghost use Rattle.word_automata.specs.Automaton.{Automaton, IsValid};
 ghost use Rattle.protocol_model.specs.System.{IsValid as IsValidSystem};
 ghost use Rattle.protocol_model.specs.Words.{automata_letters};
-ghost use Rattle.certificate.specs.Numbers.{beyond};
+ghost use Rattle.certificate.specs.declared.fault.CertFault.TheVariants.{Memory};
+ghost use Rattle.certificate.specs.declared.safe.Certificate.{Certificate};
 ghost use Rattle.certificate.specs.SafeText.{MeansAutomaton, IsInRange};
-ghost use Rattle.certificate.specs.Reading.{GoesOn, HasLines, AddsLine, IsSecondEdge, opening_text};
-ghost use Rattle.certificate.specs.NextLine.{IsNext};
+ghost use Rattle.certificate.specs.Reading.{GoesOn, HasLines, AddsLine, IsSecondEdge};
+ghost use Rattle.certificate.specs.Faults.{IsNotUnsafe, HasFault, FaultInBody};
+ghost use Rattle.certificate.specs.NextLine.{IsNext, IsCertificateOf, IsLocated};
+ghost use Rattle.certificate.specs.OneReading.{MeaningIsDetermined, FaultIsDetermined, FaultExcludesMeaning};
 
 use crate::alphabet::Alphabet;
 use crate::bytes::{after_prefix, cut_at};
-use crate::lines::{Line, read_line};
-use crate::numbers::read_number;
-use protocol_model::System;
+use crate::fault::CertFault;
+use crate::lines::{Line, LineFault, read_line};
+use crate::opening::{read_first_line, read_states_line};
+use protocol_model::{Run, System};
 use std::alloc::{AllocError, Global};
 use word_automata::{BuildFault, Dfa, DfaBuilder};
 
-/// The largest number of states of a certificate.
-const MAX_STATES: usize = 1_000_000;
+/// What a certificate is.
+#[derive(Debug, Drop)]
+pub enum Certificate {
+    /// An automaton that is to prove a system safe.
+    Automaton(Dfa),
+    /// A run that is to reach a bad configuration.
+    BadRun(Run),
+}
+
+/// The certificate that a text is, or the fault of the first line that has one. The text does not begin with the line
+/// `armc 1 unsafe`. Its bytes are counted so that the number of lines is known to fit.
+pub fn read(alloc: Global, text: &[u8], system: &System) -> Result<Certificate, CertFault>
+    requires { IsNotUnsafe text.now }
+    ensures found { IfOk result (λ found. (c : Certificate) → IsCertificateOf system.now text.now c ↔ (found ≡ c)) }
+    ensures fault { IfErr result (λ fault. fault ≢ Memory → HasFault system.now text.now fault) }
+    ensures refused { (m : Automaton) → MeansAutomaton system.now text.now m → IfErr result (λ fault. fault ≡ Memory) }
+{
+    let _bytes = text.len();
+    let rest = read_first_line(text)?;
+    let (count, lines) = read_states_line(rest)?;
+    let alphabet = Alphabet::new(alloc, system)?;
+    let builder = with_states(alloc, alphabet.size(), count)?;
+    let automaton = read_lines(&alphabet, builder, lines)?;
+    Ok(Certificate::Automaton(automaton))
+}
+
+/// A text means one automaton or has one first fault, and never both.
+pub fn one_reading()
+    ensures meaning { MeaningIsDetermined }
+    ensures fault { FaultIsDetermined }
+    ensures either { FaultExcludesMeaning }
+{}
 
 /// The automaton that a text means, or `None` where the text is no certificate of an automaton or has a fault.
 pub fn read_safe(alloc: Global, text: &[u8], system: &System) -> Result<Option<Dfa>, AllocError>
@@ -26,32 +60,16 @@ pub fn read_safe(alloc: Global, text: &[u8], system: &System) -> Result<Option<D
         ((m : Automaton) → MeansAutomaton system.now text.now m → ⊥)
         (MeansAutomaton system.now text.now)) }
 {
-    let Some((count, lines)) = read_opening(text) else {
-        return Ok(None);
-    };
-    if count > MAX_STATES {
+    if let Some(_) = after_prefix(text, b"armc 1 unsafe\n") {
         return Ok(None);
     }
-    let alphabet = Alphabet::new(alloc, system)?;
-    let builder = with_states(alloc, alphabet.size(), count)?;
-    read_lines(&alphabet, builder, lines)
-}
-
-/// The number of states, and the text after the line that has it.
-fn read_opening(text: &[u8]) -> Option<(usize, &[u8])>
-    ensures found { IfSome result (λ found. found.0 < beyond → text.now ≡ opening_text found.0 ++ found.1.now) }
-    ensures only { (count : ℕ) (rest : List ℕ) → count < beyond → text.now ≡ opening_text count ++ rest →
-        IsSomeAnd result (λ found. (found.0 ≡ count) × (found.1.now ≡ rest)) }
-{
-    let Some(body) = after_prefix(text, b"armc 1 safe\nstates ") else {
-        return None;
-    };
-    let Some((field, rest)) = cut_at(body, b'\n') else {
-        return None;
-    };
-    match read_number(field) {
-        Some(count) => Some((count, rest)),
-        None => None,
+    match read(alloc, text, system) {
+        Ok(Certificate::Automaton(automaton)) => Ok(Some(automaton)),
+        Ok(Certificate::BadRun(_)) => Ok(None),
+        Err(fault) => match fault {
+            CertFault::Memory => Err(AllocError),
+            _ => Ok(None),
+        },
     }
 }
 
@@ -66,24 +84,27 @@ fn with_states(alloc: Global, letters: u32, count: usize) -> Result<DfaBuilder, 
     Ok(builder)
 }
 
-/// The automaton with the states of `builder` and with what the lines of the text say, or `None` where the text has a fault.
-fn read_lines(
-    alphabet: &Alphabet,
-    mut builder: DfaBuilder,
-    text: &[u8],
-) -> Result<Option<Dfa>, AllocError>
+/// The automaton with the states of `builder` and with what the lines of the text say, or the fault of the first line
+/// that has one. The first line has the number 3.
+fn read_lines(alphabet: &Alphabet, mut builder: DfaBuilder, text: &[u8]) -> Result<Dfa, CertFault>
     requires valid { IsValidSystem alphabet.now }
     requires start { HasLines (automata_letters alphabet.now) (length builder.states) [] builder }
     requires limit { length builder.states ≤ 1000000 }
-    ensures { IfOk result (λ r. MatchOption r ((m : Automaton) → GoesOn alphabet.now (length builder.states) [] text.now m → ⊥)
-        (GoesOn alphabet.now (length builder.states) [] text.now)) }
+    requires fits { length text.now < 2 ^ 64 }
+    ensures ok { IfOk result (GoesOn alphabet.now (length builder.states) [] text.now) }
+    ensures fault { IfErr result (λ fault. fault ≢ Memory → FaultInBody alphabet.now (length builder.states) text.now fault) }
+    ensures refused { (m : Automaton) → GoesOn alphabet.now (length builder.states) [] text.now m → IfErr result (λ fault. fault ≡ Memory) }
 {
     let mut rest = text;
+    let mut number = 3;
     'lines: loop {
-        match read_next(alphabet, &mut builder, rest)? {
-            Next::More(after) => rest = after,
-            Next::End => return Ok(Some(finished(builder))),
-            Next::Fault => return Ok(None),
+        match read_next(alphabet, &mut builder, rest, number)? {
+            Next::More(after) => {
+                rest = after;
+                number += 1;
+            }
+            Next::End => return Ok(finished(builder)),
+            Next::Fault(fault) => return Err(fault),
         }
     }
 }
@@ -94,40 +115,51 @@ enum Next<'a> {
     More(&'a [u8]),
     /// The line `end`, and nothing after it.
     End,
-    /// A line with a fault, or no whole line.
-    Fault,
+    /// A line with this fault, or no whole line.
+    Fault(CertFault),
 }
 
-/// Reads the next line, and adds what it says to the automaton.
+/// Reads the next line, which has this number, and adds what it says to the automaton.
 fn read_next<'a>(
     alphabet: &Alphabet,
     builder: &mut DfaBuilder,
     rest: &'a [u8],
+    number: u64,
 ) -> Result<Next<'a>, AllocError>
     requires valid { IsValidSystem alphabet.now }
     requires letters { builder.old.letters ≡ automata_letters alphabet.now }
     requires limit { length builder.old.states ≤ 1000000 }
-    ensures { IfOk result (IsNext alphabet.now builder.old builder.new rest.now) }
+    requires fits { number + 1 < 2 ^ 64 }
+    ensures { IfOk result (IsNext alphabet.now builder.old builder.new number rest.now) }
 {
     let Some((line, after)) = cut_at(rest, b'\n') else {
-        return Ok(Next::Fault);
+        return Ok(Next::Fault(CertFault::Truncated { line: number }));
     };
     if line == b"end".as_slice() {
-        let next = if after.is_empty() {
-            Next::End
-        } else {
-            Next::Fault
-        };
-        return Ok(next);
+        if after.is_empty() {
+            return Ok(Next::End);
+        }
+        return Ok(Next::Fault(CertFault::BadLine { line: number + 1 }));
     }
-    let Ok(line) = read_line(alphabet, line) else {
-        return Ok(Next::Fault);
+    let parsed = match read_line(alphabet, line) {
+        Ok(parsed) => parsed,
+        Err(fault) => return Ok(Next::Fault(located(fault, number))),
     };
-    match add_line(builder, line) {
+    match add_line(builder, parsed) {
         Ok(()) => Ok(Next::More(after)),
         Err(BuildFault::Memory) => Err(AllocError),
-        Err(BuildFault::OutOfRange) => Ok(Next::Fault),
-        Err(BuildFault::TwoEdges) => Ok(Next::Fault),
+        Err(BuildFault::OutOfRange) => Ok(Next::Fault(CertFault::OutOfRange { line: number })),
+        Err(BuildFault::TwoEdges) => Ok(Next::Fault(CertFault::TwoEdges { line: number })),
+    }
+}
+
+/// The fault of the line of this number.
+fn located(fault: LineFault, number: u64) -> CertFault
+    ensures { IsLocated number fault result }
+{
+    match fault {
+        LineFault::BadLine => CertFault::BadLine { line: number },
+        LineFault::UnknownName => CertFault::UnknownName { line: number },
     }
 }
 
@@ -138,6 +170,7 @@ fn read_next<'a>(
 fn add_line(builder: &mut DfaBuilder, line: Line) -> Result<(), BuildFault>
     ensures ok { OnOk result (AddsLine builder.old builder.new line) }
     ensures out_of_range { result ≡ Err BuildFault.OutOfRange → IsInRange builder.old.letters (length builder.old.states) line → ⊥ }
+    ensures in_range { result ≡ Err BuildFault.TwoEdges → IsInRange builder.old.letters (length builder.old.states) line }
     ensures two_edges { result ≡ Err BuildFault.TwoEdges → IsSecondEdge builder.old line }
 {
     match line {

@@ -1,9 +1,10 @@
-//! Texts of automata, read for a system of one array.
+//! Texts that are read and written for a system of one array.
 
 ghost use Rattle.std.specs.Prelude.{◌≡◌, [], ◌∷◌, IfOk, codes};
 ghost use Rattle.protocol_syntax.specs.declared.protocol.Kind.TheVariants.{Array};
 
-use crate::read_safe;
+use crate::bytes::after_prefix;
+use crate::{CertFault, Certificate, read, read_safe, write_safe, write_unknown};
 use protocol_model::{Section, System};
 use protocol_syntax::Kind;
 use sequence::{Sequence, Text};
@@ -40,13 +41,23 @@ fn token_passing(alloc: Global) -> Result<System, AllocError> {
     })
 }
 
+/// The certificate that a text is, where it is not the text of a run.
+fn read_other(alloc: Global, text: &[u8], system: &System) -> Result<Certificate, CertFault> {
+    if let Some(_) = after_prefix(text, b"armc 1 unsafe\n") {
+        return Err(CertFault::Memory);
+    }
+    read(alloc, text, system)
+}
+
 const ONE_TOKEN: &[u8] =
     b"armc 1 safe\nstates 2\nfinal 1\nedge 0 P.n 0\nedge 0 P.t 1\nedge 1 P.n 1\nedge 1 | 0\nend\n";
 
 #[test]
 fn reads_the_automaton_of_one_token(rt: HostRuntime) -> Result<(), Fail> {
     let system = token_passing(rt.alloc())?;
-    let automaton = read_safe(rt.alloc(), ONE_TOKEN, &system)?.ok_or("refused")?;
+    let Certificate::Automaton(automaton) = read_other(rt.alloc(), ONE_TOKEN, &system)? else {
+        return Err("a run".into());
+    };
     assert_eq!(rt; automaton.states(), 2);
     assert_eq!(rt; automaton.letters(), 3);
     assert_eq!(rt; automaton.edges(), 4);
@@ -63,6 +74,18 @@ fn reads_the_automaton_of_one_token(rt: HostRuntime) -> Result<(), Fail> {
 }
 
 #[test]
+fn writes_the_text_that_was_read(rt: HostRuntime) -> Result<(), Fail> {
+    let system = token_passing(rt.alloc())?;
+    if let Some(automaton) = read_safe(rt.alloc(), ONE_TOKEN, &system)? {
+        let text = write_safe(rt.alloc(), &system, &automaton)?;
+        assert_eq!(rt; text.as_slice(), ONE_TOKEN);
+    } else {
+        assert!(rt; false, "refused");
+    }
+    Ok(())
+}
+
+#[test]
 fn reads_texts_without_a_fault(rt: HostRuntime) -> Result<(), Fail> {
     let system = token_passing(rt.alloc())?;
     for text in [
@@ -70,39 +93,104 @@ fn reads_texts_without_a_fault(rt: HostRuntime) -> Result<(), Fail> {
         "armc 1 safe\nstates 1000000\nfinal 999999\nend\n",
         "armc 1 safe\nstates 1\nfinal 0\nedge 0 | 0\nfinal 0\nend\n",
     ] {
-        assert!(rt;
-            read_safe(rt.alloc(), text.as_bytes(), &system)?.is_some(),
-            "{text}"
-        );
+        let read = read_safe(rt.alloc(), text.as_bytes(), &system)?;
+        assert!(rt; read.is_some(), "{text}");
     }
     Ok(())
 }
 
 #[test]
-fn refuses_texts_with_a_fault(rt: HostRuntime) -> Result<(), Fail> {
+fn answers_the_first_fault_of_the_opening(rt: HostRuntime) -> Result<(), Fail> {
     let system = token_passing(rt.alloc())?;
-    for text in [
-        "armc 2 safe\nstates 0\nend\n",
-        "armc 1 good\n",
-        "armc 1 safe\nstates 01\nend\n",
-        "armc 1 safe\nstates 1000001\nend\n",
-        "armc 1 safe\nstates 1\nedge 0 P.z 0\nend\n",
-        "armc 1 safe\nstates 2\nedge 0 P.n 2\nend\n",
-        "armc 1 safe\nstates 1\nedge 0 P.n 0\nedge 0 P.n 0\nend\n",
-        "armc 1 safe\nstates 1\nedge 0 P",
-        "armc 1 safe\nstates 1\n",
-        "",
-        "armc 1 safe\nstates 0\nend\nx",
-        "armc 1 safe\nstates 0\nend\n\n",
-        "armc 1 safe\nstates 0\nend",
-        "armc 1 safe\nstates 99999999999999999999\nend\n",
-        "armc 1 safe\nstates 1\nfinal 99999999999999999999\nend\n",
-        "armc 1 safe\nstates 1\nedge 0  P.n 0\nend\n",
+    for (text, fault) in [
+        ("", CertFault::Truncated { line: 1 }),
+        ("armc 2 unsafe", CertFault::Truncated { line: 1 }),
+        ("armc 1 unsafe", CertFault::Truncated { line: 1 }),
+        (
+            "armc 2 safe\nstates 0\nend\n",
+            CertFault::Version { line: 1 },
+        ),
+        (
+            "armc 01 safe\nstates 0\nend\n",
+            CertFault::BadLine { line: 1 },
+        ),
+        ("armc 1 good\n", CertFault::BadLine { line: 1 }),
+        ("armc 1 unknown\n", CertFault::NothingToVerify { line: 1 }),
+        (
+            "armc 1 safe\nstates 01\nend\n",
+            CertFault::BadLine { line: 2 },
+        ),
+        (
+            "armc 1 safe\nstates 1000001\nend\n",
+            CertFault::TooMany { line: 2 },
+        ),
+        (
+            "armc 1 safe\nstates 99999999999999999999\nend\n",
+            CertFault::TooMany { line: 2 },
+        ),
+        ("armc 1 safe\n", CertFault::Truncated { line: 2 }),
     ] {
-        assert!(rt;
-            read_safe(rt.alloc(), text.as_bytes(), &system)?.is_none(),
-            "{text}"
-        );
+        match read_other(rt.alloc(), text.as_bytes(), &system) {
+            Ok(_) => return Err("read".into()),
+            Err(found) => assert_eq!(rt; found, fault, "{text}"),
+        }
     }
+    Ok(())
+}
+
+#[test]
+fn answers_the_first_fault_of_later_lines(rt: HostRuntime) -> Result<(), Fail> {
+    let system = token_passing(rt.alloc())?;
+    for (lines, fault) in [
+        ("edge 0 P.z 0\nend\n", CertFault::UnknownName { line: 3 }),
+        (
+            "edge 9 cell.rule 0\nend\n",
+            CertFault::UnknownName { line: 3 },
+        ),
+        ("edge 0 P. 0\nend\n", CertFault::BadLine { line: 3 }),
+        (
+            "edge 0 P.nnnnnnnnnnnnnnnnnnnnnnnnnnnnnnnnn 0\nend\n",
+            CertFault::BadLine { line: 3 },
+        ),
+        ("edge 0  P.n 0\nend\n", CertFault::BadLine { line: 3 }),
+        ("edge 0 P.n 1\nend\n", CertFault::OutOfRange { line: 3 }),
+        (
+            "final 99999999999999999999\nend\n",
+            CertFault::OutOfRange { line: 3 },
+        ),
+        (
+            "edge 0 P.n 0\nedge 0 P.n 0\nend\n",
+            CertFault::TwoEdges { line: 4 },
+        ),
+        ("edge 0 P", CertFault::Truncated { line: 3 }),
+        ("", CertFault::Truncated { line: 3 }),
+        ("final 0\nend", CertFault::Truncated { line: 4 }),
+        ("end\nx", CertFault::BadLine { line: 4 }),
+        ("end\n\n", CertFault::BadLine { line: 4 }),
+    ] {
+        let text = format!(in rt.alloc(); "armc 1 safe\nstates 1\n{lines}")?;
+        match read_other(rt.alloc(), text.as_bytes(), &system) {
+            Ok(_) => return Err("read".into()),
+            Err(found) => assert_eq!(rt; found, fault, "{lines}"),
+        }
+    }
+    Ok(())
+}
+
+#[test]
+fn says_a_fault_with_its_line(rt: HostRuntime) -> Result<(), Fail> {
+    let fault = CertFault::OutOfRange { line: 12 };
+    assert_eq!(rt;
+        format!(in rt.alloc(); "{fault}")?.as_str(),
+        "line 12: out of range"
+    );
+    Ok(())
+}
+
+#[test]
+fn writes_the_text_of_a_spent_budget(rt: HostRuntime) -> Result<(), Fail> {
+    let text = write_unknown(rt.alloc(), 17, 16)?;
+    let expected = b"armc 1 unknown\ncounted 17\nbudget 16\nend\n";
+    assert_eq!(rt; text.as_slice(), expected.as_slice());
     Ok(())
 }

@@ -1,23 +1,26 @@
-use Rattle.std.proofs.Common.{◌≡◌, ℕ, ◌∷◌, ◌++◌, [], cond, List, length, bytes_eq, Some, subst, sym, ap, ◌+◌, ◌∙◌}
-use Rattle.std.proofs.lemmas.List.{map_push, length-map, append_assoc, length_push}
-use Rattle.certificate.specs.Alphabet.{lists_of, get_by_bytes}
+use Rattle.std.proofs.Common.{◌≡◌, ℕ, ◌+◌, [], ◌∷◌, ◌++◌, cond, List, length, take, get_or, bytes_eq, Some, subst, sym, ap, ◌∙◌, arith}
+use Rattle.std.proofs.lemmas.List.{map_more, length-map, length-take-le}
+use Rattle.certificate.specs.Alphabet.{lists_of, IsIndexOf, get_by_bytes}
 use Rattle.certificate.proofs.IndexLemmas.{get_by_bytes-insert, IsIndexOf-push}
 use Rattle.certificate.proofs.alphabet.index_of.Goals as goal
 
 pub texts-preserved : goal.texts-preserved
 texts-preserved c =
-    let before = lists_of c.texts.yielded in
-    let text = c.in-Some.text.items in
-    let placed : c.texts.place ≡ length before = c.texts.invariant.3 ∙ sym (length-map c.texts.yielded (λ vector. vector.items)) in
-    let after = get_by_bytes-insert c.texts.places c.insert.new.self c.in-Some.text c.texts.place c.in_ok-insert.ensures.updates in
-    let at_length : (other : List ℕ)
-    → get_by_bytes c.insert.new.self other ≡ cond (bytes_eq text other) (Some (length before)) (get_by_bytes c.texts.places other)
-    = subst (λ n. (other : List ℕ)
-    → get_by_bytes c.insert.new.self other ≡ cond (bytes_eq text other) (Some n) (get_by_bytes c.texts.places other)) placed after in (
-      tt,
-      tt,
-      append_assoc c.texts.yielded (c.in-Some.text ∷ []) _ ∙ ap (λ rest. c.texts.yielded ++ rest) (sym c.in-Some.ensures.steps.0)
-          ∙ c.texts.invariant.2,
-      ap (λ n. n + 1) c.texts.invariant.3 ∙ sym (length_push c.texts.yielded c.in-Some.text),
-      rw map_push (IsIndexOf-push before text c.texts.places c.insert.new.self c.texts.invariant.4 at_length),
+    let texts = c.args.texts.now in
+    let i = c.texts.text-index in
+    let before = lists_of (take i texts) in
+    let key = c.in_ok-from_slice.field-0 in
+    let places = c.insert.new.self in
+    let placed : c.texts.place ≡ length before =
+    c.texts.invariant.0 ∙ sym (length-map (take i texts) (λ text. text.items) ∙ length-take-le i texts (omega arith)) in
+    let after = get_by_bytes-insert c.texts.places places key c.texts.place c.in_ok-insert.ensures.updates in
+    let at_length = subst
+    (λ n. (other : List ℕ) → get_by_bytes places other ≡ cond (bytes_eq key.items other) (Some n) (get_by_bytes c.texts.places other))
+    placed after in
+    let same : key.items ≡ (get_or texts i c.text-item.result).items =
+    c.in_ok-from_slice.ensures.items ∙ c.deref.ensures.value ∙ ap (λ text. text.items) c.text-item.is in (
+      ap (λ n. n + 1) c.texts.invariant.0,
+      subst (λ all. IsIndexOf all places)
+          (ap (λ text. before ++ text ∷ []) same ∙ sym (map_more (λ text. text.items) texts i c.text-item.result (omega arith)))
+          (IsIndexOf-push before key.items c.texts.places places c.texts.invariant.1 at_length),
     )

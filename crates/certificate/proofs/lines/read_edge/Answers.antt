@@ -2,6 +2,7 @@ use Rattle.std.proofs.Common.{◌∙◌, ◌∷◌, ◌++◌, codes, sym, ap, su
 use Rattle.std.proofs.lemmas.Option.{MatchOption-at_none, none-some}
 use Rattle.certificate.specs.Numbers.{IsNumber}
 use Rattle.certificate.proofs.NumberLemmas.{small_decimal-IsNumber}
+use Rattle.certificate.proofs.LayoutLemmas.{edge_no_layout, letter_line_fault}
 use Rattle.certificate.proofs.LineLemmas.{edge_refused, three_unique, edge_text}
 use Rattle.certificate.proofs.lines.read_edge.Goals as goal
 
@@ -46,3 +47,26 @@ returns-in-None-clause-refused c =
     (λ p a q range fields.
     let same = three_unique _ _ _ _ _ _ _ c.in-Some.ensures fields in
     none-some a (c.in-None.ensures.only a range.1 same.1))
+
+pub returns-in_default-clause-fault : goal.returns-in_default-clause-fault
+returns-in_default-clause-fault c = edge_no_layout c.args.fields.now (λ from letter to fields _ _ _. c.in_default.ensures from letter to fields)
+
+pub returns-in_default-2-clause-fault : goal.returns-in_default-2-clause-fault
+returns-in_default-2-clause-fault c =
+    edge_no_layout c.args.fields.now
+    (λ from letter to fields one two laid_out.
+    let same = three_unique _ _ _ _ _ _ _ c.in-Some.ensures fields in
+    c.in_default-2.ensures' (subst IsNumber (sym same.2) two))
+
+pub returns-in_default-2-2-clause-fault : goal.returns-in_default-2-2-clause-fault
+returns-in_default-2-2-clause-fault c =
+    edge_no_layout c.args.fields.now
+    (λ from letter to fields one two laid_out.
+    let same = three_unique _ _ _ _ _ _ _ c.in-Some.ensures fields in
+    MatchOption-at_none _ _ c.in_default-2.is-0 c.read_number.ensures (subst IsNumber (sym same.0) one))
+
+pub returns-in-None-clause-fault : goal.returns-in-None-clause-fault
+returns-in-None-clause-fault c =
+    letter_line_fault c.args.alphabet.now c.args.fields.now c.in-Some.from.now c.in-Some.letter.now c.in-Some.to.now c.in-Some.ensures
+    c.in-Some-Some.ensures.0 c.in-Some-Some.ensures'.0 (λ a within is. none-some a (c.in-None.ensures.only a within is))
+    c.letter_fault.result c.letter_fault.ensures

@@ -15,7 +15,8 @@ found : (c : goal.After-copied) → IsFound c.args.text.now c.copied.result c.ar
 found c =
     let kept : c.copied.result ≡ get_by_bytes c.self.inside.numbers c.args.text.now = c.copied.ensures ∙ c.get.ensures.value in
     subst (IsFound c.args.text.now c.copied.result) c.self.view_is
-    (letter_found c.self.inside.system.now c.self.inside.numbers c.self.inside.size c.args.text.now c.copied.result c.self.invariant kept)
+    (letter_found c.self.inside.system.now c.self.inside.texts.items c.self.inside.numbers c.args.text.now c.copied.result
+    c.self.invariant kept)
 
 pub returns-clause-in_range : goal.returns-clause-in_range
 returns-clause-in_range c = IfSome_then c.copied.result (found c) (λ a both. both.0)
@@ -27,4 +28,5 @@ pub returns-clause-only : goal.returns-clause-only
 returns-clause-only c =
     let kept : c.copied.result ≡ get_by_bytes c.self.inside.numbers c.args.text.now = c.copied.ensures ∙ c.get.ensures.value in
     subst (λ s. (a : ℕ) → a < automata_letters s → c.args.text.now ≡ letter_text s.sections a → c.copied.result ≡ Some a) c.self.view_is
-    (letter_only c.self.inside.system.now c.self.inside.numbers c.self.inside.size c.args.text.now c.copied.result c.self.invariant kept)
+    (letter_only c.self.inside.system.now c.self.inside.texts.items c.self.inside.numbers c.args.text.now c.copied.result
+    c.self.invariant kept)

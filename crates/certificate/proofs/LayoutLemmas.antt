@@ -1,0 +1,124 @@
+-- What is wrong with the bytes of a line.
+use Rattle.std.proofs.Common.{◌≡◌, ◌↔◌, ℕ, ◌<◌, ◌&&◌, Bool, IsTrue, List, [], ◌∷◌, ◌++◌, codes, sym, ap, subst, ◌∙◌, arith, inl, inr}
+use Rattle.std.proofs.lemmas.List.{append_assoc}
+use Rattle.std.proofs.lemmas.Bool.{and_parts, and_from}
+use Rattle.protocol_model.specs.Names.{is_name, IsName}
+use Rattle.protocol_model.specs.System.{SystemData}
+use Rattle.protocol_model.specs.Words.{automata_letters}
+use Rattle.certificate.specs.declared.lines.LineFault.{LineFault}
+use Rattle.certificate.specs.declared.lines.LineFault.TheVariants.{BadLine, UnknownName}
+use Rattle.certificate.specs.Bytes.{Lacks, IsCutAt}
+use Rattle.certificate.specs.Numbers.{IsNumber}
+use Rattle.certificate.specs.SafeText.{letter_text}
+use Rattle.certificate.specs.Reading.{IsEdgeLine, IsThreeFields}
+use Rattle.certificate.specs.Faults.{IsLetterField, HasNoLayout}
+use Rattle.certificate.specs.NextLine.{IsLetterFault, HasLineFault}
+use Rattle.certificate.proofs.TextLemmas.{Lacks-append, cut_unique, no_cut}
+use Rattle.certificate.proofs.NumberLemmas.{IsNumber-Lacks}
+use Rattle.certificate.proofs.AlphabetLemmas.{name_lacks}
+use Rattle.certificate.proofs.LineLemmas.{edge_text, edge_cancel, final_cancel, final_is_no_edge, three_unique}
+
+-- a letter's field has no space
+pub IsLetterField-no_space : (field : List ℕ) → IsLetterField field → Lacks 32 field
+IsLetterField-no_space field (inl bar) = subst (Lacks 32) (sym bar) (omega arith, tt)
+IsLetterField-no_space field (inr dotted) =
+    subst (Lacks 32) (sym dotted.4)
+    (Lacks-append 32 (dotted.0 ++ codes ".") dotted.1
+    (Lacks-append 32 dotted.0 (codes ".") (name_lacks 32 (omega arith) dotted.0 dotted.2) (omega arith, tt))
+    (name_lacks 32 (omega arith) dotted.1 dotted.3))
+
+-- a letter's field that is cut at its dot has names on both sides
+pub IsLetterField-cut : (field section letter : List ℕ) → IsCutAt 46 field section letter → IsLetterField field → IsName section × IsName letter
+IsLetterField-cut field section letter cut (inl bar) = absurd (no_bar section letter (sym cut.joined ∙ bar))
+  where
+    no_bar : (a x : List ℕ) → a ++ 46 ∷ x ≡ 124 ∷ [] → ⊥
+    no_bar [] x e = bar_is_no_dot 46 x (omega arith) e
+      where
+        bar_is_no_dot : (c : ℕ) (x : List ℕ) → (c ≡ 124 → ⊥) → c ∷ x ≡ 124 ∷ [] → ⊥
+        bar_is_no_dot c x differ e = differ cc
+    no_bar (d ∷ a) x e = no_tail a x (let tails : a ++ 46 ∷ x ≡ [] = cc in tails)
+      where
+        no_tail : (a x : List ℕ) → a ++ 46 ∷ x ≡ [] → ⊥
+        no_tail [] x e = absurd cc
+        no_tail (d ∷ a) x e = absurd cc
+IsLetterField-cut field section letter cut (inr dotted) =
+    let same = cut_unique 46 section dotted.0 letter dotted.1 cut.first (name_lacks 46 (omega arith) dotted.0 dotted.2)
+    (sym cut.joined ∙ dotted.4 ∙ append_assoc dotted.0 (codes ".") dotted.1) in
+    (subst IsName (sym same.0) dotted.2, subst IsName (sym same.1) dotted.3)
+
+-- a field without a dot is a letter's only if it is the bar
+pub IsLetterField-no_dot : (field : List ℕ) → Lacks 46 field → IsLetterField field → field ≡ codes "|"
+IsLetterField-no_dot field lacks (inl bar) = bar
+IsLetterField-no_dot field lacks (inr dotted) =
+    absurd (no_cut 46 dotted.0 dotted.1 (subst (Lacks 46) (dotted.4 ∙ append_assoc dotted.0 (codes ".") dotted.1) lacks))
+
+-- names on both sides of a dot are a letter's field
+pub IsLetterField-from : (field section letter : List ℕ) → IsCutAt 46 field section letter → IsName section → IsName letter → IsLetterField field
+IsLetterField-from field section letter cut one two =
+    inr (section, letter, one, two, cut.joined ∙ sym (append_assoc section (codes ".") letter))
+
+pub IsLetterField-names : (field section letter : List ℕ) (r : Bool) → IsCutAt 46 field section letter
+    → r ≡ (is_name section && is_name letter) → IsTrue r ↔ IsLetterField field
+IsLetterField-names field section letter r cut is = (
+  λ e.
+      let both = and_parts (is_name section) (is_name letter) (sym is ∙ e) in
+      IsLetterField-from field section letter cut both.0 both.1,
+  λ laid_out.
+      let both = IsLetterField-cut field section letter cut laid_out in
+      is ∙ and_from (is_name section) (is_name letter) both.0 both.1,
+)
+
+-- what is no number after `final ` has no layout
+pub final_no_layout : (line field : List ℕ) → line ≡ codes "final " ++ field → (IsNumber field → ⊥) → HasNoLayout line
+final_no_layout line field e no_number = record {
+  no_final = λ other h. no_number (subst IsNumber (sym (final_cancel field other (sym e ∙ h.spelled))) h.number);
+  no_edge = λ from letter to h _. final_is_no_edge field _ (sym e ∙ h.spelled ∙ edge_text from letter to);
+}
+
+-- a line with neither keyword has no layout
+pub other_no_layout : (line : List ℕ) → ((rest : List ℕ) → line ≡ codes "final " ++ rest → ⊥) → ((rest : List ℕ) → line ≡ codes "edge " ++ rest → ⊥) → HasNoLayout line
+other_no_layout line no_final no_edge = record {
+  no_final = λ field h. no_final field h.spelled;
+  no_edge = λ from letter to h _. no_edge _ (h.spelled ∙ edge_text from letter to);
+}
+
+-- fields that cannot be those of an edge have no layout
+pub edge_no_layout : (fields : List ℕ)
+    → ((from letter to : List ℕ) → IsThreeFields fields from letter to → IsNumber from → IsNumber to → IsLetterField letter → ⊥)
+    → HasNoLayout (codes "edge " ++ fields)
+edge_no_layout fields refuse = record {
+  no_final = λ field h. final_is_no_edge field fields (sym h.spelled);
+  no_edge = λ from letter to h laid_out.
+      refuse from letter to
+      (record {
+        joined = edge_cancel fields _ (h.spelled ∙ edge_text from letter to);
+        first = IsNumber-Lacks 32 (omega arith) from h.from_number;
+        second = IsLetterField-no_space letter laid_out;
+      })
+      h.from_number h.to_number laid_out;
+}
+
+-- the layout of an edge with these fields
+pub edge_layout : (fields from letter to : List ℕ) → IsThreeFields fields from letter to → IsNumber from → IsNumber to → IsEdgeLine (codes "edge " ++ fields) from letter to
+edge_layout fields from letter to h one two = record {
+  spelled = ap (λ text. codes "edge " ++ text) h.joined ∙ sym (edge_text from letter to);
+  from_number = one;
+  to_number = two;
+}
+
+-- an edge whose letter the system does not have
+pub letter_line_fault : (s : SystemData) (fields from letter to : List ℕ) → IsThreeFields fields from letter to → IsNumber from → IsNumber to
+    → ((a : ℕ) → a < automata_letters s → letter ≡ letter_text s.sections a → ⊥)
+    → (fault : LineFault) → IsLetterFault letter fault → HasLineFault s (codes "edge " ++ fields) fault
+letter_line_fault s fields from letter to h one two unknown BadLine no_letter =
+    edge_no_layout fields (λ from' letter' to' h' _ _ laid_out.
+    let same = three_unique fields from letter to from' letter' to' h h' in
+    no_letter (subst IsLetterField (sym same.1) laid_out))
+letter_line_fault s fields from letter to h one two unknown UnknownName laid_out = record {
+  from = from;
+  letter = letter;
+  to = to;
+  edge = edge_layout fields from letter to h one two;
+  laid_out = laid_out;
+  unknown = unknown;
+}

@@ -1,0 +1,14 @@
+use Rattle.std.proofs.Common.{◌≡◌, arith, subst}
+use Rattle.protocol_model.specs.Words.{automata_letters}
+use Rattle.certificate.proofs.AlphabetLemmas.{letters_counted}
+use Rattle.certificate.proofs.alphabet.Alphabet.size.Goals as goal
+
+pub overflow_cast-result : goal.overflow_cast-result
+overflow_cast-result c =
+    let counted = letters_counted c.self.inside.system.now c.self.inside.texts.items c.self.invariant.texts_are in
+    omega (arith, counted, c.self.invariant.valid.limits.letters_limit, c.len.ensures)
+
+pub returns : goal.returns
+returns c =
+    let counted = letters_counted c.self.inside.system.now c.self.inside.texts.items c.self.invariant.texts_are in
+    subst (λ s. c.len.result ≡ automata_letters s) c.self.view_is (omega (arith, counted, c.len.ensures))

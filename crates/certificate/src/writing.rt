@@ -1,0 +1,127 @@
+//! The texts of an automaton and of a search that reached its budget.
+
+ghost use Rattle.std.specs.Prelude.{◌≡◌, ◌++◌, ◌∷◌, ◌<◌, ◌≤◌, ℕ, [], All, IfOk, OnOk, decimal, length, flat_map};
+ghost use Rattle.std.specs.Prelude.{if◌then◌else◌};
+ghost use Rattle.word_automata.specs.Path.{is_accepting};
+ghost use Rattle.protocol_model.specs.Words.{automata_letters};
+ghost use Rattle.certificate.specs.declared.lines.Line.TheVariants.{Edge};
+ghost use Rattle.certificate.specs.SafeText.{line_text, MeansAutomaton};
+ghost use Rattle.certificate.specs.Reading.{lines_text};
+ghost use Rattle.certificate.specs.Writing.{final_states, lines_from, edge_lines, written_text, final_text, unknown_text};
+
+use crate::alphabet::Alphabet;
+use itoa::Buffer;
+use protocol_model::System;
+use std::alloc::{AllocError, Global};
+use word_automata::Dfa;
+
+/// The text of a certificate that is this automaton. After the number of states it has the accepting states by
+/// increasing number, and then the edges by source and letter.
+pub fn write_safe(alloc: Global, system: &System, proof: &Dfa) -> Result<Vec<u8>, AllocError>
+    requires letters { proof.now.letters ≡ automata_letters system.now }
+    requires limit { length proof.now.states ≤ 1000000 }
+    ensures text { IfOk result (λ text. text.items ≡ written_text system.now proof.now) }
+    ensures meaning { IfOk result (λ text. MeansAutomaton system.now text.items proof.now) }
+{
+    let alphabet = Alphabet::new(alloc, system)?;
+    let mut text = Vec::from_slice(alloc, b"armc 1 safe\nstates ")?;
+    push_number(&mut text, proof.states())?;
+    text.push(b'\n')?;
+    push_final_states(&mut text, proof)?;
+    push_edges(&mut text, &alphabet, proof)?;
+    text.extend_from_slice(b"end\n")?;
+    Ok(text)
+}
+
+/// The text of a search that reached its budget when so many states were counted.
+pub fn write_unknown(alloc: Global, counted: u64, budget: u64) -> Result<Vec<u8>, AllocError>
+    ensures { IfOk result (λ text. text.items ≡ unknown_text counted budget) }
+{
+    let mut buffer = Buffer::new();
+    let mut text = Vec::from_slice(alloc, b"armc 1 unknown\ncounted ")?;
+    text.extend_from_slice(buffer.format(counted).as_bytes())?;
+    text.extend_from_slice(b"\nbudget ")?;
+    text.extend_from_slice(buffer.format(budget).as_bytes())?;
+    text.extend_from_slice(b"\nend\n")?;
+    Ok(text)
+}
+
+/// Adds the lines of all accepting states.
+fn push_final_states(text: &mut Vec<u8>, proof: &Dfa) -> Result<(), AllocError>
+    ensures { OnOk result (text.new.items ≡ text.old.items ++ flat_map final_text (final_states 0 proof.now.states)) }
+{
+    'states: for state in 0..proof.states() {
+        push_if_final(text, proof, state)?;
+    }
+    Ok(())
+}
+
+/// Adds the line of the state if it accepts.
+fn push_if_final(text: &mut Vec<u8>, proof: &Dfa, state: usize) -> Result<(), AllocError>
+    requires { state < length proof.now.states }
+    ensures { OnOk result (text.new.items ≡ text.old.items ++ (if is_accepting proof.now.states state then final_text state else [])) }
+{
+    if proof.accepting(state) {
+        text.extend_from_slice(b"final ")?;
+        push_number(text, state)?;
+        text.push(b'\n')?;
+    }
+    Ok(())
+}
+
+/// Adds the lines of all edges.
+fn push_edges(text: &mut Vec<u8>, alphabet: &Alphabet, proof: &Dfa) -> Result<(), AllocError>
+    requires { proof.now.letters ≡ automata_letters alphabet.now }
+    ensures { OnOk result (text.new.items ≡ text.old.items ++ lines_text alphabet.now (edge_lines 0 proof.now.states)) }
+{
+    'states: for state in 0..proof.states() {
+        push_edges_from(text, alphabet, state, proof.edges_from(state))?;
+    }
+    Ok(())
+}
+
+/// Adds the lines of the edges of one state.
+fn push_edges_from(
+    text: &mut Vec<u8>,
+    alphabet: &Alphabet,
+    from: usize,
+    edges: &[(u32, usize)],
+) -> Result<(), AllocError>
+    requires { All (λ edge. edge.0 < automata_letters alphabet.now) edges.now }
+    ensures { OnOk result (text.new.items ≡ text.old.items ++ lines_text alphabet.now (lines_from from edges.now)) }
+{
+    'edges: for edge in edges {
+        push_edge(text, alphabet, from, edge.0, edge.1)?;
+    }
+    Ok(())
+}
+
+/// Adds the line of an edge.
+fn push_edge(
+    text: &mut Vec<u8>,
+    alphabet: &Alphabet,
+    from: usize,
+    letter: u32,
+    to: usize,
+) -> Result<(), AllocError>
+    requires { letter < automata_letters alphabet.now }
+    ensures { OnOk result (text.new.items ≡ text.old.items ++ (line_text alphabet.now (Edge from letter to) ++ 10 ∷ [])) }
+{
+    text.extend_from_slice(b"edge ")?;
+    push_number(text, from)?;
+    text.push(b' ')?;
+    text.extend_from_slice(alphabet.text(letter))?;
+    text.push(b' ')?;
+    push_number(text, to)?;
+    text.push(b'\n')?;
+    Ok(())
+}
+
+/// Adds a number in decimal.
+fn push_number(text: &mut Vec<u8>, number: usize) -> Result<(), AllocError>
+    ensures { OnOk result (text.new.items ≡ text.old.items ++ decimal number) }
+{
+    let mut buffer = Buffer::new();
+    text.extend_from_slice(buffer.format(number).as_bytes())?;
+    Ok(())
+}
