@@ -1,9 +1,6 @@
-pub mod Configurations
-pub mod Nothing
-pub mod Reached
-pub mod Rules
-pub mod Runs
-pub mod SearchSteps
-pub mod Searching
 pub mod Soundness
-pub mod Successors
+pub mod WordFacts
+pub mod Least
+pub mod Parts
+pub mod SingleWords
+pub mod Reading

@@ -1,6 +1,4 @@
-pub mod EdgesBelow
-pub mod Emptiness
-pub mod Equality
-pub mod Parts
 pub mod Proof
-pub mod Searches
+pub mod Answers
+pub mod SingleWord
+pub mod Parts

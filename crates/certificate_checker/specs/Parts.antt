@@ -1,41 +1,26 @@
--- The three parts of a proof, each as a fact of its own, and what a rule must keep where there is one section.
-use Rattle.std.specs.Prelude.{◌≡◌, ◌<◌, ℕ, List, [], ◌∷◌, IsTrue, nat_lt}
-use Rattle.std.specs.List.{list_all}
+-- What the parts of the judgement find. Only private contracts speak of this.
+use Rattle.std.specs.Prelude.{◌≡◌, ℕ, List, IsTrue}
 use Rattle.word_automata.specs.Automaton.{Automaton, accepts}
 use Rattle.protocol_model.specs.declared.system.Configuration.{Configuration}
-use Rattle.protocol_model.specs.declared.system.Rule.{Rule}
-use Rattle.protocol_model.specs.declared.system.Move.TheVariants.{At}
 use Rattle.protocol_model.specs.System.{SystemData}
-use Rattle.protocol_model.specs.Patterns.{is_initial, is_bad}
-use Rattle.protocol_model.specs.Steps.{IsStep, ChangesBy, move_of}
+use Rattle.protocol_model.specs.Patterns.{fits}
 use Rattle.protocol_model.specs.Words.{word_of}
+use Rattle.step_compiler.specs.Rules.{IsRuleStep}
+use Rattle.certificate_checker.specs.Answers.{IsLeastConfiguration, IsLeft, IsAcceptedBefore}
 
--- the automaton accepts the word of every initial configuration
-abbrev pub AcceptsInitial : SystemData → Automaton → Type 0
-AcceptsInitial s m = (c : Configuration) → IsTrue (is_initial s c) → IsTrue (accepts m (word_of s c))
+-- each word that the automaton accepts is that of a configuration
+abbrev pub AcceptsConfigurations : SystemData → Automaton → Type 0
+AcceptsConfigurations s m = (w : List ℕ) → IsTrue (accepts m w) → (c : Configuration) × IsTrue (fits s c) × (w ≡ word_of s c)
 
--- the automaton accepts the word of no bad configuration
-abbrev pub AcceptsNoBad : SystemData → Automaton → Type 0
-AcceptsNoBad s m = (c : Configuration) → IsTrue (is_bad s c) → IsTrue (accepts m (word_of s c)) → ⊥
+-- the configuration fits, and the automaton accepts its word
+abbrev pub IsAcceptedWord : SystemData → Automaton → Configuration → Type 0
+IsAcceptedWord s m c = IsTrue (fits s c) × IsTrue (accepts m (word_of s c))
 
--- with a configuration the automaton accepts every one to which a step leads
-abbrev pub IsClosed : SystemData → Automaton → Type 0
-IsClosed s m = (r : ℕ) (c d : Configuration) → IsTrue (accepts m (word_of s c)) → IsStep s r c d → IsTrue (accepts m (word_of s d))
+-- d is the least refused configuration to which the rule leads from an accepted one, and c the least of these
+pub record IsLeastExitBy (s : SystemData) (m : Automaton) (r : ℕ) (c d : Configuration) : Type 0 where
+  pub after : IsLeastConfiguration s (IsLeft s m r) d
+  pub before : IsLeastConfiguration s (IsAcceptedBefore s m r d) c
 
--- every letter of the list is below n
-abbrev pub are_below : ℕ → List ℕ → Type 0
-are_below n list = IsTrue (list_all (λ a. nat_lt a n) list)
-
--- with a list of letters below n the automaton accepts every such list to which the rule leads in section 0
-abbrev pub IsClosedUnder : ℕ → Automaton → Rule → Type 0
-IsClosedUnder n m rule =
-    (old new : List ℕ) → are_below n old → are_below n new → ChangesBy (move_of rule.moves 0) old new
-    → IsTrue (accepts m old) → IsTrue (accepts m new)
-
--- the rule changes one letter below n to one below n in section 0, and does nothing else
-pub record IsLetterChange (n : ℕ) (rule : Rule) : Type 0 where
-  pub from : ℕ
-  pub to : ℕ
-  pub moves_are : rule.moves ≡ (0, At from to [] []) ∷ []
-  pub from_below : from < n
-  pub to_below : to < n
+-- the automaton accepts the configuration, and the rule leads from its word to the word w
+abbrev pub IsBefore : SystemData → Automaton → ℕ → List ℕ → Configuration → Type 0
+IsBefore s m r w c = IsTrue (fits s c) × IsTrue (accepts m (word_of s c)) × IsRuleStep s r (word_of s c) w

@@ -1,13 +1,15 @@
-//! The judgement of certificates: whether an automaton proves that a system is safe.
+//! The judgement of certificates: whether an automaton proves that a system is safe, and whether a run is a bad run. It searches
+//! for nothing but the least configurations that speak against a certificate.
 #![tactic(auto)]
 
-mod bad_search;
-mod emptiness;
-mod first;
-mod initial_search;
+mod answer;
+mod judgement;
 mod law;
-mod reading;
-mod step_search;
+mod single_word;
 
-pub use first::judge_first;
+pub use answer::Answer;
+pub use judgement::check_certificate;
 pub use law::proofs_are_sound;
+
+#[cfg(test)]
+mod tests;
