@@ -1,4 +1,5 @@
 pub mod FailedRead
 pub mod Answered
-pub mod FirstShape
-pub mod MeansNone
+pub mod Allowed
+pub mod AnswerCauses
+pub mod Refused

@@ -1,16 +1,17 @@
 -- What a whole call answers.
-use Rattle.std.specs.Prelude.{◌≡◌, ◌⊎◌, ℕ, List, length, IfSome, Vec}
+use Rattle.std.specs.Prelude.{◌≡◌, ℕ, List, Some, Vec}
 use Rattle.std.specs.declared.alloc.Global.{Global}
 use Rattle.armc_io.specs.Faults.{Rose}
 use Rattle.armc_io.specs.Library.{LibraryState}
 use Rattle.armc_io.specs.Sink.{SinkState}
-use Rattle.certificate_checker.specs.Proof.{Proves, IsSafe}
 use Rattle.armc.specs.declared.status.Status.{Status}
 use Rattle.armc.specs.declared.status.Status.TheVariants.{Done}
 use Rattle.armc.specs.declared.cause.Cause.{Cause}
 use Rattle.armc.specs.declared.cause.Cause.TheVariants as cause
 use Rattle.armc.specs.declared.reply.Reply.{Reply}
-use Rattle.armc.specs.Cause.{Told, IsCause, IsJudged, IsNotBuilt, IsTold}
+use Rattle.armc.specs.Command.{verify, command_of}
+use Rattle.armc.specs.Verdict.{IsProofOf}
+use Rattle.armc.specs.Cause.{Told, IsCause, IsJudged, IsTold}
 use Rattle.armc.specs.Reply.{status_of, out_text, err_text}
 use Rattle.armc.specs.Delivery.{Delivers, IsWhole}
 
@@ -31,9 +32,11 @@ pub record Answers (words : List (List ℕ)) (library library' : LibraryState) (
   pub is_cause : IsCause words library library' cause
   pub delivered : DeliversCause cause out out' err err' result
 
--- where the status is 0, the certificate's automaton proves the protocol's system, and no run of the system is a bad run
+-- where `verify FILE CERT` has status 0, CERT's automaton proves FILE's system, and no run of the system is a bad run; or CERT is a bad run
 abbrev pub IsSound : List (List ℕ) → Told → Status → Type 0
-IsSound words told result = result ≡ Done → IsJudged words told (λ s m. Proves s m × IsSafe s)
+IsSound words told result =
+    (file certificate : List ℕ) → command_of words ≡ Some (verify file certificate)
+    → result ≡ Done → IsJudged words told IsProofOf
 
 -- no count of faults rose
 pub record IsQuiet (library library' : LibraryState) (out out' err err' : SinkState) : Type 0 where

@@ -4,7 +4,7 @@ use Rattle.armc_io.specs.Library.{LibraryState}
 use Rattle.armc_io.specs.declared.traits.ReadFail.{ReadFail}
 use Rattle.armc_io.specs.declared.traits.ReadFail.TheVariants as fail
 use Rattle.armc.specs.declared.cause.Cause.{Cause}
-use Rattle.armc.specs.declared.cause.Cause.TheVariants.{Valid, NotValid, ReadFault, TooLong, NotBuilt, Memory}
+use Rattle.armc.specs.declared.cause.Cause.TheVariants.{ReadFault, TooLong, Memory}
 
 -- the state comes before the other in one call: the same is told, and the count of faults did not fall
 pub record IsEarlier (before now : LibraryState) : Type 0 where

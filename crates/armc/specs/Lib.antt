@@ -1,8 +1,11 @@
+pub mod Line
 pub mod Command
+pub mod Refusal
+pub mod Reading
+pub mod Verdict
 pub mod Cause
 pub mod Reply
 pub mod Delivery
 pub mod Text
 pub mod Judging
 pub mod Answer
-pub mod FirstText

@@ -1,17 +1,19 @@
-ghost use Rattle.std.specs.Prelude.{◌≡◌, ◌⊎◌, ℕ, List, Some, map, string_bytes, IfOk};
+ghost use Rattle.std.specs.Prelude.{◌≡◌, ◌≢◌, ◌⊎◌, ℕ, List, Some, None, map, string_bytes, IfOk, OnOk};
 ghost use Rattle.armc_io.specs.Library.{LibraryState};
-ghost use Rattle.protocol_model.specs.FirstForm.{IsFirstForm};
-ghost use Rattle.armc.specs.Command.{verify_names as verify_names_of};
-ghost use Rattle.armc.specs.Cause.{IsCause, HasSystem};
+ghost use Rattle.protocol_model.specs.Numbering.{system_of};
+ghost use Rattle.armc.specs.Command.{verify, command_of as command_of_words, said, file_of};
+ghost use Rattle.armc.specs.Cause.{IsCause, HasSystem, HasProtocol};
 ghost use Rattle.armc.specs.Judging.{IsEarlier, cause_of_read};
 
 use crate::cause::Cause;
-use crate::command::verify_names;
-use crate::system::system_of;
+use crate::command::{Command, command_of};
+use crate::reading::{Reading, read_protocol};
+use crate::verdict::{cause_of_answer, is_run_text};
 use armc_io::{Library, ReadFail};
-use certificate::read_safe;
-use certificate_checker::judge_first;
+use certificate::{CertFault, read};
+use certificate_checker::check_certificate;
 use protocol_model::System;
+use protocol_syntax::Protocol;
 use sequence::Text;
 use std::alloc::{AllocError, Global};
 
@@ -35,24 +37,57 @@ fn cause_of_fail(alloc: Global, name: &str, fail: ReadFail) -> Cause
     }
 }
 
-// Judges the two texts of the names.
-fn judge<L: Library>(
-    alloc: Global,
-    file: &str,
-    certificate: &str,
-    library: &mut L,
-) -> Result<Cause, AllocError>
-    ensures { (words : List (List ℕ)) → verify_names_of words ≡ Some (file.now, certificate.now)
+// Reads the protocol of the command, and carries it out.
+fn judge<L: Library>(alloc: Global, command: Command, library: &mut L) -> Result<Cause, AllocError>
+    ensures { (words : List (List ℕ)) → command_of_words words ≡ Some (said command.entry)
         → IfOk result (IsCause words (L.state library.old) (L.state library.new)) }
 {
+    let file = command.file();
     let text = match library.read_all(file, PROTOCOL_LIMIT) {
         Ok(text) => text,
         Err(fail) => return Ok(cause_of_fail(alloc, file, fail)),
     };
-    let Some(system) = system_of(alloc, text.as_slice())? else {
-        return Ok(Cause::NotBuilt);
-    };
-    judge_certificate(alloc, &system, certificate, library)
+    match read_protocol(alloc, text.as_slice())? {
+        Reading::Refused(refusal) => Ok(Cause::ProtocolRefused(refusal)),
+        Reading::Protocol(protocol, system) => {
+            carry_out(alloc, command, protocol, &system, library)
+        }
+    }
+}
+
+// Carries out the command for this protocol, which has no fault, and its system.
+fn carry_out<L: Library>(
+    alloc: Global,
+    command: Command,
+    protocol: Protocol,
+    system: &System,
+    library: &mut L,
+) -> Result<Cause, AllocError>
+    requires { system.now ≡ system_of protocol }
+    ensures { (words : List (List ℕ)) (before : LibraryState) → IsEarlier before (L.state library.old)
+        → command_of_words words ≡ Some (said command.entry) → HasProtocol before.told (file_of (said command.entry)) protocol
+        → IfOk result (IsCause words before (L.state library.new)) }
+{
+    match command {
+        Command::Show { .. } => Ok(Cause::Shown(protocol)),
+        Command::Verify { certificate, .. } => judge_certificate(
+            alloc,
+            system,
+            certificate,
+            library,
+        ),
+    }
+}
+
+// Why the text of a certificate is refused.
+fn cause_of_certificate_fault(fault: CertFault) -> Result<Cause, AllocError>
+    ensures refused { IfOk result (λ cause. cause ≡ Cause.CertificateRefused fault) }
+    ensures fault { OnOk result (fault ≢ CertFault.Memory) }
+{
+    match fault {
+        CertFault::Memory => Err(AllocError),
+        _ => Ok(Cause::CertificateRefused(fault)),
+    }
 }
 
 // Judges the text of the certificate's name for the system.
@@ -62,33 +97,31 @@ fn judge_certificate<L: Library>(
     name: &str,
     library: &mut L,
 ) -> Result<Cause, AllocError>
-    requires { IsFirstForm system.now }
     ensures { (words : List (List ℕ)) (file : List ℕ) (before : LibraryState) → IsEarlier before (L.state library.old)
-        → verify_names_of words ≡ Some (file, name.now) → HasSystem before.told file system.now
+        → command_of_words words ≡ Some (verify file name.now) → HasSystem before.told file system.now
         → IfOk result (IsCause words before (L.state library.new)) }
 {
     let text = match library.read_all(name, CERTIFICATE_LIMIT) {
         Ok(text) => text,
         Err(fail) => return Ok(cause_of_fail(alloc, name, fail)),
     };
-    let Some(automaton) = read_safe(alloc, text.as_slice(), system)? else {
+    if is_run_text(text.as_slice()) {
         return Ok(Cause::NotBuilt);
-    };
-    if judge_first(alloc, system, &automaton)? {
-        Ok(Cause::Valid)
-    } else {
-        Ok(Cause::NotValid)
     }
+    let certificate = match read(alloc, text.as_slice(), system) {
+        Ok(certificate) => certificate,
+        Err(fault) => return cause_of_certificate_fault(fault),
+    };
+    let answer = check_certificate(alloc, system, &certificate)?;
+    cause_of_answer(alloc, system, answer)
 }
 
-/// Reads the named texts in their order, each once, and finds the cause of the answer to the words.
+/// Reads the texts that the words name in their order, each once, and finds the cause of the answer.
 pub fn cause_of<L: Library>(alloc: Global, words: &[String], library: &mut L) -> Cause
     ensures { IsCause (map string_bytes words.now) (L.state library.old) (L.state library.new) result }
 {
-    match verify_names(words) {
+    match command_of(words) {
         None => Cause::NotBuilt,
-        Some((file, certificate)) => judge(alloc, file, certificate, library).unwrap_or(
-            Cause::Memory,
-        ),
+        Some(command) => judge(alloc, command, library).unwrap_or(Cause::Memory),
     }
 }

@@ -5,12 +5,14 @@ mod cause;
 mod command;
 mod delivery;
 mod judgement;
+mod reading;
+mod refusal;
 mod reply;
 mod run;
 mod status;
-mod system;
 #[cfg(test)]
 mod tests;
+mod verdict;
 
 use armc_io::{FileLibrary, NoGate, StreamSink};
 use run::run;

@@ -2,7 +2,10 @@ ghost use Rattle.std.specs.Prelude.{◌≡◌, ◌++◌, ◌∷◌, [], IfOk};
 ghost use Rattle.armc.specs.Answer.{IsReplyTo};
 
 use crate::cause::Cause;
+use crate::refusal::refusal_line;
 use crate::status::Status;
+use crate::verdict::certificate_fault_line;
+use protocol_layout::print;
 use std::alloc::{AllocError, Global};
 
 /// An answer before it is written: the exit status, and the whole texts of standard output and standard error.
@@ -41,7 +44,19 @@ pub fn reply_to(alloc: Global, cause: &Cause) -> Result<Reply, AllocError>
 {
     match cause {
         Cause::Valid => with_texts(alloc, Status::Done, b"valid\n", b""),
-        Cause::NotValid => with_texts(alloc, Status::NotValid, b"not valid\n", b""),
+        Cause::NotValid(line) => with_texts(alloc, Status::NotValid, line.as_slice(), b""),
+        Cause::CertificateRefused(fault) => {
+            let line = certificate_fault_line(alloc, fault)?;
+            with_texts(alloc, Status::CertificateRefused, b"", line.as_slice())
+        }
+        Cause::Shown(protocol) => {
+            let text = print(alloc, protocol)?;
+            with_texts(alloc, Status::Done, text.as_slice(), b"")
+        }
+        Cause::ProtocolRefused(refusal) => {
+            let line = refusal_line(alloc, refusal)?;
+            with_texts(alloc, Status::ProtocolRefused, b"", line.as_slice())
+        }
         Cause::ReadFault(name) => {
             let line = line_with_name(alloc, b"armc: read fault: ", name.as_str())?;
             with_texts(alloc, Status::ReadFault, b"", line.as_slice())

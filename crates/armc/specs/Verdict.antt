@@ -1,0 +1,72 @@
+-- How the judgement of a certificate is told.
+use Rattle.std.specs.Prelude.{◌≡◌, ◌≢◌, ℕ, List, [], ◌++◌, IsTrue, codes, decimal, slice_get}
+use Rattle.std.specs.Option.{option_map_or}
+use Rattle.protocol_model.specs.System.{SystemData}
+use Rattle.protocol_model.specs.Patterns.{fits}
+use Rattle.protocol_model.specs.Runs.{IsBadRun}
+use Rattle.configuration_words.specs.Texts.{configuration_text}
+use Rattle.certificate.specs.declared.fault.CertFault.{CertFault}
+use Rattle.certificate.specs.declared.fault.CertFault.TheVariants as fault
+use Rattle.certificate.specs.declared.safe.Certificate.{Certificate}
+use Rattle.certificate.specs.declared.safe.Certificate.TheVariants as certificate
+use Rattle.certificate_checker.specs.Proof.{Proves, IsSafe}
+use Rattle.certificate_checker.specs.declared.answer.Answer.{Answer}
+use Rattle.certificate_checker.specs.declared.answer.Answer.TheVariants.{Valid, InitialMissing, BadHeld, Leaves, NotInitial, NotStep, NotBad}
+use Rattle.armc.specs.Line.{line}
+use Rattle.armc.specs.declared.cause.Cause.{Cause}
+use Rattle.armc.specs.declared.cause.Cause.TheVariants as cause
+
+-- the text begins with the line of a run
+abbrev pub IsRunText : List ℕ → Type 0
+IsRunText text = (rest : List ℕ) × (text ≡ codes "armc 1 unsafe\n" ++ rest)
+
+-- the certificate shows the system safe by an automaton that proves it, or not safe by a bad run
+abbrev pub IsProofOf : SystemData → Certificate → Type 0
+IsProofOf s (certificate.Automaton m) = Proves s m × IsSafe s
+IsProofOf s (certificate.BadRun run) = IsBadRun s run
+
+-- the name of the rule of this number; none where there is no such rule
+abbrev pub rule_name : SystemData → ℕ → List ℕ
+rule_name s r = option_map_or (λ rule. rule.name) (slice_get s.rules r) []
+
+-- what is said of a certificate, by the first part of its judgement that fails
+abbrev pub answer_text : SystemData → Answer → List ℕ
+answer_text s Valid = codes "valid"
+answer_text s (InitialMissing c) = codes "not valid: initial missing: " ++ configuration_text s c
+answer_text s (BadHeld c) = codes "not valid: bad held: " ++ configuration_text s c
+answer_text s (Leaves r c d) = codes "not valid: leaves by " ++ rule_name s r ++ codes ": " ++ configuration_text s c ++ codes " -> " ++ configuration_text s d
+answer_text s NotInitial = codes "not valid: not initial"
+answer_text s (NotStep k) = codes "not valid: not step: " ++ decimal k
+answer_text s NotBad = codes "not valid: not bad"
+
+-- the configurations that the answer shows fit the system
+abbrev pub ShowsFitting : SystemData → Answer → Type 0
+ShowsFitting s Valid = Unit {0}
+ShowsFitting s (InitialMissing c) = IsTrue (fits s c)
+ShowsFitting s (BadHeld c) = IsTrue (fits s c)
+ShowsFitting s (Leaves r c d) = IsTrue (fits s c) × IsTrue (fits s d)
+ShowsFitting s NotInitial = Unit {0}
+ShowsFitting s (NotStep k) = Unit {0}
+ShowsFitting s NotBad = Unit {0}
+
+-- the cause of an answer: it is that of a valid certificate, or has the line that says why the certificate is not valid
+abbrev pub IsCauseOfAnswer : SystemData → Answer → Cause → Type 0
+IsCauseOfAnswer s found cause.Valid = found ≡ Valid
+IsCauseOfAnswer s found (cause.NotValid text) = (found ≢ Valid) × (text ≡ line (answer_text s found))
+IsCauseOfAnswer s found _ = ⊥
+
+-- a fault of a certificate at the line of this number
+abbrev pub in_certificate : ℕ → List ℕ → List ℕ
+in_certificate n text = codes "armc: certificate: line " ++ decimal n ++ codes ": " ++ text
+
+-- how the fault of a certificate is told; want of memory is no fault of a text
+abbrev pub fault_text : CertFault → List ℕ
+fault_text (fault.Version n) = in_certificate n (codes "version")
+fault_text (fault.BadLine n) = in_certificate n (codes "bad line")
+fault_text (fault.UnknownName n) = in_certificate n (codes "unknown name")
+fault_text (fault.OutOfRange n) = in_certificate n (codes "out of range")
+fault_text (fault.TwoEdges n) = in_certificate n (codes "two edges")
+fault_text (fault.Truncated n) = in_certificate n (codes "truncated")
+fault_text (fault.NothingToVerify n) = in_certificate n (codes "nothing to verify")
+fault_text (fault.TooMany n) = in_certificate n (codes "too many states")
+fault_text fault.Memory = []
