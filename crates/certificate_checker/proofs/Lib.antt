@@ -3,4 +3,3 @@ pub mod WordFacts
 pub mod Least
 pub mod Parts
 pub mod SingleWords
-pub mod Reading

@@ -10,6 +10,3 @@ mod single_word;
 pub use answer::Answer;
 pub use judgement::check_certificate;
 pub use law::proofs_are_sound;
-
-#[cfg(test)]
-mod tests;
