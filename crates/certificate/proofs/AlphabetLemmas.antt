@@ -1,6 +1,6 @@
 -- The texts of letters: where each stands, and that no two are the same.
 use Rattle.std.proofs.Common.{true, ◌&&◌, nat_lt, nat_le, ◌≡◌, ◌≢◌, ℕ, zero, suc, ◌+◌, ◌-◌, ◌<◌, ◌≤◌, ltb, List, [], ◌∷◌, ◌++◌, Option}
-use Rattle.std.proofs.Common.{Some, None, Vec}
+use Rattle.std.proofs.Common.{Some, None, Vec, is_none}
 use Rattle.std.proofs.Common.{length, map, slice_get, get_or, codes, IfSome, IsSome, IsTrue, Contains, AllPairs, refl, sym, ap}
 use Rattle.std.proofs.Common.{option_map, subst, ◌∙◌, arith, inl, inr, ◌⊎◌, flat_map}
 use Rattle.std.specs.List.{AllByRecursion, list_all}
@@ -14,7 +14,8 @@ use Rattle.std.proofs.lemmas.Option.{slice_get_within, unwrap_or-slice_get, same
 use Rattle.protocol_lexer.specs.Piece.{is_word_byte}
 use Rattle.protocol_model.specs.declared.system.Section.{Section}
 use Rattle.protocol_model.specs.System.{SystemData, letter_count, total_letters, IsValid, IsValidSection}
-use Rattle.protocol_model.specs.Names.{IsName}
+use Rattle.protocol_model.specs.Names.{is_word, IsWord, IsName}
+use Rattle.protocol_syntax.specs.Symbol.{keyword_of}
 use Rattle.protocol_model.specs.Words.{automata_letters}
 use Rattle.certificate.specs.Bytes.{Lacks}
 use Rattle.certificate.specs.SafeText.{letter_text}
@@ -198,16 +199,24 @@ letter_text-injective (section ∷ sections) h a b la lb e =
 no_word_byte : (b : ℕ) → b < 48 → IsTrue (is_word_byte b) → ⊥
 no_word_byte b low w = grind (arith, nat_tests)
 
--- a name lacks each byte before the digits
-word_lacks : (byte : ℕ) → byte < 48 → (name : List ℕ) → list_all is_word_byte name ≡ true → Lacks byte name
-word_lacks byte low [] w = tt
-word_lacks byte low (b ∷ name) w =
+-- word bytes are not before the digits
+bytes_lack : (byte : ℕ) → byte < 48 → (name : List ℕ) → list_all is_word_byte name ≡ true → Lacks byte name
+bytes_lack byte low [] w = tt
+bytes_lack byte low (b ∷ name) w =
     let parts = and_parts (is_word_byte b) (list_all is_word_byte name) w in
-    (λ e. no_word_byte b (omega arith) parts.0, word_lacks byte low name parts.1)
+    (λ e. no_word_byte b (omega arith) parts.0, bytes_lack byte low name parts.1)
 
-pub name_lacks : (byte : ℕ) → byte < 48 → (name : List ℕ) → IsName name → Lacks byte name
-name_lacks byte low name w =
-    word_lacks byte low name (and_parts (nat_lt 0 (length name) && nat_le (length name) 32) (list_all is_word_byte name) w).1
+-- a word lacks each byte before the digits
+pub word_lacks : (byte : ℕ) → byte < 48 → (word : List ℕ) → IsWord word → Lacks byte word
+word_lacks byte low word w =
+    bytes_lack byte low word (and_parts (nat_lt 0 (length word) && nat_le (length word) 32) (list_all is_word_byte word) w).1
+
+-- a name is a word
+name_is_word : (name : List ℕ) → IsName name → IsWord name
+name_is_word name w = (and_parts (is_word name) (is_none (keyword_of name)) w).0
+
+name_lacks : (byte : ℕ) → byte < 48 → (name : List ℕ) → IsName name → Lacks byte name
+name_lacks byte low name w = word_lacks byte low name (name_is_word name w)
 
 -- a system's names lack each byte that no name has
 pub IsValid-NamesLack : (s : SystemData) → IsValid s → (byte : ℕ) → byte < 48 → AllByRecursion (NamesLack byte) s.sections
@@ -252,7 +261,7 @@ letter_text-field (section ∷ sections) a h l =
       | inl first ↦
           let named = All-from_recursion IsName section.letters h.0.letters_named a [] first in
           subst IsLetterField (sym (letter_text-first section sections a first))
-          (inr (section.name, get_or section.letters a [], h.0.named, named, refl))
+          (inr (section.name, get_or section.letters a [], name_is_word section.name h.0.named, name_is_word _ named, refl))
       | inr later ↦
           subst IsLetterField (sym (letter_text-later section sections a later))
           (letter_text-field sections (a - letter_count section) h.1 (omega (arith, total_letters-cons section sections)))

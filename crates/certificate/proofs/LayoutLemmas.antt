@@ -2,7 +2,7 @@
 use Rattle.std.proofs.Common.{◌≡◌, ◌↔◌, ℕ, ◌<◌, ◌&&◌, Bool, IsTrue, List, [], ◌∷◌, ◌++◌, codes, sym, ap, subst, ◌∙◌, arith, inl, inr}
 use Rattle.std.proofs.lemmas.List.{append_assoc}
 use Rattle.std.proofs.lemmas.Bool.{and_parts, and_from}
-use Rattle.protocol_model.specs.Names.{is_name, IsName}
+use Rattle.protocol_model.specs.Names.{is_word, IsWord}
 use Rattle.protocol_model.specs.System.{SystemData}
 use Rattle.protocol_model.specs.Words.{automata_letters}
 use Rattle.certificate.specs.declared.lines.LineFault.{LineFault}
@@ -15,7 +15,7 @@ use Rattle.certificate.specs.Faults.{IsLetterField, HasNoLayout}
 use Rattle.certificate.specs.NextLine.{IsLetterFault, HasLineFault}
 use Rattle.certificate.proofs.TextLemmas.{Lacks-append, cut_unique, no_cut}
 use Rattle.certificate.proofs.NumberLemmas.{IsNumber-Lacks}
-use Rattle.certificate.proofs.AlphabetLemmas.{name_lacks}
+use Rattle.certificate.proofs.AlphabetLemmas.{word_lacks}
 use Rattle.certificate.proofs.LineLemmas.{edge_text, edge_cancel, final_cancel, final_is_no_edge, three_unique}
 
 -- a letter's field has no space
@@ -24,11 +24,11 @@ IsLetterField-no_space field (inl bar) = subst (Lacks 32) (sym bar) (omega arith
 IsLetterField-no_space field (inr dotted) =
     subst (Lacks 32) (sym dotted.4)
     (Lacks-append 32 (dotted.0 ++ codes ".") dotted.1
-    (Lacks-append 32 dotted.0 (codes ".") (name_lacks 32 (omega arith) dotted.0 dotted.2) (omega arith, tt))
-    (name_lacks 32 (omega arith) dotted.1 dotted.3))
+    (Lacks-append 32 dotted.0 (codes ".") (word_lacks 32 (omega arith) dotted.0 dotted.2) (omega arith, tt))
+    (word_lacks 32 (omega arith) dotted.1 dotted.3))
 
--- a letter's field that is cut at its dot has names on both sides
-pub IsLetterField-cut : (field section letter : List ℕ) → IsCutAt 46 field section letter → IsLetterField field → IsName section × IsName letter
+-- a letter's field that is cut at its dot has words on both sides
+pub IsLetterField-cut : (field section letter : List ℕ) → IsCutAt 46 field section letter → IsLetterField field → IsWord section × IsWord letter
 IsLetterField-cut field section letter cut (inl bar) = absurd (no_bar section letter (sym cut.joined ∙ bar))
   where
     no_bar : (a x : List ℕ) → a ++ 46 ∷ x ≡ 124 ∷ [] → ⊥
@@ -42,9 +42,9 @@ IsLetterField-cut field section letter cut (inl bar) = absurd (no_bar section le
         no_tail [] x e = absurd cc
         no_tail (d ∷ a) x e = absurd cc
 IsLetterField-cut field section letter cut (inr dotted) =
-    let same = cut_unique 46 section dotted.0 letter dotted.1 cut.first (name_lacks 46 (omega arith) dotted.0 dotted.2)
+    let same = cut_unique 46 section dotted.0 letter dotted.1 cut.first (word_lacks 46 (omega arith) dotted.0 dotted.2)
     (sym cut.joined ∙ dotted.4 ∙ append_assoc dotted.0 (codes ".") dotted.1) in
-    (subst IsName (sym same.0) dotted.2, subst IsName (sym same.1) dotted.3)
+    (subst IsWord (sym same.0) dotted.2, subst IsWord (sym same.1) dotted.3)
 
 -- a field without a dot is a letter's only if it is the bar
 pub IsLetterField-no_dot : (field : List ℕ) → Lacks 46 field → IsLetterField field → field ≡ codes "|"
@@ -52,20 +52,20 @@ IsLetterField-no_dot field lacks (inl bar) = bar
 IsLetterField-no_dot field lacks (inr dotted) =
     absurd (no_cut 46 dotted.0 dotted.1 (subst (Lacks 46) (dotted.4 ∙ append_assoc dotted.0 (codes ".") dotted.1) lacks))
 
--- names on both sides of a dot are a letter's field
-pub IsLetterField-from : (field section letter : List ℕ) → IsCutAt 46 field section letter → IsName section → IsName letter → IsLetterField field
+-- words on both sides of a dot are a letter's field
+pub IsLetterField-from : (field section letter : List ℕ) → IsCutAt 46 field section letter → IsWord section → IsWord letter → IsLetterField field
 IsLetterField-from field section letter cut one two =
     inr (section, letter, one, two, cut.joined ∙ sym (append_assoc section (codes ".") letter))
 
 pub IsLetterField-names : (field section letter : List ℕ) (r : Bool) → IsCutAt 46 field section letter
-    → r ≡ (is_name section && is_name letter) → IsTrue r ↔ IsLetterField field
+    → r ≡ (is_word section && is_word letter) → IsTrue r ↔ IsLetterField field
 IsLetterField-names field section letter r cut is = (
   λ e.
-      let both = and_parts (is_name section) (is_name letter) (sym is ∙ e) in
+      let both = and_parts (is_word section) (is_word letter) (sym is ∙ e) in
       IsLetterField-from field section letter cut both.0 both.1,
   λ laid_out.
       let both = IsLetterField-cut field section letter cut laid_out in
-      is ∙ and_from (is_name section) (is_name letter) both.0 both.1,
+      is ∙ and_from (is_word section) (is_word letter) both.0 both.1,
 )
 
 -- what is no number after `final ` has no layout

@@ -2,7 +2,7 @@
 use Rattle.std.specs.Prelude.{◌≡◌, ◌≢◌, ◌⊎◌, ℕ, ◌+◌, ◌<◌, ◌≤◌, List, [], ◌∷◌, ◌++◌, AllPairs, Contains, length, codes}
 use Rattle.std.specs.List.{AllByRecursion}
 use Rattle.std.specs.Str.Parse.{digits_value}
-use Rattle.protocol_model.specs.Names.{IsName}
+use Rattle.protocol_model.specs.Names.{IsWord}
 use Rattle.protocol_model.specs.System.{SystemData}
 use Rattle.protocol_model.specs.Words.{automata_letters}
 use Rattle.certificate.specs.declared.fault.CertFault.{CertFault}
@@ -19,11 +19,11 @@ use Rattle.certificate.specs.Reading.{IsFinalLine, IsEdgeLine, lines_text, openi
 abbrev pub IsNotUnsafe : List ℕ → Type 0
 IsNotUnsafe text = (rest : List ℕ) → text ≡ codes "armc 1 unsafe" ++ 10 ∷ rest → ⊥
 
--- the bytes are laid out as a letter: `|`, or two names with a dot between them
+-- the bytes are laid out as a letter: `|`, or two words, reserved or not, with a dot between them
 abbrev pub IsLetterField : List ℕ → Type 0
 IsLetterField field =
     (field ≡ codes "|")
-    ⊎ ((section : List ℕ) × (letter : List ℕ) × IsName section × IsName letter × (field ≡ section ++ codes "." ++ letter))
+    ⊎ ((section : List ℕ) × (letter : List ℕ) × IsWord section × IsWord letter × (field ≡ section ++ codes "." ++ letter))
 
 -- the bytes have neither layout of a line
 pub record HasNoLayout (line : List ℕ) : Type 0 where

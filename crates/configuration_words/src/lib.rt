@@ -4,10 +4,12 @@
 mod alphabet;
 mod decoding;
 mod encoding;
+mod fault;
 #[cfg(test)]
 mod tests;
 mod texts;
 
 pub use decoding::decode;
 pub use encoding::encode;
+pub use fault::ConfigFault;
 pub use texts::configuration_text;

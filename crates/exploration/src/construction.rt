@@ -55,7 +55,8 @@ fn begin<T: LanguageSystem>(
 ) -> Result<(), AllocError>
     requires none { found.old.keys ≡ [] }
     requires empty { builder.old ≡ empty_automaton (T.letter_count system.now) }
-    ensures { OnOk result (Explored (T.letter_count system.now) (T.accepted system.now) (T.language system.now) (T.is_state system.now) found.new.keys builder.new 0 []) }
+    ensures { OnOk result (Explored (T.letter_count system.now) (T.accepted system.now)
+        (T.language system.now) (T.is_state system.now) found.new.keys builder.new 0 []) }
 {
     match system.start(alloc)? {
         Some(start) => {
@@ -75,8 +76,10 @@ fn expand<T: LanguageSystem>(
     from: usize,
 ) -> Result<(), AllocError>
     requires there { from < length found.old.keys }
-    requires before { Explored (T.letter_count system.now) (T.accepted system.now) (T.language system.now) (T.is_state system.now) found.old.keys builder.old from [] }
-    ensures { OnOk result (Explored (T.letter_count system.now) (T.accepted system.now) (T.language system.now) (T.is_state system.now) found.new.keys builder.new (from + 1) []) }
+    requires before { Explored (T.letter_count system.now) (T.accepted system.now)
+        (T.language system.now) (T.is_state system.now) found.old.keys builder.old from [] }
+    ensures { OnOk result (Explored (T.letter_count system.now) (T.accepted system.now)
+        (T.language system.now) (T.is_state system.now) found.new.keys builder.new (from + 1) []) }
 {
     let successors = system.successors(alloc, &found.as_slice()[from])?;
     'successors: for (letter, state) in successors {

@@ -43,7 +43,8 @@ pub trait LanguageSystem {
         state: &Self::State,
     ) -> Result<Vec<(u32, Self::State)>, AllocError>
         requires { is_state self.now state.now }
-        ensures { IfOk result (λ pairs. AreResiduals (letter_count self.now) (language self.now) (is_state self.now) state.now pairs.items) };
+        ensures { IfOk result (λ pairs. AreResiduals
+            (letter_count self.now) (language self.now) (is_state self.now) state.now pairs.items) };
 
     ghost equality: { (x y : Self.State) → Self.State.eq x y ≡ true → x ≡ y };
 }

@@ -16,7 +16,12 @@ struct AtMost {
 impl TransitionSystem for AtMost {
     type State = u8;
 
-    ghost system = { λ s. record { letters = 2; start = Some 0; step = λ n a. look_up ((0, n) ∷ (if nat_lt n s.limit then (1, n + 1) ∷ [] else [])) a; accepting = λ n. true } };
+    ghost system = { λ s. record {
+      letters = 2;
+      start = Some 0;
+      step = λ n a. look_up ((0, n) ∷ (if nat_lt n s.limit then (1, n + 1) ∷ [] else [])) a;
+      accepting = λ n. true;
+    } };
 
     ghost is_state = { λ s n. n < 256 };
 

@@ -65,7 +65,9 @@ impl Eq for Signature {
 impl Hash for Signature {
     ghost hash_input = { λ s. fed.usize s.class ++ fed.bool s.accepting ++ fed.slice (λ e. fed.u32 e.0 ++ fed.usize e.1) s.edges };
 
-    ghost respects_eq = { (same_Alike (λ s. fed.usize s.class ++ fed.bool s.accepting ++ fed.slice (λ e. fed.u32 e.0 ++ fed.usize e.1) s.edges) same_signature-decides).fed };
+    ghost respects_eq = { (same_Alike
+        (λ s. fed.usize s.class ++ fed.bool s.accepting ++ fed.slice (λ e. fed.u32 e.0 ++ fed.usize e.1) s.edges)
+        same_signature-decides).fed };
 
     fn hash<H: Hasher>(&self, state: &mut H) {
         self.class.hash(state);

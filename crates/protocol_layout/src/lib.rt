@@ -432,4 +432,6 @@ pub fn print(alloc: Global, protocol: &Protocol) -> Result<Vec<u8>, AllocError>
 }
 
 #[cfg(test)]
+mod language_tests;
+#[cfg(test)]
 mod tests;

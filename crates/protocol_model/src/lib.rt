@@ -12,6 +12,7 @@ mod sections;
 mod system;
 
 pub use fault::ModelFault;
+pub use names::{is_name, is_word};
 pub use resolution::resolve;
 pub use system::{Atom, Configuration, Guard, Move, Pattern, Row, Rule, Run, Section, System};
 

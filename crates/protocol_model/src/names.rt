@@ -1,10 +1,13 @@
 //! Names by number.
 
 ghost use Rattle.std.specs.Prelude.{◌≡◌, ◌+◌, ◌<◌, ◌≤◌, ℕ, List, [], ◌∷◌, ◌++◌, IfOk, length, map, not, None, Some, if◌then◌else◌};
-ghost use Rattle.std.specs.List.{list_any, position_or_len};
+ghost use Rattle.std.specs.List.{list_all, list_any, position_or_len};
 ghost use Rattle.std.specs.Str.{bytes_eq};
+ghost use Rattle.protocol_lexer.specs.Piece.{is_word_byte};
+ghost use Rattle.protocol_model.specs.Names.{is_name, is_word};
 
 use indexmap::IndexSet;
+use protocol_syntax::keyword_of;
 use std::alloc::{AllocError, Global};
 use std::marker::Model;
 
@@ -58,4 +61,24 @@ impl<'a> Names<'a> {
     {
         self.set.len() as u32
     }
+}
+
+/// Whether the text is a name: 1 to 32 bytes, each a letter of ASCII, a digit or `_`, and no reserved word. It takes no memory.
+pub fn is_name(text: &[u8]) -> bool
+    ensures { result ≡ is_name text.now }
+{
+    is_word(text) && keyword_of(text).is_none()
+}
+
+/// Whether the text is a word of 1 to 32 bytes, each a letter of ASCII, a digit or `_`, reserved or not. It takes no memory.
+pub fn is_word(text: &[u8]) -> bool
+    ensures { result ≡ is_word text.now }
+{
+    !text.is_empty() && text.len() <= 32 && text.iter().all(|b| is_word_byte(*b))
+}
+
+fn is_word_byte(b: u8) -> bool
+    ensures { result ≡ is_word_byte b }
+{
+    (b >= b'A' && b <= b'Z') || (b >= b'a' && b <= b'z') || (b >= b'0' && b <= b'9') || b == b'_'
 }

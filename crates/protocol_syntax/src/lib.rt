@@ -14,7 +14,5 @@ pub use protocol::{
     AtomText, BaseText, GuardText, Kind, Many, MoveBody, MoveText, Name, PartText, Protocol,
     Region, RowText, RuleText, SectionText,
 };
+pub use symbol::{Keyword, keyword_of};
 pub use whole::parse;
-
-#[cfg(test)]
-mod tests;

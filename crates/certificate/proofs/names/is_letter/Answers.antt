@@ -5,7 +5,7 @@ use Rattle.certificate.proofs.names.is_letter.Goals as goal
 
 pub returns-in-Some : goal.returns-in-Some
 returns-in-Some c =
-    IsLetterField-names c.args.field.now c.in-Some.section.now c.in-Some.letter.now c.are_names.result c.in-Some.ensures c.are_names.ensures
+    IsLetterField-names c.args.field.now c.in-Some.section.now c.in-Some.letter.now c.are_words.result c.in-Some.ensures c.are_words.ensures
 
 pub returns-in-None : goal.returns-in-None
 returns-in-None c = (

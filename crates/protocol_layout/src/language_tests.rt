@@ -1,4 +1,6 @@
-use super::*;
+//! Texts at each limit of the language and past it, and first wrong places.
+
+use protocol_syntax::parse;
 use std::alloc::Global;
 use std::test::Fail;
 
