@@ -75,6 +75,8 @@ caused words before after file name s c answer (cause.NotValid text) asked has m
 caused words before after file name s c answer (cause.CertificateRefused fault) asked has means is found = absurd found
 caused words before after file name s c answer (cause.Shown p) asked has means is found = absurd found
 caused words before after file name s c answer (cause.ProtocolRefused refusal) asked has means is found = absurd found
+caused words before after file name s c answer (cause.Listed text) asked has means is found = absurd found
+caused words before after file name s c answer (cause.ConfigurationRefused fault) asked has means is found = absurd found
 caused words before after file name s c answer (cause.ReadFault other) asked has means is found = absurd found
 caused words before after file name s c answer (cause.TooLong other) asked has means is found = absurd found
 caused words before after file name s c answer cause.NotBuilt asked has means is found = absurd found
