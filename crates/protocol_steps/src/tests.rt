@@ -7,7 +7,9 @@ ghost use Rattle.protocol_model.specs.Names.{IsName};
 ghost use Rattle.protocol_model.specs.System.{IsValidSection};
 
 use crate::{RunAnswer, check_run, fits, is_bad, is_initial, is_step, successors};
-use protocol_model::{Atom, Configuration, Move, Pattern, Row, Rule, Run, Section, System, is_name};
+use protocol_model::{
+    Atom, Configuration, Move, Pattern, Row, Rule, Run, Section, System, is_name,
+};
 use protocol_syntax::{Kind, Many};
 use sequence::{Sequence, Text};
 use std::alloc::{AllocError, Global};
