@@ -1,15 +1,5 @@
-pub mod Bools
-pub mod Lists
-pub mod Simulation
 pub mod Fitting
-pub mod ExtentLemmas
-pub mod OneMove
-pub mod TwoMove
-pub mod TestedMove
-pub mod EndMove
 pub mod RunLemmas
-pub mod Gathered
-pub mod Positions
 pub mod StepLemmas
 pub mod OptionLemmas
 pub mod Combined

@@ -1,17 +1,11 @@
-//! Which configurations fit a system, which are initial and which are bad.
+//! Which configurations fit a system, which are initial and which are bad; steps, the check of a run, and all successors.
 #![tactic(auto)]
 
 mod all_steps;
 mod combinations;
 mod configurations;
-mod extent;
-mod letter_list;
-mod moves;
 mod options;
-mod patterns;
-#[cfg(test)]
-mod plain;
-mod results;
+mod rows;
 mod runs;
 mod steps;
 #[cfg(test)]
@@ -19,6 +13,6 @@ mod tests;
 
 pub use all_steps::successors;
 pub use configurations::fits;
-pub use patterns::{is_bad, is_initial};
+pub use rows::{is_bad, is_initial};
 pub use runs::{RunAnswer, check_run};
 pub use steps::is_step;

@@ -2,7 +2,7 @@
 
 ghost use Rattle.protocol_steps.specs.Answers.{IsRunAnswer};
 
-use crate::patterns::{is_bad, is_initial};
+use crate::rows::{is_bad, is_initial};
 use crate::steps::is_step;
 use protocol_model::{Run, System};
 

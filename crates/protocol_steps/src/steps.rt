@@ -2,14 +2,14 @@
 
 ghost use Rattle.std.specs.Prelude.{◌≡◌, ◌<◌, ◌↔◌, ℕ, IsTrue, option_copied};
 ghost use Rattle.std.specs.List.{AllByRecursion};
-ghost use Rattle.protocol_steps.specs.Limits.{HasFewGuards};
+ghost use Rattle.protocol_moves.specs.Limits.{HasFewGuards};
 ghost use Rattle.protocol_model.specs.Patterns.{list_at as list_of};
 ghost use Rattle.protocol_model.specs.Steps.{move_of, ChangesBy, IsStep};
 
 use crate::configurations::fits;
-use crate::moves::{is_equal, is_move};
-use crate::patterns::list_at;
+use crate::rows::list_at;
 use protocol_model::{Configuration, Move, System};
+use protocol_moves::{is_equal, is_move};
 
 /// Whether the list of a section changes by the rule's move of the section, or stays where the rule has none.
 fn section_changes(moves: &[(u32, Move)], section: u32, old: &[u32], new: &[u32]) -> bool

@@ -1,0 +1,118 @@
+-- Moves at the ends of lists.
+use Rattle.std.proofs.Common.{◌≡◌, ◌==◌, ◌↔◌, ℕ, suc, ◌≤◌, Bool, true, false, List, [], ◌∷◌, ◌++◌, length, refl, ap, sym, ◌∙◌, ◌&&◌, arith, Decides, take, drop}
+use Rattle.std.proofs.lemmas.Bool.Decides.{Decides-eqb}
+use Rattle.std.proofs.lemmas.List.{take-append-drop}
+use Rattle.std.proofs.Math.Seq.{take-append_seam, drop-append_seam}
+use Rattle.protocol_model.specs.Moves.{IsRingMove}
+use Rattle.protocol_moves.proofs.Bools.{and_first, and_second, both_hold}
+
+pub never : {P : Type 0} → (P → ⊥) → (false ≡ true) ↔ P
+never h = (λ e. absurd (false_true e), λ p. absurd (h p))
+  where
+    false_true : false ≡ true → ⊥
+    false_true e = cc
+
+head_of : (x y : ℕ) (xs ys : List ℕ) → x ∷ xs ≡ y ∷ ys → x ≡ y
+head_of x y xs ys e = cc
+
+tail_of : (x y : ℕ) (xs ys : List ℕ) → x ∷ xs ≡ y ∷ ys → xs ≡ ys
+tail_of x y xs ys e = cc
+
+pub length_last : (xs : List ℕ) (x : ℕ) → length (xs ++ x ∷ []) ≡ suc (length xs)
+length_last [] x = refl
+length_last (y ∷ xs) x = ap suc (length_last xs x)
+
+pub not_empty : (xs : List ℕ) (x : ℕ) → length (xs ++ x ∷ []) ≡ 0 → ⊥
+not_empty xs x h = omega (arith, length_last xs x)
+
+pub last_injective : (xs ys : List ℕ) (x y : ℕ) → xs ++ x ∷ [] ≡ ys ++ y ∷ [] → (xs ≡ ys) × (x ≡ y)
+last_injective [] [] x y e = (refl, head_of x y [] [] e)
+last_injective [] (z ∷ ys) x y e = absurd (not_empty ys y (ap length (sym (tail_of x z [] (ys ++ y ∷ []) e))))
+last_injective (z ∷ xs) [] x y e = absurd (not_empty xs x (ap length (tail_of z y (xs ++ x ∷ []) [] e)))
+last_injective (w ∷ xs) (z ∷ ys) x y e =
+    let rest = last_injective xs ys x y (tail_of w z (xs ++ x ∷ []) (ys ++ y ∷ []) e) in
+    (ap (λ v. v ∷ xs) (head_of w z (xs ++ x ∷ []) (ys ++ y ∷ []) e) ∙ ap (λ vs. z ∷ vs) rest.0, rest.1)
+
+eq_of : (x y : ℕ) → (x == y) ≡ true → x ≡ y
+eq_of x y h = (Decides-eqb x y).0 h
+
+to_eq : (x y : ℕ) → x ≡ y → (x == y) ≡ true
+to_eq x y h = (Decides-eqb x y).1 h
+
+-- the ends of a ring
+
+pub ring_is : (a b c d : ℕ) (old new old_rest new_rest old_between new_between : List ℕ) (x y u v : ℕ) (e : Bool) →
+    old ≡ x ∷ old_rest → new ≡ y ∷ new_rest → old_rest ≡ old_between ++ u ∷ [] → new_rest ≡ new_between ++ v ∷ [] →
+    Decides e (old_between ≡ new_between) →
+    (((((x == b) && (y == d)) && ((u == a) && (v == c))) && e) ≡ true) ↔ IsRingMove a b c d old new
+ring_is a b c d old new old_rest new_rest old_between new_between x y u v e o n s t w = (there, back)
+  where
+    there : ((((x == b) && (y == d)) && ((u == a) && (v == c))) && e) ≡ true → IsRingMove a b c d old new
+    there h =
+        let ends = and_first (((x == b) && (y == d)) && ((u == a) && (v == c))) e h in
+        let firsts = and_first ((x == b) && (y == d)) ((u == a) && (v == c)) ends in
+        let lasts = and_second ((x == b) && (y == d)) ((u == a) && (v == c)) ends in
+        let same = w.0 (and_second (((x == b) && (y == d)) && ((u == a) && (v == c))) e h) in
+        record {
+          between = old_between;
+          was = o ∙ ap (λ z. z ∷ old_rest) (eq_of x b (and_first (x == b) (y == d) firsts)) ∙ ap (λ zs. b ∷ zs) s
+              ∙ ap (λ z. b ∷ (old_between ++ z ∷ [])) (eq_of u a (and_first (u == a) (v == c) lasts));
+          becomes = n ∙ ap (λ z. z ∷ new_rest) (eq_of y d (and_second (x == b) (y == d) firsts)) ∙ ap (λ zs. d ∷ zs) t
+              ∙ ap (λ z. d ∷ (new_between ++ z ∷ [])) (eq_of v c (and_second (u == a) (v == c) lasts))
+              ∙ ap (λ zs. d ∷ (zs ++ c ∷ [])) (sym same);
+        }
+
+    back : IsRingMove a b c d old new → ((((x == b) && (y == d)) && ((u == a) && (v == c))) && e) ≡ true
+    back m =
+        let old_is : x ∷ old_rest ≡ b ∷ (m.between ++ a ∷ []) = sym o ∙ m.was in
+        let new_is : y ∷ new_rest ≡ d ∷ (m.between ++ c ∷ []) = sym n ∙ m.becomes in
+        let old_last = last_injective old_between m.between u a (sym s ∙ tail_of x b old_rest (m.between ++ a ∷ []) old_is) in
+        let new_last = last_injective new_between m.between v c (sym t ∙ tail_of y d new_rest (m.between ++ c ∷ []) new_is) in
+        both_hold (((x == b) && (y == d)) && ((u == a) && (v == c))) e
+        (both_hold ((x == b) && (y == d)) ((u == a) && (v == c))
+        (both_hold (x == b) (y == d) (to_eq x b (head_of x b old_rest (m.between ++ a ∷ []) old_is)) (to_eq y d (head_of y d new_rest (m.between ++ c ∷ []) new_is)))
+        (both_hold (u == a) (v == c) (to_eq u a old_last.1) (to_eq v c new_last.1)))
+        (w.1 (old_last.0 ∙ sym new_last.0))
+
+pub ring_old_empty : (a b c d : ℕ) (old new : List ℕ) → length old ≡ 0 → IsRingMove a b c d old new → ⊥
+ring_old_empty a b c d old new h m =
+    let long : length old ≡ suc (length (m.between ++ a ∷ [])) = ap length m.was in omega (arith, long, h)
+
+pub ring_new_empty : (a b c d : ℕ) (old new : List ℕ) → length new ≡ 0 → IsRingMove a b c d old new → ⊥
+ring_new_empty a b c d old new h m =
+    let long : length new ≡ suc (length (m.between ++ c ∷ [])) = ap length m.becomes in omega (arith, long, h)
+
+pub ring_old_single : (a b c d x : ℕ) (old new rest : List ℕ) → old ≡ x ∷ rest → length rest ≡ 0 → IsRingMove a b c d old new → ⊥
+ring_old_single a b c d x old new rest o h m =
+    not_empty m.between a (ap length (sym (tail_of x b rest (m.between ++ a ∷ []) (sym o ∙ m.was))) ∙ h)
+
+pub ring_new_single : (a b c d y : ℕ) (old new rest : List ℕ) → new ≡ y ∷ rest → length rest ≡ 0 → IsRingMove a b c d old new → ⊥
+ring_new_single a b c d y old new rest n h m =
+    not_empty m.between c (ap length (sym (tail_of y d rest (m.between ++ c ∷ []) (sym n ∙ m.becomes))) ∙ h)
+
+-- a letter at an end
+
+pub first_is : (a x : ℕ) (list rest below : List ℕ) (e : Bool) → list ≡ x ∷ rest → Decides e (rest ≡ below) →
+    (((x == a) && e) ≡ true) ↔ (list ≡ a ∷ below)
+first_is a x list rest below e l w = (
+  λ h. l ∙ ap (λ z. z ∷ rest) (eq_of x a (and_first (x == a) e h)) ∙ ap (λ zs. a ∷ zs) (w.0 (and_second (x == a) e h)),
+  λ m. both_hold (x == a) e (to_eq x a (head_of x a rest below (sym l ∙ m))) (w.1 (tail_of x a rest below (sym l ∙ m))),
+)
+
+pub last_is : (a x : ℕ) (list rest below : List ℕ) (e : Bool) → list ≡ rest ++ x ∷ [] → Decides e (rest ≡ below) →
+    (((x == a) && e) ≡ true) ↔ (list ≡ below ++ a ∷ [])
+last_is a x list rest below e l w = (
+  λ h. l ∙ ap (λ z. rest ++ z ∷ []) (eq_of x a (and_first (x == a) e h)) ∙ ap (λ zs. zs ++ a ∷ []) (w.0 (and_second (x == a) e h)),
+  λ m. both_hold (x == a) e (to_eq x a (last_injective rest below x a (sym l ∙ m)).1) (w.1 (last_injective rest below x a (sym l ∙ m)).0),
+)
+
+pub joined_is : (first second list : List ℕ) (d e : Bool) → length first ≤ length list →
+    Decides d (take (length first) list ≡ first) → Decides e (drop (length first) list ≡ second) →
+    ((d && e) ≡ true) ↔ (list ≡ first ++ second)
+joined_is first second list d e h v w = (
+  λ k. sym (take-append-drop (length first) list) ∙ ap (λ zs. zs ++ drop (length first) list) (v.0 (and_first d e k))
+      ∙ ap (λ zs. first ++ zs) (w.0 (and_second d e k)),
+  λ m. both_hold d e
+      (v.1 (ap (take (length first)) m ∙ take-append_seam first second))
+      (w.1 (ap (drop (length first)) m ∙ drop-append_seam first second)),
+)

@@ -1,0 +1,10 @@
+pub mod Bools
+pub mod Lists
+pub mod Simulation
+pub mod ExtentLemmas
+pub mod OneMove
+pub mod TwoMove
+pub mod TestedMove
+pub mod EndMove
+pub mod Gathered
+pub mod Positions

@@ -1,0 +1,7 @@
+use Rattle.std.proofs.Common.{map}
+use Rattle.protocol_moves.specs.Extents.{is_hit}
+use Rattle.protocol_moves.proofs.ExtentLemmas.{IsExtentTo}
+use Rattle.protocol_moves.proofs.moves.guard_extent.Given as goal
+
+abbrev pub invariant-loop-i : goal.invariant-loop-i
+invariant-loop-i l = IsExtentTo (map (is_hit l.guard) l.list) l.i l.extent.first l.extent.last

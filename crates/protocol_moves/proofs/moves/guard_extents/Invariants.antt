@@ -1,0 +1,7 @@
+use Rattle.std.proofs.Common.{◌≡◌, take, length}
+use Rattle.protocol_moves.specs.Extents.{HaveExtents}
+use Rattle.protocol_moves.proofs.moves.guard_extents.Given as goal
+
+-- the guards before k have their extents
+abbrev pub invariant-loop-k : goal.invariant-loop-k
+invariant-loop-k l = HaveExtents (take l.k l.guards) l.extents l.list × (length l.extents ≡ 4)

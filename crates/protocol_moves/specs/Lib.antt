@@ -1,0 +1,4 @@
+pub mod Simulation
+pub mod Extents
+pub mod Limits
+pub mod Results

@@ -1,0 +1,17 @@
+//! Moves and patterns on one list of letters: which lists a pattern matches, and from which list a move leads to which.
+#![tactic(auto)]
+
+mod extent;
+mod letter_list;
+mod moves;
+mod patterns;
+#[cfg(test)]
+mod plain;
+mod results;
+#[cfg(test)]
+mod tests;
+
+pub use letter_list::LetterList;
+pub use moves::{is_equal, is_move};
+pub use patterns::atoms_match;
+pub use results::{copied, move_results};

@@ -1,7 +1,0 @@
-use Rattle.std.proofs.Common.{map}
-use Rattle.protocol_steps.specs.Extents.{is_hit}
-use Rattle.protocol_steps.proofs.ExtentLemmas.{IsExtentTo}
-use Rattle.protocol_steps.proofs.moves.guard_extent.Given as goal
-
-abbrev pub invariant-loop-i : goal.invariant-loop-i
-invariant-loop-i l = IsExtentTo (map (is_hit l.guard) l.list) l.i l.extent.first l.extent.last
