@@ -44,11 +44,26 @@ const FAULTS: [(&str, &str); 17] = [
     ("armc 1 safe\nstates 01\nend\n", "line 2: bad line"),
     ("armc 1 safe\nstates 1000001\n", "line 2: too many states"),
     ("armc 1 safe\nstates 1\nedge 0 P. 0\n", "line 3: bad line"),
-    ("armc 1 safe\nstates 1\nedge 0 P.z 0\n", "line 3: unknown name"),
-    ("armc 1 safe\nstates 1\nedge 0 cell.at 0\n", "line 3: unknown name"),
-    ("armc 1 safe\nstates 1\nedge 0 P.n 1\n", "line 3: out of range"),
-    ("armc 1 safe\nstates 1\nfinal 99999999999999999999\n", "line 3: out of range"),
-    ("armc 1 safe\nstates 1\nedge 0 P.n 0\nedge 0 P.n 0\n", "line 4: two edges"),
+    (
+        "armc 1 safe\nstates 1\nedge 0 P.z 0\n",
+        "line 3: unknown name",
+    ),
+    (
+        "armc 1 safe\nstates 1\nedge 0 cell.at 0\n",
+        "line 3: unknown name",
+    ),
+    (
+        "armc 1 safe\nstates 1\nedge 0 P.n 1\n",
+        "line 3: out of range",
+    ),
+    (
+        "armc 1 safe\nstates 1\nfinal 99999999999999999999\n",
+        "line 3: out of range",
+    ),
+    (
+        "armc 1 safe\nstates 1\nedge 0 P.n 0\nedge 0 P.n 0\n",
+        "line 4: two edges",
+    ),
     ("armc 1 safe\nstates 1\nedge 0 P", "line 3: truncated"),
     ("armc 1 safe\nstates 1\nfinal 0\nend", "line 4: truncated"),
     ("armc 1 safe\nstates 1\nend\n\n", "line 4: bad line"),
@@ -90,6 +105,9 @@ fn writes_what_it_reads(rt: HostRuntime) -> Result<(), Fail> {
         assert!(rt; false, "refused");
     }
     let budget = write_unknown(alloc, 17, 16)?;
-    assert_eq!(rt; budget.as_slice(), b"armc 1 unknown\ncounted 17\nbudget 16\nend\n".as_slice());
+    assert_eq!(rt;
+        budget.as_slice(),
+        b"armc 1 unknown\ncounted 17\nbudget 16\nend\n".as_slice()
+    );
     Ok(())
 }
