@@ -261,7 +261,7 @@ letter_text-field (section ∷ sections) a h l =
       | inl first ↦
           let named = All-from_recursion IsName section.letters h.0.letters_named a [] first in
           subst IsLetterField (sym (letter_text-first section sections a first))
-          (inr (section.name, get_or section.letters a [], name_is_word section.name h.0.named, name_is_word _ named, refl))
+          (inr (section.name, get_or section.letters a [], name_is_word section.name h.0.named, name_is_word (get_or section.letters a []) named, refl))
       | inr later ↦
           subst IsLetterField (sym (letter_text-later section sections a later))
           (letter_text-field sections (a - letter_count section) h.1 (omega (arith, total_letters-cons section sections)))

@@ -11,6 +11,7 @@ mod OpeningLemmas
 mod ReadingLemmas
 mod SafeTextLemmas
 mod SameAutomatonLemmas
+mod TestLemmas
 mod TextLemmas
 mod WritingLemmas
 mod WrittenLemmas

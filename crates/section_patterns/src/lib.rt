@@ -9,6 +9,8 @@ mod patterns;
 mod rows;
 mod sections;
 mod states;
+#[cfg(test)]
+mod tests;
 
 ghost use Rattle.std.specs.Prelude.{◌≡◌, ◌↔◌, ℕ, List, IfOk, IsTrue};
 ghost use Rattle.word_automata.specs.Automaton.{accepts};

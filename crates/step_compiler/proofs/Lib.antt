@@ -1,3 +1,4 @@
-mod SectionLemmas
-mod WordLemmas
 mod RuleLemmas
+mod SectionLemmas
+mod TestLemmas
+mod WordLemmas
