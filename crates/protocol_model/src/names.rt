@@ -74,7 +74,13 @@ pub fn is_name(text: &[u8]) -> bool
 pub fn is_word(text: &[u8]) -> bool
     ensures { result ≡ is_word text.now }
 {
-    !text.is_empty() && text.len() <= 32 && text.iter().all(|b| is_word_byte(*b))
+    !text.is_empty() && text.len() <= 32 && has_word_bytes(text)
+}
+
+fn has_word_bytes(text: &[u8]) -> bool
+    ensures { result ≡ list_all is_word_byte text.now }
+{
+    text.iter().all(|b| is_word_byte(*b))
 }
 
 fn is_word_byte(b: u8) -> bool
