@@ -74,10 +74,10 @@ pub fn is_name(text: &[u8]) -> bool
 pub fn is_word(text: &[u8]) -> bool
     ensures { result ≡ is_word text.now }
 {
-    !text.is_empty() && text.len() <= 32 && has_word_bytes(text)
+    !text.is_empty() && text.len() <= 32 && are_word_bytes(text)
 }
 
-fn has_word_bytes(text: &[u8]) -> bool
+fn are_word_bytes(text: &[u8]) -> bool
     ensures { result ≡ list_all is_word_byte text.now }
 {
     text.iter().all(|b| is_word_byte(*b))
