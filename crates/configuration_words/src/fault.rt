@@ -1,6 +1,10 @@
 //! Why a text is no configuration.
 
+ghost use Rattle.std.specs.Prelude.{◌≡◌};
+ghost use Rattle.configuration_words.specs.declared.fault.ConfigFault.TheVariants.{Memory};
+
 use protocol_lexer::Place;
+use std::alloc::AllocError;
 use thiserror::Error;
 
 /// The first fault of a text that is no configuration of a system.
@@ -15,4 +19,12 @@ pub enum ConfigFault {
     /// There is no memory for the configuration.
     #[error("out of memory")]
     Memory,
+}
+
+impl From<AllocError> for ConfigFault {
+    ghost from_gives = { λ _ e. e ≡ Memory };
+
+    fn from(_e: AllocError) -> ConfigFault {
+        ConfigFault::Memory
+    }
 }
