@@ -8,11 +8,11 @@ use thiserror::Error;
 pub enum ConfigFault {
     /// The byte at this place is the first outside a comment that begins no token.
     #[error("line {} column {}: bad byte", .place.line, .place.column)]
-    BadByte { place: Place } = 1,
+    BadByte { place: Place },
     /// The token at this place, or the end of the text, cannot stand there.
     #[error("line {} column {}: unexpected token", .place.line, .place.column)]
-    Unexpected { place: Place } = 2,
+    Unexpected { place: Place },
     /// There is no memory for the configuration.
     #[error("out of memory")]
-    Memory = 3,
+    Memory,
 }
