@@ -1,5 +1,5 @@
 -- From the cause and its delivery to what the whole call answers.
-use Rattle.std.proofs.Common.{◌≡◌, ◌⊎◌, inl, inr, ℕ, List, Some, sym, ◌∙◌, false, true}
+use Rattle.std.proofs.Common.{◌≡◌, ◌⊎◌, inl, inr, ℕ, List, Some, sym, ◌∙◌}
 use Rattle.armc_io.specs.Library.{LibraryState}
 use Rattle.armc_io.specs.Sink.{SinkState}
 use Rattle.word_automata.specs.Automaton.{Automaton}
@@ -8,9 +8,9 @@ use Rattle.certificate_checker.specs.Proof.{Proves, IsSafe}
 use Rattle.armc.specs.declared.status.Status.{Status}
 use Rattle.armc.specs.declared.status.Status.TheVariants as status
 use Rattle.armc.specs.declared.cause.Cause.{Cause}
-use Rattle.armc.specs.declared.cause.Cause.TheVariants.{Valid, NotValid, CertificateRefused, Shown, ProtocolRefused, ReadFault, TooLong, NotBuilt, Memory}
-use Rattle.armc.specs.Command.{Command, verify, show, command_of}
-use Rattle.armc.specs.Cause.{Told, IsCause, IsTold, IsJudged, IsValidFor}
+use Rattle.armc.specs.declared.cause.Cause.TheVariants.{Valid, NotValid, CertificateRefused, Shown, ProtocolRefused, Listed, ConfigurationRefused, ReadFault, TooLong, NotBuilt, Memory}
+use Rattle.armc.specs.Command.{verify, steps, show, command_of}
+use Rattle.armc.specs.Cause.{IsCause, IsTold, IsJudged, IsValidFor}
 use Rattle.armc.specs.Verdict.{IsProofOf}
 use Rattle.certificate.specs.declared.safe.Certificate.{Certificate}
 use Rattle.certificate.specs.declared.safe.Certificate.TheVariants as certificate
@@ -30,6 +30,11 @@ Answers-made words l l' o o' e e' result cause is which = elim which [
 not_show : (words : List (List ℕ)) (file certificate shown : List ℕ) → command_of words ≡ Some (verify file certificate)
     → command_of words ≡ Some (show shown) → ⊥
 not_show words file certificate shown e f = let h : Some (verify file certificate) ≡ Some (show shown) = sym e ∙ f in cc h
+
+not_steps : (words : List (List ℕ)) (file certificate other configuration : List ℕ) → command_of words ≡ Some (verify file certificate)
+    → command_of words ≡ Some (steps other configuration) → ⊥
+not_steps words file certificate other configuration e f =
+    let h : Some (verify file certificate) ≡ Some (steps other configuration) = sym e ∙ f in cc h
 
 -- a valid certificate is a proof, where proofs are sound
 IsProofOf-valid : ((s : SystemData) (m : Automaton) → Proves s m → IsSafe s) → (s : SystemData) (c : Certificate)
@@ -55,6 +60,8 @@ IsJudged-done sound words l l' (NotValid text) is file name asked e = absurd (cc
 IsJudged-done sound words l l' (CertificateRefused fault) is file name asked e = absurd (cc e)
 IsJudged-done sound words l l' (Shown p) is file name asked e = absurd (not_show words file name is.file asked is.asked)
 IsJudged-done sound words l l' (ProtocolRefused refusal) is file name asked e = absurd (cc e)
+IsJudged-done sound words l l' (Listed text) is file name asked e = absurd (not_steps words file name is.file is.configuration asked is.asked)
+IsJudged-done sound words l l' (ConfigurationRefused fault) is file name asked e = absurd (cc e)
 IsJudged-done sound words l l' (ReadFault fault) is file name asked e = absurd (cc e)
 IsJudged-done sound words l l' (TooLong fault) is file name asked e = absurd (cc e)
 IsJudged-done sound words l l' NotBuilt is file name asked e = absurd (cc e)
@@ -78,6 +85,8 @@ IsTold-quiet words l l' o o' e e' (NotValid text) quiet is = is
 IsTold-quiet words l l' o o' e e' (CertificateRefused fault) quiet is = is
 IsTold-quiet words l l' o o' e e' (Shown p) quiet is = is
 IsTold-quiet words l l' o o' e e' (ProtocolRefused refusal) quiet is = is
+IsTold-quiet words l l' o o' e e' (Listed text) quiet is = is
+IsTold-quiet words l l' o o' e e' (ConfigurationRefused fault) quiet is = is
 IsTold-quiet words l l' o o' e e' (ReadFault name) quiet is = quiet.library_quiet is.rose
 IsTold-quiet words l l' o o' e e' (TooLong name) quiet is = record {
   command = is.command;

@@ -3,3 +3,4 @@ pub mod Answered
 pub mod Allowed
 pub mod AnswerCauses
 pub mod Refused
+pub mod Successors

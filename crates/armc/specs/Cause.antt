@@ -14,12 +14,17 @@ use Rattle.certificate_checker.specs.declared.answer.Answer.{Answer}
 use Rattle.certificate_checker.specs.declared.answer.Answer.TheVariants as answer
 use Rattle.armc.specs.Line.{line}
 use Rattle.armc.specs.Verdict.{IsRunText, answer_text}
-use Rattle.armc.specs.Command.{Command, verify, show, command_of, file_of}
+use Rattle.armc.specs.Command.{Command, verify, steps, show, command_of, file_of}
+use Rattle.protocol_model.specs.declared.system.Configuration.{Configuration}
+use Rattle.protocol_steps.specs.Successors.{AreSuccessors}
+use Rattle.configuration_words.specs.declared.fault.ConfigFault.{ConfigFault}
+use Rattle.configuration_words.specs.ConfigurationText.{MeansConfiguration, IsFirstFault}
+use Rattle.armc.specs.Listing.{successors_text}
 use Rattle.armc.specs.Reading.{IsFaultless}
 use Rattle.armc.specs.Refusal.{IsRefusalOf}
 use Rattle.armc.specs.declared.refusal.Refusal.{Refusal}
 use Rattle.armc.specs.declared.cause.Cause.{Cause}
-use Rattle.armc.specs.declared.cause.Cause.TheVariants.{Valid, NotValid, CertificateRefused, Shown, ProtocolRefused, ReadFault, TooLong, NotBuilt, Memory}
+use Rattle.armc.specs.declared.cause.Cause.TheVariants.{Valid, NotValid, CertificateRefused, Shown, ProtocolRefused, Listed, ConfigurationRefused, ReadFault, TooLong, NotBuilt, Memory}
 
 -- the most bytes that a protocol and a certificate may have
 abbrev pub protocol_limit : ℕ
@@ -79,6 +84,28 @@ pub record IsShown (words : List (List ℕ)) (told : Told) (p : Protocol) : Type
   pub file : List ℕ
   pub asked : command_of words ≡ Some (show file)
   pub has_protocol : HasProtocol told file p
+
+-- the words are `steps FILE CONFIGURATION`, and these are the lines of the successors of the configuration in FILE's system
+pub record IsListed (words : List (List ℕ)) (told : Told) (text : List ℕ) : Type 0 where
+  pub file : List ℕ
+  pub configuration : List ℕ
+  pub system : SystemData
+  pub before : Configuration
+  pub pairs : List (ℕ × Configuration)
+  pub asked : command_of words ≡ Some (steps file configuration)
+  pub has_system : HasSystem told file system
+  pub means : MeansConfiguration system configuration before
+  pub are_successors : AreSuccessors system before pairs
+  pub text_is : text ≡ successors_text system pairs
+
+-- the words are `steps FILE CONFIGURATION`, FILE has a system, and this is the first fault of the configuration's text
+pub record HasConfigurationFault (words : List (List ℕ)) (told : Told) (fault : ConfigFault) : Type 0 where
+  pub file : List ℕ
+  pub configuration : List ℕ
+  pub system : SystemData
+  pub asked : command_of words ≡ Some (steps file configuration)
+  pub has_system : HasSystem told file system
+  pub refused : IsFirstFault system configuration fault
 
 -- FILE was read, and this is its first fault
 pub record HasRefusal (words : List (List ℕ)) (told : Told) (refusal : Refusal) : Type 0 where
@@ -152,6 +179,8 @@ IsCause words old new (NotValid text) = IsJudged words old.told (IsRefutedBy tex
 IsCause words old new (CertificateRefused fault) = HasCertificateFault words old.told fault
 IsCause words old new (Shown p) = IsShown words old.told p
 IsCause words old new (ProtocolRefused refusal) = HasRefusal words old.told refusal
+IsCause words old new (Listed text) = IsListed words old.told text
+IsCause words old new (ConfigurationRefused fault) = HasConfigurationFault words old.told fault
 IsCause words old new (ReadFault name) = IsReadFault words old new name
 IsCause words old new (TooLong name) = IsTooLong words old new name
 IsCause words old new NotBuilt = IsNotBuilt words old.told
@@ -172,6 +201,8 @@ IsTold words told (NotValid text) = IsJudged words told (IsRefutedBy text)
 IsTold words told (CertificateRefused fault) = HasCertificateFault words told fault
 IsTold words told (Shown p) = IsShown words told p
 IsTold words told (ProtocolRefused refusal) = HasRefusal words told refusal
+IsTold words told (Listed text) = IsListed words told text
+IsTold words told (ConfigurationRefused fault) = HasConfigurationFault words told fault
 IsTold words told (ReadFault name) = ⊥
 IsTold words told (TooLong name) = IsToldTooLong words told name
 IsTold words told NotBuilt = IsNotBuilt words told

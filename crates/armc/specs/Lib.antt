@@ -1,5 +1,6 @@
 pub mod Line
 pub mod Command
+pub mod Listing
 pub mod Refusal
 pub mod Reading
 pub mod Verdict

@@ -10,6 +10,8 @@ use Rattle.protocol_syntax.specs.Grammar.{IsProtocol, IsFirstFault}
 use Rattle.protocol_model.specs.declared.fault.ModelFault.{ModelFault}
 use Rattle.protocol_model.specs.declared.fault.ModelFault.TheVariants as model
 use Rattle.protocol_model.specs.Faults.{first_fault}
+use Rattle.configuration_words.specs.declared.fault.ConfigFault.{ConfigFault}
+use Rattle.configuration_words.specs.declared.fault.ConfigFault.TheVariants as configuration
 use Rattle.armc.specs.declared.refusal.Refusal.{Refusal}
 use Rattle.armc.specs.declared.refusal.Refusal.TheVariants.{Syntax, Model}
 
@@ -51,6 +53,12 @@ model_text (model.Unknown name) = in_protocol name.place (codes "unknown " ++ na
 model_text (model.TouchedTwice name) = in_protocol name.place (codes "touched twice " ++ name.text)
 model_text (model.WrongKind name) = in_protocol name.place (codes "wrong kind " ++ name.text)
 model_text model.Memory = []
+
+-- how the fault of a configuration is told; want of memory is no fault of a text
+abbrev pub configuration_refusal_text : ConfigFault → List ℕ
+configuration_refusal_text (configuration.BadByte place) = located (codes "configuration") place (codes "bad byte")
+configuration_refusal_text (configuration.Unexpected place) = located (codes "configuration") place (codes "unexpected token")
+configuration_refusal_text configuration.Memory = []
 
 -- how the fault of a protocol is told; want of memory is no fault of a text
 abbrev pub refusal_text : Refusal → List ℕ

@@ -1,6 +1,5 @@
 -- How the judgement of a certificate is told.
-use Rattle.std.specs.Prelude.{◌≡◌, ◌≢◌, ℕ, List, [], ◌++◌, IsTrue, codes, decimal, slice_get}
-use Rattle.std.specs.Option.{option_map_or}
+use Rattle.std.specs.Prelude.{◌≡◌, ◌≢◌, ℕ, List, [], ◌++◌, IsTrue, codes, decimal}
 use Rattle.protocol_model.specs.System.{SystemData}
 use Rattle.protocol_model.specs.Patterns.{fits}
 use Rattle.protocol_model.specs.Runs.{IsBadRun}
@@ -12,6 +11,7 @@ use Rattle.certificate.specs.declared.safe.Certificate.TheVariants as certificat
 use Rattle.certificate_checker.specs.Proof.{Proves, IsSafe}
 use Rattle.certificate_checker.specs.declared.answer.Answer.{Answer}
 use Rattle.certificate_checker.specs.declared.answer.Answer.TheVariants.{Valid, InitialMissing, BadHeld, Leaves, NotInitial, NotStep, NotBad}
+use Rattle.armc.specs.Listing.{rule_name}
 use Rattle.armc.specs.Line.{line}
 use Rattle.armc.specs.declared.cause.Cause.{Cause}
 use Rattle.armc.specs.declared.cause.Cause.TheVariants as cause
@@ -24,10 +24,6 @@ IsRunText text = (rest : List ℕ) × (text ≡ codes "armc 1 unsafe\n" ++ rest)
 abbrev pub IsProofOf : SystemData → Certificate → Type 0
 IsProofOf s (certificate.Automaton m) = Proves s m × IsSafe s
 IsProofOf s (certificate.BadRun run) = IsBadRun s run
-
--- the name of the rule of this number; none where there is no such rule
-abbrev pub rule_name : SystemData → ℕ → List ℕ
-rule_name s r = option_map_or (λ rule. rule.name) (slice_get s.rules r) []
 
 -- what is said of a certificate, by the first part of its judgement that fails
 abbrev pub answer_text : SystemData → Answer → List ℕ

@@ -1,5 +1,6 @@
 use crate::refusal::Refusal;
 use certificate::CertFault;
+use configuration_words::ConfigFault;
 use protocol_syntax::Protocol;
 use sequence::{Sequence, Text};
 
@@ -16,6 +17,10 @@ pub enum Cause {
     Shown(Protocol),
     /// The text of the protocol has this first fault.
     ProtocolRefused(Refusal),
+    /// The successors of the configuration are to be listed; this is the text of their lines.
+    Listed(Sequence<u8>),
+    /// The text of the configuration has this first fault.
+    ConfigurationRefused(ConfigFault),
     /// The text of this name could not be read.
     ReadFault(Text),
     /// The text of this name is longer than its limit.

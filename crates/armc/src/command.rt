@@ -11,6 +11,13 @@ pub enum Command<'a> {
         /// The name of the certificate's text.
         certificate: &'a str,
     },
+    /// List the successors of a configuration.
+    Steps {
+        /// The name of the protocol's text.
+        file: &'a str,
+        /// The text of the configuration.
+        configuration: &'a str,
+    },
     /// Print the protocol in its canonical layout.
     Show {
         /// The name of the protocol's text.
@@ -25,6 +32,7 @@ impl<'a> Command<'a> {
     {
         match self {
             Command::Verify { file, .. } => file,
+            Command::Steps { file, .. } => file,
             Command::Show { file } => file,
         }
     }
@@ -38,7 +46,7 @@ fn is_plain(word: &str) -> bool
     bytes.first() != Some(&b'-') && !bytes.is_empty() || bytes.len() == 1
 }
 
-// The command of this word on the texts of these two names.
+// The command of this word on a protocol and another text.
 fn command_on<'a>(word: &str, file: &'a str, other: &'a str) -> Option<Command<'a>>
     ensures { MatchOption result (command_on_words word.now file.now other.now ≡ None)
         (λ command. command_on_words word.now file.now other.now ≡ Some (said command)) }
@@ -48,13 +56,18 @@ fn command_on<'a>(word: &str, file: &'a str, other: &'a str) -> Option<Command<'
             file,
             certificate: other,
         })
+    } else if word == "steps" {
+        Some(Command::Steps {
+            file,
+            configuration: other,
+        })
     } else {
         None
     }
 }
 
-/// The command that the words mean: `verify FILE CERT` or `show FILE`, where each word after the first is plain: `-` alone, or not
-/// empty and without a `-` at its front.
+/// The command that the words mean: `verify FILE CERT`, `steps FILE CONFIGURATION` or `show FILE`, where each word after the first
+/// is plain: `-` alone, or not empty and without a `-` at its front.
 pub fn command_of(words: &[String]) -> Option<Command<'_>>
     ensures { MatchOption result (command_of_words (map string_bytes words.now) ≡ None)
         (λ command. command_of_words (map string_bytes words.now) ≡ Some (said command)) }

@@ -1,20 +1,23 @@
 ghost use Rattle.std.specs.Prelude.{◌≡◌, ◌≢◌, ◌⊎◌, ℕ, List, Some, None, map, string_bytes, IfOk, OnOk};
 ghost use Rattle.armc_io.specs.Library.{LibraryState};
 ghost use Rattle.protocol_model.specs.Numbering.{system_of};
-ghost use Rattle.armc.specs.Command.{verify, command_of as command_of_words, said, file_of};
+ghost use Rattle.armc.specs.Command.{verify, steps, command_of as command_of_words, said, file_of};
 ghost use Rattle.armc.specs.Cause.{IsCause, HasSystem, HasProtocol};
 ghost use Rattle.armc.specs.Judging.{IsEarlier, cause_of_read};
 
 use crate::cause::Cause;
 use crate::command::{Command, command_of};
+use crate::listing::successors_text;
 use crate::reading::{Reading, read_protocol};
 use crate::verdict::{cause_of_answer, is_run_text};
 use armc_io::{Library, ReadFail};
 use certificate::{CertFault, read};
 use certificate_checker::check_certificate;
+use configuration_words::{ConfigFault, read_configuration};
 use protocol_model::System;
+use protocol_steps::successors;
 use protocol_syntax::Protocol;
-use sequence::Text;
+use sequence::{Sequence, Text};
 use std::alloc::{AllocError, Global};
 
 /// The most bytes of a protocol text.
@@ -70,6 +73,7 @@ fn carry_out<L: Library>(
 {
     match command {
         Command::Show { .. } => Ok(Cause::Shown(protocol)),
+        Command::Steps { configuration, .. } => list_successors(alloc, system, configuration),
         Command::Verify { certificate, .. } => judge_certificate(
             alloc,
             system,
@@ -77,6 +81,32 @@ fn carry_out<L: Library>(
             library,
         ),
     }
+}
+
+// Why the text of a configuration is refused.
+fn cause_of_fault(fault: ConfigFault) -> Result<Cause, AllocError>
+    ensures refused { IfOk result (λ cause. cause ≡ Cause.ConfigurationRefused fault) }
+    ensures fault { OnOk result (fault ≢ ConfigFault.Memory) }
+{
+    match fault {
+        ConfigFault::Memory => Err(AllocError),
+        _ => Ok(Cause::ConfigurationRefused(fault)),
+    }
+}
+
+// Lists the successors of the configuration of this text.
+fn list_successors(alloc: Global, system: &System, text: &str) -> Result<Cause, AllocError>
+    ensures { (words : List (List ℕ)) (file : List ℕ) (before after : LibraryState)
+        → command_of_words words ≡ Some (steps file text.now) → HasSystem before.told file system.now
+        → IfOk result (IsCause words before after) }
+{
+    let configuration = match read_configuration(alloc, system, text.as_bytes()) {
+        Ok(configuration) => configuration,
+        Err(fault) => return cause_of_fault(fault),
+    };
+    let pairs = successors(alloc, system, &configuration)?;
+    let lines = successors_text(alloc, system, pairs.as_slice())?;
+    Ok(Cause::Listed(Sequence::from_vec(lines)))
 }
 
 // Why the text of a certificate is refused.

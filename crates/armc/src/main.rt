@@ -5,6 +5,7 @@ mod cause;
 mod command;
 mod delivery;
 mod judgement;
+mod listing;
 mod reading;
 mod refusal;
 mod reply;

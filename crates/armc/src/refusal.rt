@@ -1,7 +1,8 @@
 ghost use Rattle.std.specs.Prelude.{◌≡◌, ◌++◌, IfOk};
-ghost use Rattle.armc.specs.Refusal.{located, in_protocol, refusal_text, syntax_text, model_text, what_word};
+ghost use Rattle.armc.specs.Refusal.{located, in_protocol, refusal_text, configuration_refusal_text, syntax_text, model_text, what_word};
 ghost use Rattle.armc.specs.Line.{line};
 
+use configuration_words::ConfigFault;
 use itoa::Buffer;
 use protocol_lexer::Place;
 use protocol_model::ModelFault;
@@ -111,5 +112,20 @@ pub fn refusal_line(alloc: Global, refusal: &Refusal) -> Result<Vec<u8>, AllocEr
     match refusal {
         Refusal::Syntax(fault) => syntax_line(alloc, fault),
         Refusal::Model(fault) => model_line(alloc, fault),
+    }
+}
+
+/// The line that tells the first fault of a configuration. The only error is want of memory.
+pub fn configuration_refusal_line(alloc: Global, fault: &ConfigFault) -> Result<Vec<u8>, AllocError>
+    ensures { IfOk result (λ made. made.items ≡ line (configuration_refusal_text fault.now)) }
+{
+    match fault {
+        ConfigFault::BadByte { place } => {
+            line_at(alloc, b"configuration", *place, b"bad byte", b"")
+        }
+        ConfigFault::Unexpected { place } => {
+            line_at(alloc, b"configuration", *place, b"unexpected token", b"")
+        }
+        ConfigFault::Memory => Err(AllocError),
     }
 }

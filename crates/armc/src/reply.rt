@@ -2,7 +2,7 @@ ghost use Rattle.std.specs.Prelude.{◌≡◌, ◌++◌, ◌∷◌, [], IfOk};
 ghost use Rattle.armc.specs.Answer.{IsReplyTo};
 
 use crate::cause::Cause;
-use crate::refusal::refusal_line;
+use crate::refusal::{configuration_refusal_line, refusal_line};
 use crate::status::Status;
 use crate::verdict::certificate_fault_line;
 use protocol_layout::print;
@@ -56,6 +56,11 @@ pub fn reply_to(alloc: Global, cause: &Cause) -> Result<Reply, AllocError>
         Cause::ProtocolRefused(refusal) => {
             let line = refusal_line(alloc, refusal)?;
             with_texts(alloc, Status::ProtocolRefused, b"", line.as_slice())
+        }
+        Cause::Listed(text) => with_texts(alloc, Status::Done, text.as_slice(), b""),
+        Cause::ConfigurationRefused(fault) => {
+            let line = configuration_refusal_line(alloc, fault)?;
+            with_texts(alloc, Status::CertificateRefused, b"", line.as_slice())
         }
         Cause::ReadFault(name) => {
             let line = line_with_name(alloc, b"armc: read fault: ", name.as_str())?;

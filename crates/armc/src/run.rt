@@ -30,11 +30,12 @@ fn answer<O: Sink, E: Sink>(alloc: Global, cause: &Cause, out: &mut O, err: &mut
 /// Answers the words after the program's name: reads the texts that they name, puts one text on `out` and one on `err`,
 /// and gives the exit status.
 ///
-/// `show FILE` answers `Done` with the protocol in its canonical layout. `verify FILE CERT` answers
-/// `Done` where the automaton of the certificate proves the protocol, and else `NotValid` with the first part of a proof that fails.
-/// `ReadFault` comes where a read failed or a text is longer than its limit, `ProtocolRefused` where the text of the protocol has a
-/// fault, and `CertificateRefused` where that of the certificate has one, each with the place of the first one. `NotBuilt` comes for
-/// other words and for a certificate that begins as a run, `WriteFault` where a sink failed, and `Memory` for want of memory.
+/// `show FILE` answers `Done` with the protocol in its canonical layout. `steps FILE CONFIGURATION` answers `Done` with a line for
+/// each successor of the configuration, by rule and then by word. `verify FILE CERT` answers `Done` where the automaton of the
+/// certificate proves the protocol, and else `NotValid` with the first part of a proof that fails. `ReadFault` comes where a read
+/// failed or a text is longer than its limit, `ProtocolRefused` where the text of the protocol has a fault, and `CertificateRefused`
+/// where that of the certificate or the configuration has one, each with the place of the first one. `NotBuilt` comes for other
+/// words and for a certificate that begins as a run, `WriteFault` where a sink failed, and `Memory` for want of memory.
 pub fn run<L: Library, O: Sink, E: Sink, G: Gate>(
     alloc: Global,
     words: &[String],

@@ -1,13 +1,13 @@
 /// The exit status of the program.
 #[derive(Clone, Copy, Debug, PartialEq, Eq)]
 pub enum Status {
-    /// The command did its work: a certificate is valid, or a protocol was shown.
+    /// The command did its work: a certificate is valid, a protocol was shown, or successors were listed.
     Done = 0,
     /// A read failed, or a text is longer than its limit.
     ReadFault = 4,
     /// The text of a protocol has a fault.
     ProtocolRefused = 5,
-    /// The text of a certificate has a fault.
+    /// The text of a certificate or of a configuration has a fault.
     CertificateRefused = 6,
     /// A certificate is not valid.
     NotValid = 7,

@@ -2,9 +2,11 @@ ghost use Rattle.std.specs.Prelude.{◌≡◌, ◌↔◌, ◌++◌, ℕ, List, I
 ghost use Rattle.protocol_model.specs.Patterns.{fits};
 ghost use Rattle.configuration_words.specs.Texts.{configuration_text as text_of};
 ghost use Rattle.armc.specs.Line.{line};
-ghost use Rattle.armc.specs.Verdict.{rule_name as rule_name_of, IsRunText, ShowsFitting, IsCauseOfAnswer, answer_text, in_certificate, fault_text};
+ghost use Rattle.armc.specs.Listing.{rule_name as rule_name_of};
+ghost use Rattle.armc.specs.Verdict.{IsRunText, ShowsFitting, IsCauseOfAnswer, answer_text, in_certificate, fault_text};
 
 use crate::cause::Cause;
+use crate::listing::rule_name;
 use certificate::CertFault;
 use certificate_checker::Answer;
 use configuration_words::configuration_text;
@@ -45,16 +47,6 @@ fn line_with_configuration(
     made.extend_from_slice(words.as_slice())?;
     made.push(b'\n')?;
     Ok(made)
-}
-
-// The name of the rule of this number; nothing where there is none.
-fn rule_name(system: &System, rule: u32) -> &[u8]
-    ensures { result.now ≡ rule_name_of system.now rule }
-{
-    match system.rules.as_slice().get(rule as usize) {
-        Some(rule) => rule.name.as_str().as_bytes(),
-        None => b"",
-    }
 }
 
 // The line of a step that leaves the automaton.

@@ -22,7 +22,7 @@ use Rattle.protocol_syntax.specs.declared.protocol.Many.TheVariants as Counts
 use Rattle.protocol_syntax.specs.declared.protocol.Region.{Region}
 use Rattle.protocol_syntax.specs.declared.protocol.Region.TheVariants as Regions
 use Rattle.protocol_layout.specs.Layout.{names_words, in_braces, kind_word, section_words, count_words, base_words, atom_words, pattern_words, part_words, row_words, region_word, guard_words, entry_words, table_words, pushed_words, four_words, move_words, step_words, rule_words, items}
-use Rattle.protocol_layout.proofs.Lexing.{IsToken, IsToken-word, IsToken-brace_left, IsToken-brace_right, IsToken-colon, IsToken-semicolon, IsToken-star, IsToken-plus, IsToken-arrow}
+use Rattle.protocol_syntax.proofs.Lexing.{IsToken, IsToken-word, IsToken-brace_left, IsToken-brace_right, IsToken-colon, IsToken-semicolon, IsToken-star, IsToken-plus, IsToken-arrow}
 use Rattle.protocol_layout.proofs.Ensured.{AllAfter, Each}
 use Rattle.protocol_layout.proofs.Said.{IsName, IsBase, IsAtom, IsPattern, IsPart, IsRow, AreLetters, IsSection, IsNextSection, AreSections, IsGuard, IsEntry, MayBePushed, IsMove, IsStep, IsRule, IsSaid, may_be_pushed}
 

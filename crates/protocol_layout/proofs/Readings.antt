@@ -8,7 +8,7 @@ use Rattle.protocol_syntax.specs.declared.fault.What.{What}
 use Rattle.protocol_syntax.specs.declared.symbol.Symbol.{Symbol}
 use Rattle.protocol_syntax.specs.Symbol.{Source, spelled, symbol_of_kind}
 use Rattle.protocol_syntax.specs.Form.{Form, IsAt, IsTooLong, token, gives, ◌>>=◌, ◌or◌, optional, many_by, item, SaysMany}
-use Rattle.protocol_layout.proofs.Lexing.{kind_of}
+use Rattle.protocol_syntax.proofs.Lexing.{kind_of}
 use Rattle.protocol_layout.proofs.Ensured.{AllAfter}
 use Rattle.protocol_layout.proofs.Openings.{StartsIn, outside, apart, moved, larger, one_symbol, Opens, MayOpen}
 

@@ -31,7 +31,7 @@ use Rattle.protocol_syntax.specs.declared.symbol.Symbol.TheVariants.{Unreserved,
 use Rattle.protocol_syntax.specs.Symbol.{Source, keyword_of, symbol_of_kind, symbol_of_keyword, spelled}
 use Rattle.protocol_syntax.specs.Form.{Form, token, name}
 use Rattle.protocol_syntax.specs.Grammar.{IsProtocol, means, kind, section, more_sections, set, letter_base, set_base, base, atom, atoms, pattern, part, row, guard, entry, table, at_move, four_names, pair_move, ring_move, two_move, set_move, send_move, recv_move, pushed, pop_move, push_move, queue_move, move, step, rule, protocol, letters_of}
-use Rattle.protocol_layout.proofs.Lexing.{is_word}
+use Rattle.protocol_syntax.proofs.Lexing.{is_word}
 use Rattle.protocol_layout.proofs.Openings.{Opens, opens_token, opens_bind, opens_or, token_is, within}
 use Rattle.protocol_layout.proofs.Ensured.{Ensures, ensures_any, ensures_gives, ensures_bind, ensures_or, ensures_optional, ensures_many_by, ensures_item, ensures_many, ensures_up_to, AllAfter, Each, UpTo}
 

@@ -16,7 +16,7 @@ use Rattle.protocol_syntax.specs.Symbol.{Source, keyword_of, spelling, symbol, s
 use Rattle.protocol_syntax.specs.Form.{IsAt, name, sign, name_of}
 use Rattle.protocol_syntax.specs.Grammar.{means}
 use Rattle.protocol_layout.specs.Places.{name_without_place}
-use Rattle.protocol_layout.proofs.Lexing.{kind_of, kind_of_word, AreWords}
+use Rattle.protocol_syntax.proofs.Lexing.{kind_of, kind_of_word, AreWords}
 use Rattle.protocol_layout.proofs.Openings.{StartsIn, one_symbol}
 use Rattle.protocol_layout.proofs.Readings.{Reads, HasWord, HasWords, Again, symbol_of, never, reads_token, reads_then, reads_gives}
 use Rattle.protocol_layout.proofs.Said.{IsName}

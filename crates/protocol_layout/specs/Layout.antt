@@ -1,5 +1,5 @@
 -- The canonical layout of a protocol: its words, and how they stand on lines.
-use Rattle.std.specs.Prelude.{◌≡◌, ◌==◌, ◌||◌, ℕ, Bool, false, List, [], ◌∷◌, ◌++◌, Option, Some, None, codes, map, if◌then◌else◌}
+use Rattle.std.specs.Prelude.{◌≡◌, ℕ, List, [], ◌∷◌, ◌++◌, Option, Some, None, codes, map, if◌then◌else◌}
 use Rattle.std.specs.List.{flat_map}
 use Rattle.protocol_syntax.specs.declared.protocol.Name.{Name}
 use Rattle.protocol_syntax.specs.declared.protocol.Protocol.{Protocol}
@@ -20,19 +20,7 @@ use Rattle.protocol_syntax.specs.declared.protocol.Many.{Many}
 use Rattle.protocol_syntax.specs.declared.protocol.Many.TheVariants as Counts
 use Rattle.protocol_syntax.specs.declared.protocol.Region.{Region}
 use Rattle.protocol_syntax.specs.declared.protocol.Region.TheVariants as Regions
-
--- the bytes of one word, name or sign
-abbrev pub Word : Type 0
-Word = List ℕ
-
--- whether no space stands before the word: `:`, `;`, `*` and `+`
-abbrev pub is_attached : Word → Bool
-is_attached [] = false
-is_attached (b ∷ bytes) = (b == 58) || (b == 59) || (b == 42) || (b == 43)
-
--- a word after others on its line
-abbrev pub spaced : Word → List ℕ
-spaced word = if is_attached word then word else 32 ∷ word
+use Rattle.protocol_syntax.specs.Spacing.{Word, spaced}
 
 -- the words of an item on a line of their own
 abbrev pub line : List Word → List ℕ

@@ -5,9 +5,11 @@
 ghost use Rattle.std.specs.Prelude.{◌≡◌, ◌++◌, ◌∷◌, [], codes, map, IfOk, OnOk, if◌then◌else◌};
 ghost use Rattle.std.specs.List.{flat_map};
 ghost use Rattle.protocol_layout.specs.Layout.{Adds, AddsLine, AddsLines, atom_words, base_words, count_words, entry_words};
-ghost use Rattle.protocol_layout.specs.Layout.{four_words, guard_words, in_braces, is_attached, items, kind_word, layout};
+ghost use Rattle.protocol_layout.specs.Layout.{four_words, guard_words, in_braces, items, kind_word, layout};
+ghost use Rattle.protocol_syntax.specs.Spacing.{is_attached};
 ghost use Rattle.protocol_layout.specs.Layout.{move_words, names_words, part_words, pattern_words, popped_words};
-ghost use Rattle.protocol_layout.specs.Layout.{pushed_words, region_word, row_words, rule_words, section_words, spaced};
+ghost use Rattle.protocol_layout.specs.Layout.{pushed_words, region_word, row_words, rule_words, section_words};
+ghost use Rattle.protocol_syntax.specs.Spacing.{spaced};
 ghost use Rattle.protocol_layout.specs.Layout.{step_words, table_words};
 ghost use Rattle.protocol_layout.specs.Places.{IsReadBack};
 

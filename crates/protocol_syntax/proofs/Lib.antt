@@ -9,3 +9,4 @@ pub mod AllTokens
 pub mod GrammarLaws
 pub mod ParseLaws
 pub mod Letters
+pub mod Lexing

@@ -3,3 +3,4 @@ pub mod Form
 pub mod Reading
 pub mod Grammar
 pub mod GrammarReading
+pub mod Spacing
