@@ -1,15 +1,14 @@
 -- A text that is a protocol within the limits says one that the language allows.
-use Rattle.std.proofs.Common.{◌≡◌, ◌⊎◌, ◌<◌, ◌≤◌, ◌+◌, ◌-◌, ◌&&◌, ℕ, zero, suc, Bool, true, false, List, [], ◌∷◌, ◌++◌, Option, None, Some, refl, sym, ◌∙◌, ap, subst, inl, inr, arith, length, take, drop, IsTrue, slice_get, is_none, nat_lt, nat_le, append_assoc, length-drop, append-nil, length-append}
+use Rattle.std.proofs.Common.{◌≡◌, ◌<◌, ◌≤◌, ◌+◌, ◌-◌, ◌&&◌, ℕ, zero, suc, Bool, true, List, [], ◌∷◌, ◌++◌, Option, None, Some, refl, sym, ◌∙◌, ap, subst, inl, inr, arith, length, drop, slice_get, is_none, nat_le, append_assoc, length-drop, append-nil, length-append}
 use Rattle.std.proofs.lemmas.Bool.{lt-ltb, le-leb, cases_lt}
 use Rattle.std.proofs.lemmas.List.{length-take-le}
 use Rattle.std.proofs.lemmas.List.Sums.{sum_by-cons, sum_by_push}
 use Rattle.std.specs.Option.{option_map}
-use Rattle.std.specs.List.{AllByRecursion, list_all, slice_range, sum_by}
+use Rattle.std.specs.List.{AllByRecursion, slice_range}
 use Rattle.protocol_lexer.specs.declared.Token.{Token}
 use Rattle.protocol_lexer.specs.declared.TokenKind.{TokenKind}
 use Rattle.protocol_lexer.specs.declared.TokenKind.TheVariants.{Word, BraceLeft, BraceRight, Colon, Semicolon, Star, Plus, Arrow}
-use Rattle.protocol_lexer.specs.Piece.{is_word_byte}
-use Rattle.protocol_lexer.specs.Tokens.{AreTokens, LiesIn}
+use Rattle.protocol_lexer.specs.Tokens.{LiesIn}
 use Rattle.protocol_lexer.proofs.Lying.{LieInOrder-taken}
 use Rattle.protocol_syntax.specs.declared.fault.What.{What}
 use Rattle.protocol_syntax.specs.declared.fault.What.TheVariants as Limits
@@ -28,10 +27,10 @@ use Rattle.protocol_syntax.specs.declared.protocol.Kind.{Kind}
 use Rattle.protocol_syntax.specs.declared.symbol.Keyword.{Keyword}
 use Rattle.protocol_syntax.specs.declared.symbol.Keyword.TheVariants as Words
 use Rattle.protocol_syntax.specs.declared.symbol.Symbol.{Symbol}
-use Rattle.protocol_syntax.specs.declared.symbol.Symbol.TheVariants.{Unreserved, Reserved, Sign}
-use Rattle.protocol_syntax.specs.Symbol.{Source, source_of, keyword_of, symbol, symbol_of_keyword, symbol_of_kind, spelled, token_at}
-use Rattle.protocol_syntax.specs.Form.{Form, IsAt, token, sign, name, gives, ◌>>=◌, ◌or◌, optional, many, many_by, item, up_to, SaysMany}
-use Rattle.protocol_syntax.specs.Grammar.{means, kind, section, letters_of, more_sections, set, letter_base, set_base, base, count, atom, atoms, pattern, part, row, quantifier, region, guard, entry, table, at_move, four_names, pair_move, ring_move, two_move, set_move, send_move, recv_move, pushed, pop_move, push_move, queue_move, move, step, rule, protocol, IsProtocol}
+use Rattle.protocol_syntax.specs.declared.symbol.Symbol.TheVariants.{Unreserved}
+use Rattle.protocol_syntax.specs.Symbol.{Source, source_of, keyword_of, symbol, symbol_of_keyword, symbol_of_kind, spelled}
+use Rattle.protocol_syntax.specs.Form.{Form, token, name, gives, ◌>>=◌, ◌or◌, optional, many, many_by, item, up_to, SaysMany}
+use Rattle.protocol_syntax.specs.Grammar.{means, kind, section, letters_of, more_sections, set, letter_base, set_base, base, atom, atoms, pattern, part, row, guard, at_move, pair_move, ring_move, two_move, set_move, send_move, recv_move, pushed, pop_move, push_move, queue_move, move, step, rule, protocol, IsProtocol}
 use Rattle.protocol_model.specs.Names.{IsName}
 use Rattle.protocol_model.specs.Allowed.{IsAllowed, IsAllowedSection, IsAllowedRule, IsAllowedRow, IsAllowedBody}
 

@@ -3,17 +3,15 @@ use Rattle.std.proofs.Common.{◌≡◌, ◌≢◌, ◌&&◌, ℕ, Bool, true, f
 use Rattle.armc_io.specs.Library.{LibraryState}
 use Rattle.protocol_model.specs.System.{SystemData}
 use Rattle.protocol_model.specs.Patterns.{fits}
-use Rattle.certificate.specs.declared.fault.CertFault.{CertFault}
-use Rattle.certificate.specs.declared.fault.CertFault.TheVariants as fault_kind
 use Rattle.certificate.specs.declared.safe.Certificate.{Certificate}
 use Rattle.certificate.specs.declared.safe.Certificate.TheVariants as certificate
-use Rattle.certificate.specs.Faults.{IsNotUnsafe, HasFault}
+use Rattle.certificate.specs.Faults.{IsNotUnsafe}
 use Rattle.certificate.specs.NextLine.{IsCertificateOf}
 use Rattle.certificate_checker.specs.Answers.{IsAnswer, HasLetters}
 use Rattle.certificate_checker.specs.declared.answer.Answer.{Answer}
 use Rattle.certificate_checker.specs.declared.answer.Answer.TheVariants.{Valid, InitialMissing, BadHeld, Leaves, NotInitial, NotStep, NotBad}
 use Rattle.armc.specs.Command.{verify, command_of}
-use Rattle.armc.specs.Cause.{IsCause, HasSystem, HasCertificate, HasCertificateFault}
+use Rattle.armc.specs.Cause.{IsCause, HasSystem, HasCertificate}
 use Rattle.armc.specs.Verdict.{IsRunText, ShowsFitting, IsCauseOfAnswer}
 use Rattle.armc.specs.declared.cause.Cause.{Cause}
 use Rattle.armc.specs.declared.cause.Cause.TheVariants as cause
@@ -91,10 +89,10 @@ IsCause-answered words before after file name s c answer (Ok found) asked has me
 IsCause-answered words before after file name s c answer (Err e) asked has means is gives = tt
 
 -- a refused text is the cause of the whole call
-pub IsCause-refused : {E : Type 0} (words : List (List ℕ)) (before after : LibraryState) (fault : CertFault) (r : Result Cause E)
-    → IfOk r (λ found. found ≡ cause.CertificateRefused fault) → OnOk r (fault ≢ fault_kind.Memory)
-    → (fault ≢ fault_kind.Memory → HasCertificateFault words before.told fault) → IfOk r (IsCause words before after)
-IsCause-refused words before after fault (Ok found) is other gives =
+pub IsCause-refused : {F E : Type 0} (words : List (List ℕ)) (before after : LibraryState) (fault memory : F) (refused : Cause)
+    (r : Result Cause E) → IfOk r (λ found. found ≡ refused) → OnOk r (fault ≢ memory)
+    → (fault ≢ memory → IsCause words before after refused) → IfOk r (IsCause words before after)
+IsCause-refused words before after fault memory refused (Ok found) is other gives =
     let P : Cause → Type 0 = λ found. IsCause words before after found in
     subst P (sym is) (gives other)
-IsCause-refused words before after fault (Err e) is other gives = tt
+IsCause-refused words before after fault memory refused (Err e) is other gives = tt

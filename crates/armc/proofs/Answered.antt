@@ -1,5 +1,5 @@
 -- From the cause and its delivery to what the whole call answers.
-use Rattle.std.proofs.Common.{◌≡◌, ◌⊎◌, inl, inr, ℕ, List, Some, sym, ◌∙◌, false, true}
+use Rattle.std.proofs.Common.{◌≡◌, ◌⊎◌, inl, inr, ℕ, List, Some, sym, ◌∙◌}
 use Rattle.armc_io.specs.Library.{LibraryState}
 use Rattle.armc_io.specs.Sink.{SinkState}
 use Rattle.word_automata.specs.Automaton.{Automaton}
@@ -9,8 +9,8 @@ use Rattle.armc.specs.declared.status.Status.{Status}
 use Rattle.armc.specs.declared.status.Status.TheVariants as status
 use Rattle.armc.specs.declared.cause.Cause.{Cause}
 use Rattle.armc.specs.declared.cause.Cause.TheVariants.{Valid, NotValid, CertificateRefused, Shown, ProtocolRefused, Listed, ConfigurationRefused, ReadFault, TooLong, NotBuilt, Memory}
-use Rattle.armc.specs.Command.{Command, verify, steps, show, command_of}
-use Rattle.armc.specs.Cause.{Told, IsCause, IsTold, IsJudged, IsValidFor}
+use Rattle.armc.specs.Command.{verify, steps, show, command_of}
+use Rattle.armc.specs.Cause.{IsCause, IsTold, IsJudged, IsValidFor}
 use Rattle.armc.specs.Verdict.{IsProofOf}
 use Rattle.certificate.specs.declared.safe.Certificate.{Certificate}
 use Rattle.certificate.specs.declared.safe.Certificate.TheVariants as certificate

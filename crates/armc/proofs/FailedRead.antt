@@ -1,11 +1,11 @@
 -- A read that failed is a cause of the whole call.
-use Rattle.std.proofs.Common.{◌≡◌, ◌≤◌, ◌<◌, ◌⊎◌, inl, inr, ℕ, List, Some, Option, IfSome, Err, length, arith, subst, sym, ap, false, true}
+use Rattle.std.proofs.Common.{◌≡◌, ◌≤◌, ◌<◌, ◌⊎◌, inl, inr, ℕ, List, Some, Option, IfSome, Err, length, arith, subst, sym}
 use Rattle.armc_io.specs.Faults.{Rose}
-use Rattle.armc_io.specs.Library.{LibraryState, ReadAnswers, LastIs}
+use Rattle.armc_io.specs.Library.{LibraryState, ReadAnswers}
 use Rattle.armc_io.specs.declared.traits.ReadFail.{ReadFail}
 use Rattle.armc_io.specs.declared.traits.ReadFail.TheVariants as fail
 use Rattle.armc.specs.Command.{Command, command_of}
-use Rattle.armc.specs.Cause.{IsCause, IsRead, IsReadFault, IsTooLong}
+use Rattle.armc.specs.Cause.{IsCause, IsRead}
 use Rattle.armc.specs.Judging.{IsEarlier, cause_of_read}
 use Rattle.armc.specs.declared.cause.Cause.{Cause}
 use Rattle.armc.specs.declared.cause.Cause.TheVariants.{Memory}

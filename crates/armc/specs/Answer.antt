@@ -1,13 +1,11 @@
 -- What a whole call answers.
-use Rattle.std.specs.Prelude.{◌≡◌, ℕ, List, Some, Vec}
-use Rattle.std.specs.declared.alloc.Global.{Global}
+use Rattle.std.specs.Prelude.{◌≡◌, ℕ, List, Some}
 use Rattle.armc_io.specs.Faults.{Rose}
 use Rattle.armc_io.specs.Library.{LibraryState}
 use Rattle.armc_io.specs.Sink.{SinkState}
 use Rattle.armc.specs.declared.status.Status.{Status}
 use Rattle.armc.specs.declared.status.Status.TheVariants.{Done}
 use Rattle.armc.specs.declared.cause.Cause.{Cause}
-use Rattle.armc.specs.declared.cause.Cause.TheVariants as cause
 use Rattle.armc.specs.declared.reply.Reply.{Reply}
 use Rattle.armc.specs.Command.{verify, command_of}
 use Rattle.armc.specs.Verdict.{IsProofOf}

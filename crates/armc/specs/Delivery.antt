@@ -1,6 +1,6 @@
 -- How two texts reach their sinks, and what the status is then.
 use Rattle.std.specs.Prelude.{◌≡◌, ◌⊎◌, ℕ, List, take}
-use Rattle.std.specs.Io.KnownBytes.{Appends, Keeps}
+use Rattle.std.specs.Io.KnownBytes.{Appends}
 use Rattle.armc_io.specs.Faults.{Rose}
 use Rattle.armc_io.specs.Sink.{SinkState}
 use Rattle.armc.specs.declared.status.Status.{Status}

@@ -2,7 +2,6 @@
 use Rattle.std.specs.Prelude.{◌≡◌, ℕ, List, None}
 use Rattle.protocol_syntax.specs.declared.protocol.Protocol.{Protocol}
 use Rattle.protocol_syntax.specs.Grammar.{IsProtocol}
-use Rattle.protocol_model.specs.System.{SystemData}
 use Rattle.protocol_model.specs.Numbering.{system_of}
 use Rattle.protocol_model.specs.Faults.{first_fault}
 use Rattle.armc.specs.declared.reading.Reading.{Reading}

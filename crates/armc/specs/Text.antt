@@ -1,7 +1,6 @@
 -- How one text reaches its sink.
-use Rattle.std.specs.Prelude.{◌≡◌, ℕ, List, take, Result, Ok, Err}
+use Rattle.std.specs.Prelude.{ℕ, List, Result, Ok, Err}
 use Rattle.std.specs.Io.KnownBytes.{Appends}
-use Rattle.armc_io.specs.Faults.{Rose}
 use Rattle.armc_io.specs.Sink.{SinkState, FailsToPut}
 
 -- at `Ok` the text was appended; at `Err` a prefix of it was, and the count of faults rose

@@ -233,22 +233,46 @@ fn refused_protocols_are_told(rt: HostRuntime) -> Result<(), Fail> {
     Ok(())
 }
 
-const ONE_PROCESS: &[u8] = b"protocol p\narray P { a b }\n\
-    rule r1 { P: at a -> b when all others in { b }; }\nrule r2 { P: at a -> b when some others in { a b }; }\n\
-    rule r3 { P: ring a a -> b b; }\nrule r4 { P: two a a -> b b; }\n";
-
-const TWO_GUARDS: &[u8] = b"protocol p\narray P { x y z a b }\n\
-    rule r { P: at a -> b when some left in { x y } when some left in { x z }; }\n";
-
-const TABLE: &[u8] = b"protocol p\narray P { i s m }\n\
-    rule w { P: at i -> m when some others in { m } map { s -> i; m -> i; }; }\n";
-
 const EXCHANGES: &[u8] = b"protocol p\narray P { a b }\nrule p { P: pair a b -> b a; }\n\
     rule q { P: ring b a -> a b; }\nrule t { P: two b a -> a b; }\n";
 
 const HANDOFF: &[u8] =
     b"protocol handoff\ncell S { a b }\nchannel C { m }\ninit { S: a; C: empty; }\n\
     rule put { S: set a -> b; C: send m; }\nrule take { S: set b -> a; C: recv m; }\nbad { C: m m any*; }\n";
+
+#[test]
+fn successors_are_listed(rt: HostRuntime) -> Result<(), Fail> {
+    let cases: [(&[u8], &str, &[u8]); 3] = [
+        (
+            EXCHANGES,
+            "P: a b",
+            b"p -> P: b a\nq -> P: b a\nt -> P: b a\n",
+        ),
+        (EXCHANGES, "P: empty", b""),
+        (HANDOFF, "S: a; C: m", b"put -> S: b; C: m m\n"),
+    ];
+    for (file, configuration, out) in cases {
+        let texts = library(rt.alloc(), file, b"", &[])?;
+        let found = answer(rt.alloc(), &["steps", "f", configuration], texts, &[])?;
+        assert_eq!(rt; found.0, Status::Done);
+        assert_eq!(rt; found.1.as_slice(), out);
+        assert_eq!(rt; found.2.is_empty(), true);
+    }
+    Ok(())
+}
+
+#[test]
+fn a_refused_configuration_is_told(rt: HostRuntime) -> Result<(), Fail> {
+    let texts = library(rt.alloc(), HANDOFF, b"", &[])?;
+    let found = answer(rt.alloc(), &["steps", "f", "S: a b; C: m"], texts, &[])?;
+    assert_eq!(rt; found.0, Status::CertificateRefused);
+    assert_eq!(rt; found.1.is_empty(), true);
+    assert_eq!(rt;
+        found.2.as_slice(),
+        b"armc: configuration: line 1 column 6: unexpected token\n".as_slice()
+    );
+    Ok(())
+}
 
 #[test]
 fn faults_of_the_outside_are_named(rt: HostRuntime) -> Result<(), Fail> {

@@ -3,3 +3,7 @@ pub mod WordLemmas
 pub mod EncodingLemmas
 pub mod DecodingLemmas
 pub mod TextLemmas
+pub mod LetterLemmas
+pub mod ReaderLemmas
+pub mod RunLemmas
+pub mod WrongLemmas

@@ -1,3 +1,4 @@
 pub mod Cuts
 pub mod Texts
 pub mod ConfigurationText
+pub mod ConfigurationReader

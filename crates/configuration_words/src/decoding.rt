@@ -8,7 +8,7 @@ ghost use Rattle.protocol_model.specs.Patterns.{fits, has_any_length, list_fits}
 ghost use Rattle.protocol_model.specs.Words.{raised, word_of};
 ghost use Rattle.configuration_words.specs.Cuts.{IsCut};
 
-use crate::alphabet::{letter_count, separator};
+use crate::alphabet::{has_any_length, letter_count, separator};
 use protocol_model::{Configuration, Section, System};
 use protocol_syntax::Kind;
 use sequence::Sequence;
@@ -93,10 +93,7 @@ fn lowered(
 fn may_have_length(kind: Kind, length: usize) -> bool
     ensures { result ≡ (has_any_length kind || (length == 1)) }
 {
-    match kind {
-        Kind::Cell => length == 1,
-        _ => true,
-    }
+    has_any_length(kind) || length == 1
 }
 
 /// The letters below the count that are raised by the offset to these letters, if they are.

@@ -1,6 +1,10 @@
 //! Why a text is no configuration.
 
+ghost use Rattle.std.specs.Prelude.{◌≡◌};
+ghost use Rattle.configuration_words.specs.declared.fault.ConfigFault.TheVariants.{Memory};
+
 use protocol_lexer::Place;
+use std::alloc::AllocError;
 use thiserror::Error;
 
 /// The first fault of a text that is no configuration of a system.
@@ -8,11 +12,19 @@ use thiserror::Error;
 pub enum ConfigFault {
     /// The byte at this place is the first outside a comment that begins no token.
     #[error("line {} column {}: bad byte", .place.line, .place.column)]
-    BadByte { place: Place } = 1,
+    BadByte { place: Place },
     /// The token at this place, or the end of the text, cannot stand there.
     #[error("line {} column {}: unexpected token", .place.line, .place.column)]
-    Unexpected { place: Place } = 2,
+    Unexpected { place: Place },
     /// There is no memory for the configuration.
     #[error("out of memory")]
-    Memory = 3,
+    Memory,
+}
+
+impl From<AllocError> for ConfigFault {
+    ghost from_gives = { λ _ e. e ≡ Memory };
+
+    fn from(_e: AllocError) -> ConfigFault {
+        ConfigFault::Memory
+    }
 }

@@ -5,6 +5,7 @@ mod alphabet;
 mod decoding;
 mod encoding;
 mod fault;
+mod reading;
 #[cfg(test)]
 mod tests;
 mod texts;
@@ -12,4 +13,5 @@ mod texts;
 pub use decoding::decode;
 pub use encoding::encode;
 pub use fault::ConfigFault;
+pub use reading::read_configuration;
 pub use texts::configuration_text;

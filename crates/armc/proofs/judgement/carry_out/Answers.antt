@@ -1,4 +1,4 @@
-use Rattle.std.proofs.Common.{◌≡◌, ◌∙◌, ℕ, List, Some, ap, subst}
+use Rattle.std.proofs.Common.{◌∙◌, ℕ, List, Some, ap, subst}
 use Rattle.armc.specs.Command.{said, file_of}
 use Rattle.armc.specs.Cause.{HasProtocol}
 use Rattle.armc.proofs.judgement.carry_out.Goals as goal

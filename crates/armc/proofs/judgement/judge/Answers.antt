@@ -1,6 +1,5 @@
-use Rattle.std.proofs.Common.{◌≡◌, ◌⊎◌, ℕ, List, Some, Option, IfSome, inl, refl, arith, rules, sym, subst}
-use Rattle.armc_io.specs.Library.{LibraryState, ReadAnswers}
-use Rattle.armc.specs.Command.{said, file_of}
+use Rattle.std.proofs.Common.{◌≡◌, ℕ, List, IfSome, inl, refl, arith, rules, subst}
+use Rattle.armc.specs.Command.{said}
 use Rattle.armc.proofs.FailedRead.{IsCause-failed}
 use Rattle.armc.proofs.judgement.judge.Goals as goal
 

@@ -1,6 +1,8 @@
-use Rattle.std.proofs.Common.{◌≡◌, List, ℕ, inl, inr, refl, sym, subst, ◌∙◌, IfSome}
+use Rattle.std.proofs.Common.{◌≡◌, List, ℕ, inr, refl, sym, subst, ◌∙◌, IfSome}
+use Rattle.certificate.specs.declared.fault.CertFault.TheVariants.{Memory}
 use Rattle.certificate.specs.Faults.{IsNotUnsafe, HasFault}
 use Rattle.certificate.specs.NextLine.{IsCertificateOf}
+use Rattle.armc.specs.declared.cause.Cause.TheVariants.{CertificateRefused}
 use Rattle.armc.specs.Command.{verify}
 use Rattle.armc.specs.Cause.{Told}
 use Rattle.armc.specs.Verdict.{IsRunText}
@@ -38,7 +40,8 @@ pub returns-in-Err-read : goal.returns-in-Err-read
 returns-in-Err-read g c = λ words file before earlier asked has.
     let P : Told → Type 0 = λ told. IfSome (told c.args.name.now) (λ bytes. c.in-Ok.text.items ≡ bytes) in
     let Q : List ℕ → Type 0 = λ text. HasFault c.args.system.now text c.in-Err-read.fault in
-    IsCause-refused words before (g.L.Library.state c.read_all.new.self) c.in-Err-read.fault c.cause_of_certificate_fault.result
+    IsCause-refused words before (g.L.Library.state c.read_all.new.self) c.in-Err-read.fault Memory
+    (CertificateRefused c.in-Err-read.fault) c.cause_of_certificate_fault.result
     c.cause_of_certificate_fault.ensures.refused c.cause_of_certificate_fault.ensures.fault
     (λ other. record {
       file = file;

@@ -1,4 +1,4 @@
-use Rattle.std.proofs.Common.{◌≡◌, refl, inl, inr, sym}
+use Rattle.std.proofs.Common.{refl}
 use Rattle.armc.proofs.Allowed.{IsAllowed-read}
 use Rattle.armc.proofs.Refused.{by_grammar, by_names}
 use Rattle.armc.proofs.reading.read_protocol.Goals as goal

@@ -1,4 +1,3 @@
-use Rattle.std.proofs.Common.{map, string_bytes}
 use Rattle.armc.proofs.Answered.{Answers-made, IsSound-answer, IsDecided-answer}
 use Rattle.armc.proofs.run.run.Goals as goal
 
