@@ -7,3 +7,4 @@ pub mod LetterLemmas
 pub mod ReaderLemmas
 pub mod RunLemmas
 pub mod WrongLemmas
+pub mod TokenLemmas

@@ -21,7 +21,7 @@ use Rattle.std.specs.Prelude.{codes}
 use Rattle.configuration_words.specs.declared.reading.Stage.TheVariants as Stages
 use Rattle.configuration_words.specs.declared.fault.ConfigFault.TheVariants.{Unexpected}
 use Rattle.configuration_words.specs.ConfigurationText.{AreTokensOf, Begin, IsWrongAt, parts_tokens, spelled_tokens}
-use Rattle.configuration_words.specs.ConfigurationReader.{ReaderData, reader_of, advance, whole_lists}
+use Rattle.configuration_words.specs.ConfigurationReader.{ReaderData, reader_of, advance, whole_lists, IsAtWrongToken}
 use Rattle.configuration_words.proofs.ReaderLemmas.{Completes, tail_tokens, IsReadable, IsReady, advanced, stopped, ended, completable}
 
 -- the reader has read so many of the words: what completes it completes them
@@ -153,12 +153,12 @@ module _ (s : SystemData) (text : List ℕ) (tokens : List Token) (n : ℕ) (r :
     token_more next e = reading_more s (spelled_tokens text tokens) n r reading bytes next words_within word_is e
 
     pub token_wrong : advance r bytes ≡ None
-        → (j : ℕ) × IsWrongAt s (spelled_tokens text tokens) j × (Unexpected (get_or tokens n d).place ≡ Unexpected (place_of text (slice_get tokens j)))
-    token_wrong e = (
-      n,
-      wrong_here s (spelled_tokens text tokens) n r reading bytes words_within word_is e,
-      ap (λ o. Unexpected (place_of text o)) (sym (slice_get-get_or tokens n d within)),
-    )
+        → IsAtWrongToken s text tokens (Unexpected (get_or tokens n d).place)
+    token_wrong e = record {
+      index = n;
+      wrong = wrong_here s (spelled_tokens text tokens) n r reading bytes words_within word_is e;
+      at = ap (λ o. Unexpected (place_of text o)) (sym (slice_get-get_or tokens n d within));
+    }
 
   module _ (past : length tokens ≤ n) where
     words_past : length (spelled_tokens text tokens) ≤ n
@@ -169,10 +169,10 @@ module _ (s : SystemData) (text : List ℕ) (tokens : List Token) (n : ℕ) (r :
     tokens_read = reads_all s (spelled_tokens text tokens) n r reading words_past
 
     pub end_wrong : (place : Place) → n ≤ length tokens → whole_lists r ≡ None → place ≡ place_after start_place text
-        → (j : ℕ) × IsWrongAt s (spelled_tokens text tokens) j × (Unexpected place ≡ Unexpected (place_of text (slice_get tokens j)))
-    end_wrong place bound e is = (
-      length (spelled_tokens text tokens),
-      wrong_end s (spelled_tokens text tokens) n r reading words_past e (let same = length-map tokens (spelled text) in omega arith),
-      ap Unexpected is ∙ ap (λ o. Unexpected (place_of text o))
-          (sym (slice_get_past tokens (length (spelled_tokens text tokens)) (let same = length-map tokens (spelled text) in omega arith))),
-    )
+        → IsAtWrongToken s text tokens (Unexpected place)
+    end_wrong place bound e is = record {
+      index = length (spelled_tokens text tokens);
+      wrong = wrong_end s (spelled_tokens text tokens) n r reading words_past e (let same = length-map tokens (spelled text) in omega arith);
+      at = ap Unexpected is ∙ ap (λ o. Unexpected (place_of text o))
+          (sym (slice_get_past tokens (length (spelled_tokens text tokens)) (let same = length-map tokens (spelled text) in omega arith)));
+    }

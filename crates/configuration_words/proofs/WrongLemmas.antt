@@ -11,6 +11,7 @@ use Rattle.protocol_model.specs.declared.system.Configuration.{Configuration}
 use Rattle.protocol_model.specs.System.{SystemData}
 use Rattle.configuration_words.specs.declared.fault.ConfigFault.{ConfigFault}
 use Rattle.configuration_words.specs.declared.fault.ConfigFault.TheVariants.{BadByte, Unexpected, Memory}
+use Rattle.configuration_words.specs.ConfigurationReader.{IsAtWrongToken}
 use Rattle.configuration_words.specs.ConfigurationText.{AreTokensOf, Begin, IsWrongAt, IsUnexpectedAt, IsFirstFault, MeansConfiguration, spelled_tokens}
 
 module _ (s : SystemData) (words : List (List ℕ)) where
@@ -62,42 +63,44 @@ module _ (s : SystemData) (text : List ℕ) (tokens : List Token) (one : TokensA
     λ e. record { tokens = tokens; are_tokens = taken; means = (read c).1 (ap (λ d. d.lists) e) },
   )
 
-  wrong_at : (place : Place) → IsUnexpectedAt s text place
-      → (j : ℕ) × IsWrongAt s (spelled_tokens text tokens) j × (place ≡ place_of text (slice_get tokens j))
+  wrong_at : (place : Place) → IsUnexpectedAt s text place → IsAtWrongToken s text tokens (Unexpected place)
   wrong_at place u =
-      let same = one text u.tokens tokens u.are_tokens taken in (
-        u.index,
-        subst (λ ts. IsWrongAt s (spelled_tokens text ts) u.index) same u.wrong,
-        subst (λ ts. place ≡ place_of text (slice_get ts u.index)) same u.at,
-      )
+      let same = one text u.tokens tokens u.are_tokens taken in
+      record {
+        index = u.index;
+        wrong = subst (λ ts. IsWrongAt s (spelled_tokens text ts) u.index) same u.wrong;
+        at = ap Unexpected (subst (λ ts. place ≡ place_of text (slice_get ts u.index)) same u.at);
+      }
 
   -- the text of a configuration has no fault
   pub means_no_fault : (c : Configuration) → AreTokensOf s (spelled_tokens text tokens) c → (fault : ConfigFault) → IsFirstFault s text fault → ⊥
   means_no_fault c are (BadByte place) f = apart text tokens place taken f
   means_no_fault c are (Unexpected place) f =
       let w = wrong_at place f in
-      wrong_none s (spelled_tokens text tokens) w.0 w.1 c are
+      wrong_none s (spelled_tokens text tokens) w.index w.wrong c are
   means_no_fault c are Memory f = f
 
-  module _ (j : ℕ) (wrong : IsWrongAt s (spelled_tokens text tokens) j) where
+  module _ (fault : ConfigFault) (wrong : IsAtWrongToken s text tokens fault) where
     -- a text with a wrong token means no configuration
     pub wrong_means_none : (c : Configuration) → MeansConfiguration s text c → ⊥
-    wrong_means_none c m = wrong_none s (spelled_tokens text tokens) j wrong c (means c m)
+    wrong_means_none c m = wrong_none s (spelled_tokens text tokens) wrong.index wrong.wrong c (means c m)
 
-    only : (other : ConfigFault) → IsFirstFault s text other → Unexpected (place_of text (slice_get tokens j)) ≡ other
+    only : (other : ConfigFault) → IsFirstFault s text other → fault ≡ other
     only (BadByte place) f = absurd (apart text tokens place taken f)
     only (Unexpected place) f =
         let w = wrong_at place f in
-        ap Unexpected (ap (λ k. place_of text (slice_get tokens k)) (wrong_once s (spelled_tokens text tokens) j w.0 wrong w.1) ∙ sym w.2)
+        wrong.at
+        ∙ ap (λ k. Unexpected (place_of text (slice_get tokens k)))
+        (wrong_once s (spelled_tokens text tokens) wrong.index w.index wrong.wrong w.wrong)
+        ∙ sym w.at
     only Memory f = absurd f
 
     -- and the first wrong token is its first fault
-    pub wrong_is_fault : (fault other : ConfigFault) → fault ≡ Unexpected (place_of text (slice_get tokens j))
-        → IsFirstFault s text other ↔ (fault ≡ other)
-    wrong_is_fault fault other e = (
-      λ f. e ∙ only other f,
-      λ same. subst (IsFirstFault s text) (sym e ∙ same)
-          (record { tokens = tokens; are_tokens = taken; index = j; wrong = wrong; at = refl }),
+    pub wrong_is_fault : (other : ConfigFault) → IsFirstFault s text other ↔ (fault ≡ other)
+    wrong_is_fault other = (
+      only other,
+      λ same. subst (IsFirstFault s text) (sym wrong.at ∙ same)
+          (record { tokens = tokens; are_tokens = taken; index = wrong.index; wrong = wrong.wrong; at = refl }),
     )
 
 -- a text with a bad byte

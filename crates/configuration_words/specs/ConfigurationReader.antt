@@ -1,10 +1,15 @@
 -- The reader of configurations: a deterministic automaton that takes the tokens, each by its bytes, one after the other.
-use Rattle.std.specs.Prelude.{◌≤◌, ℕ, List, [], ◌∷◌, ◌++◌, Option, Some, None, if◌then◌else◌, codes, position}
+use Rattle.std.specs.Prelude.{◌≡◌, ◌≤◌, ℕ, List, [], ◌∷◌, ◌++◌, Option, Some, None, if◌then◌else◌, codes, position, slice_get}
 use Rattle.std.specs.Str.{bytes_eq}
 use Rattle.std.specs.Option.{option_map}
+use Rattle.protocol_lexer.specs.declared.Token.{Token}
+use Rattle.protocol_syntax.specs.Symbol.{place_of}
 use Rattle.protocol_model.specs.declared.system.Section.{Section}
-use Rattle.protocol_model.specs.System.{letter_count}
+use Rattle.protocol_model.specs.System.{SystemData, letter_count}
 use Rattle.protocol_model.specs.Patterns.{has_any_length}
+use Rattle.configuration_words.specs.ConfigurationText.{IsWrongAt, spelled_tokens}
+use Rattle.configuration_words.specs.declared.fault.ConfigFault.{ConfigFault}
+use Rattle.configuration_words.specs.declared.fault.ConfigFault.TheVariants.{Unexpected}
 use Rattle.configuration_words.specs.declared.reading.Stage.{Stage}
 use Rattle.configuration_words.specs.declared.reading.Stage.TheVariants as Stages
 use Rattle.configuration_words.specs.declared.reading.Effect.{Effect}
@@ -70,3 +75,9 @@ whole_lists r = elim r.left [
 abbrev pub HasFewLetters : List Section → Type 0
 HasFewLetters [] = Unit {0}
 HasFewLetters (section ∷ others) = letter_count section ≤ 256
+
+-- the fault is at the first of the tokens of the text that is wrong
+pub record IsAtWrongToken (s : SystemData) (text : List ℕ) (tokens : List Token) (fault : ConfigFault) : Type 0 where
+  pub index : ℕ
+  pub wrong : IsWrongAt s (spelled_tokens text tokens) index
+  pub at : fault ≡ Unexpected (place_of text (slice_get tokens index))

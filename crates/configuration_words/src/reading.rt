@@ -1,16 +1,16 @@
 //! From texts to configurations: one pass over the tokens.
 
-ghost use Rattle.std.specs.Prelude.{◌≡◌, ◌≢◌, ◌↔◌, ◌++◌, ◌∷◌, [], OnOk, ◌<◌, ◌≤◌, ℕ, IfErr, IfOk, IfSome, IsTrue, Some, None, if◌then◌else◌, length, position, slice_get};
+ghost use Rattle.std.specs.Prelude.{◌≡◌, ◌≢◌, ◌↔◌, ◌++◌, ◌∷◌, [], OnOk, ◌<◌, ◌≤◌, IfErr, IfOk, IfSome, IsTrue, Some, None, if◌then◌else◌, length, position};
 ghost use Rattle.std.specs.List.{AllByRecursion};
 ghost use Rattle.std.specs.Option.{option_map};
 ghost use Rattle.std.specs.Str.{bytes_eq};
 ghost use Rattle.protocol_lexer.specs.Tokens.{LiesIn};
-ghost use Rattle.protocol_syntax.specs.Symbol.{place_of, spelled};
+ghost use Rattle.protocol_syntax.specs.Symbol.{spelled};
 ghost use Rattle.protocol_model.specs.declared.system.Configuration.{Configuration};
 ghost use Rattle.protocol_model.specs.System.{letter_count};
 ghost use Rattle.protocol_model.specs.Patterns.{fits};
-ghost use Rattle.configuration_words.specs.ConfigurationText.{AreTokensOf, IsFirstFault, IsWrongAt, MeansConfiguration, spelled_tokens};
-ghost use Rattle.configuration_words.specs.ConfigurationReader.{HasFewLetters, advance, effect_of, letter_effect, letter_number, reader_of, take_effect, whole_lists};
+ghost use Rattle.configuration_words.specs.ConfigurationText.{AreTokensOf, IsFirstFault, MeansConfiguration, spelled_tokens};
+ghost use Rattle.configuration_words.specs.ConfigurationReader.{HasFewLetters, IsAtWrongToken, advance, effect_of, letter_effect, letter_number, reader_of, take_effect, whole_lists};
 ghost use Rattle.configuration_words.specs.declared.reading.Stage.TheVariants as Stages;
 
 use crate::alphabet::{has_any_length, sections};
@@ -242,8 +242,7 @@ fn read_lists(
     requires { AllByRecursion (LiesIn text.now) tokens.now }
     ensures lists { IfOk result (λ lists. (c : Configuration)
         → AreTokensOf system.now (spelled_tokens text.now tokens.now) c ↔ (lists.items ≡ c.lists)) }
-    ensures wrong { IfErr result (λ fault. fault ≢ ConfigFault.Memory → (j : ℕ) × IsWrongAt system.now (spelled_tokens text.now tokens.now) j
-        × (fault ≡ ConfigFault.Unexpected (place_of text.now (slice_get tokens.now j)))) }
+    ensures wrong { IfErr result (λ fault. fault ≢ ConfigFault.Memory → IsAtWrongToken system.now text.now tokens.now fault) }
 {
     let mut reader = Reader::new(alloc, sections(system));
     'tokens: for token in tokens {

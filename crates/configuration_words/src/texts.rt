@@ -3,6 +3,7 @@
 ghost use Rattle.std.specs.Prelude.{◌≡◌, ◌++◌, ◌<◌, ◌∷◌, [], All, IfOk, OnOk, IsTrue, codes, flat_map};
 ghost use Rattle.protocol_model.specs.System.{letter_count};
 ghost use Rattle.protocol_model.specs.Patterns.{fits};
+ghost use Rattle.configuration_words.specs.ConfigurationText.{MeansConfiguration};
 ghost use Rattle.configuration_words.specs.Texts.{configuration_text, letter_name, list_text, part_text};
 
 use protocol_model::{Configuration, Section, System};
@@ -15,7 +16,8 @@ pub fn configuration_text(
     configuration: &Configuration,
 ) -> Result<Vec<u8>, AllocError>
     requires { IsTrue (fits system.now configuration.now) }
-    ensures { IfOk result (λ text. text.items ≡ configuration_text system.now configuration.now) }
+    ensures text { IfOk result (λ text. text.items ≡ configuration_text system.now configuration.now) }
+    ensures read_back { IfOk result (λ text. MeansConfiguration system.now text.items configuration.now) }
 {
     let lists = configuration.lists.as_slice();
     let mut text = Vec::new(alloc);

@@ -6,8 +6,9 @@ use Rattle.protocol_syntax.specs.Symbol.{place_of}
 use Rattle.protocol_model.specs.declared.system.Configuration.{Configuration}
 use Rattle.protocol_model.specs.Patterns.{lists_fit}
 use Rattle.configuration_words.specs.declared.fault.ConfigFault.{ConfigFault}
-use Rattle.configuration_words.specs.declared.fault.ConfigFault.TheVariants.{Unexpected, Memory}
-use Rattle.configuration_words.specs.ConfigurationText.{MeansConfiguration, IsWrongAt, IsFirstFault, spelled_tokens}
+use Rattle.configuration_words.specs.declared.fault.ConfigFault.TheVariants.{Memory}
+use Rattle.configuration_words.specs.ConfigurationText.{MeansConfiguration, IsFirstFault}
+use Rattle.configuration_words.specs.ConfigurationReader.{IsAtWrongToken}
 use Rattle.configuration_words.proofs.WrongLemmas.{means_read, means_no_fault, wrong_means_none, wrong_is_fault, bad_byte_means_none, bad_byte_is_fault}
 use Rattle.configuration_words.proofs.reading.read_configuration.Goals as goal
 
@@ -39,11 +40,8 @@ returns-in_err-lists-clause-no_configuration c =
     let tokens = c.as_slice.result.now in
     let taken : AreTokens text tokens = rw c.as_slice.ensures.value c.in-Ok.ensures.taken in
     let p = err_from_is_err_and c.from_residual.result c.from_residual.ensures.1 in
-    let wrong : p.0 ≢ Memory → (j : ℕ) × IsWrongAt s (spelled_tokens text tokens) j × (p.0 ≡ Unexpected (place_of text (slice_get tokens j))) =
-    rw p.2 c.in_err-lists.ensures.wrong in
-    rw p.1 (λ h.
-    let w = wrong h in
-    wrong_means_none s text tokens c.one_reading.ensures.tokens c.one_reading.ensures.either taken w.0 w.1)
+    let wrong : p.0 ≢ Memory → IsAtWrongToken s text tokens p.0 = rw p.2 c.in_err-lists.ensures.wrong in
+    rw p.1 (λ h. wrong_means_none s text tokens c.one_reading.ensures.tokens c.one_reading.ensures.either taken p.0 (wrong h))
 
 pub returns-in_err-lists-clause-fault : goal.returns-in_err-lists-clause-fault
 returns-in_err-lists-clause-fault c =
@@ -52,11 +50,8 @@ returns-in_err-lists-clause-fault c =
     let tokens = c.as_slice.result.now in
     let taken : AreTokens text tokens = rw c.as_slice.ensures.value c.in-Ok.ensures.taken in
     let p = err_from_is_err_and c.from_residual.result c.from_residual.ensures.1 in
-    let wrong : p.0 ≢ Memory → (j : ℕ) × IsWrongAt s (spelled_tokens text tokens) j × (p.0 ≡ Unexpected (place_of text (slice_get tokens j))) =
-    rw p.2 c.in_err-lists.ensures.wrong in
-    rw p.1 (λ h other.
-    let w = wrong h in
-    wrong_is_fault s text tokens c.one_reading.ensures.tokens c.one_reading.ensures.either taken w.0 w.1 p.0 other w.2)
+    let wrong : p.0 ≢ Memory → IsAtWrongToken s text tokens p.0 = rw p.2 c.in_err-lists.ensures.wrong in
+    rw p.1 (λ h. wrong_is_fault s text tokens c.one_reading.ensures.tokens c.one_reading.ensures.either taken p.0 (wrong h))
 
 pub returns-in-Err-BadByte-clause-no_configuration : goal.returns-in-Err-BadByte-clause-no_configuration
 returns-in-Err-BadByte-clause-no_configuration c = λ _.

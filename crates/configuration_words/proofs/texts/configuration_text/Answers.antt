@@ -1,7 +1,10 @@
 use Rattle.std.proofs.Common.{◌≡◌, ◌<◌, ◌≤◌, ◌++◌, length, get_or, subst, sym, ap, ◌∙◌}
 use Rattle.std.proofs.lemmas.List.{append-nil}
+use Rattle.protocol_model.specs.System.{IsValid}
 use Rattle.configuration_words.specs.Texts.{part_text}
-use Rattle.configuration_words.proofs.TextLemmas.{lead, lead_none, lead_some, written_more}
+use Rattle.configuration_words.specs.ConfigurationText.{MeansConfiguration}
+use Rattle.configuration_words.proofs.TextLemmas.{lead, lead_none, lead_some, written_more, written_all}
+use Rattle.configuration_words.proofs.TokenLemmas.{text_means}
 use Rattle.configuration_words.proofs.texts.configuration_text.Goals as goal
 use Rattle.configuration_words.proofs.texts.configuration_text.Goals.{then-index-gt0+in_ok-extend_from_slice, else-index-gt0}
 
@@ -25,3 +28,12 @@ sections-preserved c =
     written_more s c.args.configuration.now.lists index c.sections.text.items c.section-item.result within is c.sections.invariant
     c.index-lists-index.result is_list c.if-index-gt0.text.items c.push_part.new.text.items begun
     (c.in_ok-push_part.ensures ∙ ap (λ xs. c.if-index-gt0.text.items ++ part_text c.section-item.result xs) c.as_slice.ensures)
+
+pub returns-clause-read_back : goal.returns-clause-read_back
+returns-clause-read_back c =
+    let s = c.args.system.now in
+    let d = c.args.configuration.now in
+    let sections = c.as_slice-section-items.ensures ∙ ap (λ e. e.sections) c.system.view_is in
+    let past = subst (λ xs. length xs ≤ c.sections.index) sections c.sections-test.false in
+    subst (λ text. MeansConfiguration s text d) (sym (written_all s d.lists c.sections.index c.sections.text.items past c.sections.invariant))
+    (text_means s d (subst IsValid c.system.view_is c.system.invariant) c.requires)
