@@ -6,3 +6,4 @@ pub mod Combined
 pub mod Words
 pub mod FitsAfter
 pub mod Rules
+pub mod SmallSystem

@@ -1,23 +1,20 @@
-//! The public calls on a small system.
+//! The public calls on a small system, and the order in which results are listed.
 
-ghost use Rattle.std.specs.Prelude.{◌≡◌, [], ◌∷◌, IfOk, length};
-ghost use Rattle.protocol_syntax.specs.declared.protocol.Kind.TheVariants.{Array};
-ghost use Rattle.protocol_model.specs.declared.system.Move.TheVariants.{At};
+ghost use Rattle.std.specs.Prelude.{◌≡◌, [], IfOk, length};
 ghost use Rattle.protocol_model.specs.Names.{IsName};
 ghost use Rattle.protocol_model.specs.System.{IsValidSection};
 
+use crate::combinations::combinations;
+use crate::options::all_options;
 use crate::{RunAnswer, check_run, fits, is_bad, is_initial, is_step, successors};
-use protocol_model::{
-    Atom, Configuration, Move, Pattern, Row, Rule, Run, Section, System, is_name,
-};
-use protocol_syntax::{Kind, Many};
+use protocol_model::{Configuration, Move, Row, Rule, Run, Section, System, is_name};
+use protocol_syntax::Kind;
 use sequence::{Sequence, Text};
 use std::alloc::{AllocError, Global};
 use std::test::Fail;
 
 fn name(alloc: Global, text: &str) -> Result<Text, Fail>
-    ensures named { IfOk result IsName }
-    ensures text { IfOk result (λ name. name ≡ text.now) }
+    ensures { IfOk result IsName }
 {
     if !is_name(text.as_bytes()) {
         return Err(Fail::new("no name"));
@@ -25,106 +22,108 @@ fn name(alloc: Global, text: &str) -> Result<Text, Fail>
     Ok(Text::from_string(String::from_str(alloc, text)?))
 }
 
-/// An array of the letters `a` and `b`.
+/// A channel of one letter.
 fn section(alloc: Global) -> Result<Section, Fail>
     ensures valid { IfOk result IsValidSection }
-    ensures kind { IfOk result (λ section. section.kind ≡ Kind.Array) }
-    ensures letters { IfOk result (λ section. length section.letters ≡ 2) }
+    ensures letters { IfOk result (λ section. length section.letters ≡ 1) }
 {
     let a = name(alloc, "a")?;
-    let b = name(alloc, "b")?;
+    let letters = Sequence::from_vec(vec![in alloc; a]?);
     Ok(Section {
-        name: name(alloc, "P")?,
-        kind: Kind::Array,
-        letters: Sequence::from_vec(vec![in alloc; a, b]?),
+        name: name(alloc, "Q")?,
+        kind: Kind::Channel,
+        letters,
     })
 }
 
-/// A position moves from `a` to `b`.
+/// A rule without a move.
 fn rule(alloc: Global) -> Result<Rule, Fail>
     ensures named { IfOk result (λ rule. IsName rule.name) }
-    ensures moves { IfOk result (λ rule. rule.moves ≡ (0, At 0 1 [] []) ∷ []) }
+    ensures moves { IfOk result (λ rule. rule.moves ≡ []) }
 {
-    let step = Move::At {
-        from: 0,
-        to: 1,
-        guards: Sequence::from_vec(Vec::new(alloc)),
-        map: Sequence::from_vec(Vec::new(alloc)),
-    };
     Ok(Rule {
-        name: name(alloc, "go")?,
-        moves: Sequence::from_vec(vec![in alloc; (0, step)]?),
+        name: name(alloc, "stay")?,
+        moves: Sequence::from_vec(Vec::new(alloc)),
     })
 }
 
-fn letters(alloc: Global, xs: &[u32]) -> Result<Sequence<u32>, AllocError>
-    ensures { IfOk result (λ copy. copy ≡ xs.now) }
+/// A row that names no section.
+fn row(alloc: Global) -> Row
+    ensures { result.parts ≡ [] }
 {
-    Ok(Sequence::from_vec(xs.to_vec(alloc)?))
+    Row {
+        parts: Sequence::from_vec(Vec::new(alloc)),
+    }
 }
 
-/// The row of the arrays of this letter alone.
-fn row(alloc: Global, letter: u32, many: Many) -> Result<Row, AllocError>
-    ensures { IfOk result (λ r. r ≡ record { parts = (0, record { atoms = record { letters = letter ∷ []; many = many } ∷ [] }) ∷ [] }) }
-{
-    let letters = letters(alloc, &[letter])?;
-    let atoms = Sequence::from_vec(vec![in alloc; Atom { letters, many }]?);
-    let parts = Sequence::from_vec(vec![in alloc; (0, Pattern { atoms })]?);
-    Ok(Row { parts })
-}
-
-/// One array and one rule. Initially each position is `a`, and the array of one `b` is bad.
+/// A channel of which each configuration is initial and bad, and a rule that leads from it to itself.
 fn small_system(alloc: Global) -> Result<System, Fail> {
-    let section = section(alloc)?;
-    let rule = rule(alloc)?;
-    let (initial, bad) = (row(alloc, 0, Many::Star)?, row(alloc, 1, Many::One)?);
+    let name = name(alloc, "small")?;
+    let sections = Sequence::from_vec(vec![in alloc; section(alloc)?]?);
+    let rules = Sequence::from_vec(vec![in alloc; rule(alloc)?]?);
+    let init = Sequence::from_vec(vec![in alloc; row(alloc)]?);
+    let bad = Sequence::from_vec(vec![in alloc; row(alloc)]?);
     Ok(System {
-        name: name(alloc, "small")?,
-        sections: Sequence::from_vec(vec![in alloc; section]?),
-        init: Sequence::from_vec(vec![in alloc; initial]?),
-        rules: Sequence::from_vec(vec![in alloc; rule]?),
-        bad: Sequence::from_vec(vec![in alloc; bad]?),
+        name,
+        sections,
+        init,
+        rules,
+        bad,
     })
 }
 
-/// The configuration in which the array has these letters.
-fn array(alloc: Global, xs: &[u32]) -> Result<Configuration, AllocError> {
-    let lists = Sequence::from_vec(vec![in alloc; letters(alloc, xs)?]?);
+/// The configuration of these lists.
+fn configuration(alloc: Global, lists: &[&[u32]]) -> Result<Configuration, AllocError> {
+    let mut copies = Vec::new(alloc);
+    for list in lists {
+        copies.push(Sequence::from_vec(list.to_vec(alloc)?))?;
+    }
+    let lists = Sequence::from_vec(copies);
     Ok(Configuration { lists })
 }
 
 #[test]
 fn steps_of_a_small_system(rt: HostRuntime) -> Result<(), Fail> {
     let system = small_system(rt.alloc())?;
-    let (start, end) = (array(rt.alloc(), &[0])?, array(rt.alloc(), &[1])?);
-    assert!(rt; is_initial(&system, &start) && is_bad(&system, &end));
-    assert!(rt; is_step(&system, 0, &start, &end) && !is_step(&system, 0, &end, &start));
-    Ok(())
-}
-
-fn is_array(c: &Configuration, xs: &[u32]) -> bool {
-    c.lists.as_slice().iter().all(|list| list.as_slice() == xs)
-}
-
-#[test]
-fn successors_in_a_small_system(rt: HostRuntime) -> Result<(), Fail> {
-    let system = small_system(rt.alloc())?;
-    let start = array(rt.alloc(), &[0, 0])?;
-    assert!(rt; fits(&system, &start));
-    let next = successors(rt.alloc(), &system, &start)?;
-    assert_eq!(rt; next.len(), 2);
-    assert!(rt; is_array(&next[0].1, &[0, 1]) && is_array(&next[1].1, &[1, 0]));
+    let c = configuration(rt.alloc(), &[&[0, 0]])?;
+    assert!(rt; is_initial(&system, &c) && is_bad(&system, &c) && is_step(&system, 0, &c, &c));
+    assert!(rt; fits(&system, &c));
+    assert_eq!(rt; successors(rt.alloc(), &system, &c)?.len(), 1);
     Ok(())
 }
 
 #[test]
 fn runs_of_a_small_system(rt: HostRuntime) -> Result<(), Fail> {
     let system = small_system(rt.alloc())?;
-    for (rule, answer) in [(0, RunAnswer::BadRun), (1, RunAnswer::NotStep(1))] {
-        let first = array(rt.alloc(), &[0])?;
-        let end = array(rt.alloc(), &[1])?;
-        let steps = Sequence::from_vec(vec![in rt.alloc(); (rule, end)]?);
-        assert_eq!(rt; check_run(&system, &Run { first, steps }), answer);
+    for rule in [0, 1] {
+        let first = configuration(rt.alloc(), &[&[0]])?;
+        let last = configuration(rt.alloc(), &[&[0]])?;
+        let steps = Sequence::from_vec(vec![in rt.alloc(); (rule, last)]?);
+        let answer = check_run(&system, &Run { first, steps });
+        assert_eq!(rt; answer == RunAnswer::BadRun, rule == 0);
+        assert_eq!(rt; answer == RunAnswer::NotStep(1), rule == 1);
     }
+    Ok(())
+}
+
+fn are_lists(lists: &[Sequence<u32>], expected: &[&[u32]]) -> bool {
+    let mut pairs = lists.iter().zip(expected);
+    lists.len() == expected.len() && pairs.all(|(one, other)| one.as_slice() == *other)
+}
+
+#[test]
+fn results_in_order(rt: HostRuntime) -> Result<(), Fail> {
+    let c = configuration(rt.alloc(), &[&[0, 0, 0], &[1]])?;
+    let pair = Move::Pair {
+        a: 0,
+        b: 0,
+        c: 0,
+        d: 1,
+    };
+    let options = all_options(rt.alloc(), &[(0, pair)], 2, &c)?;
+    let all = combinations(rt.alloc(), &options)?;
+    assert_eq!(rt; all.len(), 2);
+    assert!(rt; are_lists(all[0].as_slice(), &[&[0, 0, 1], &[1]]));
+    assert!(rt; are_lists(all[1].as_slice(), &[&[0, 1, 0], &[1]]));
     Ok(())
 }
