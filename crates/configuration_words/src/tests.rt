@@ -4,25 +4,27 @@ ghost use Rattle.std.specs.Prelude.{◌≡◌, IfOk, length};
 ghost use Rattle.protocol_model.specs.Names.{IsName};
 ghost use Rattle.protocol_model.specs.Allowed.{IsAllowedSection};
 
-use crate::{configuration_text, decode, encode};
+use crate::{configuration_text, decode, encode, read_configuration};
 use protocol_lexer::Place;
-use protocol_model::{System, resolve};
+use protocol_model::{System, is_name, resolve};
 use protocol_syntax::{Kind, Name, Protocol, SectionText};
 use sequence::{Sequence, Text};
 use std::alloc::{AllocError, Global};
 use std::test::Fail;
 
-fn name(alloc: Global, text: &str) -> Result<Name, AllocError>
-    requires { IsName text.now }
+fn name(alloc: Global, text: &str) -> Result<Name, Fail>
     ensures { IfOk result (λ name. IsName name.text) }
 {
+    if !is_name(text.as_bytes()) {
+        return Err("no name".into());
+    }
     Ok(Name {
         text: Text::from_string(String::from_str(alloc, text)?),
         place: Place::START,
     })
 }
 
-fn cell(alloc: Global) -> Result<SectionText, AllocError>
+fn cell(alloc: Global) -> Result<SectionText, Fail>
     ensures allowed { IfOk result IsAllowedSection }
     ensures letters { IfOk result (λ section. length section.letters ≡ 2) }
 {
@@ -35,7 +37,7 @@ fn cell(alloc: Global) -> Result<SectionText, AllocError>
     })
 }
 
-fn channel(alloc: Global) -> Result<SectionText, AllocError>
+fn channel(alloc: Global) -> Result<SectionText, Fail>
     ensures allowed { IfOk result IsAllowedSection }
     ensures letters { IfOk result (λ section. length section.letters ≡ 1) }
 {
@@ -102,5 +104,36 @@ fn words_are_encoded_again(rt: HostRuntime) -> Result<(), Fail> {
     };
     let word = encode(rt.alloc(), &system, &found)?;
     assert_eq!(rt; word.as_slice(), [0, 3, 2].as_slice());
+    Ok(())
+}
+
+/// The text of the configuration that the text means, or what is wrong with it.
+fn answer(alloc: Global, system: &System, text: &str) -> Result<Vec<u8>, Fail> {
+    match read_configuration(alloc, system, text.as_bytes()) {
+        Ok(found) => Ok(configuration_text(alloc, system, &found)?),
+        Err(fault) => Ok(format!(in alloc; "{fault}")?.into_bytes()),
+    }
+}
+
+#[test]
+fn texts_are_read(rt: HostRuntime) -> Result<(), Fail> {
+    let system = cell_and_channel(rt.alloc())?;
+    for (text, expected) in [
+        ("S: a; C: m", "S: a; C: m"),
+        (" S:b;C:empty # end", "S: b; C: empty"),
+        ("S: a b; C: m", "line 1 column 6: unexpected token"),
+        ("", "line 1 column 1: unexpected token"),
+        ("S: a", "line 1 column 5: unexpected token"),
+        ("S: a; C: m;", "line 1 column 11: unexpected token"),
+        ("S: empty; C: m", "line 1 column 4: unexpected token"),
+        ("S: a; C: m @", "line 1 column 12: bad byte"),
+        ("S: a; C: b", "line 1 column 10: unexpected token"),
+        ("C: m; S: a", "line 1 column 1: unexpected token"),
+    ] {
+        assert_eq!(rt;
+            answer(rt.alloc(), &system, text)?.as_slice(),
+            expected.as_bytes()
+        );
+    }
     Ok(())
 }
