@@ -84,8 +84,8 @@ fn configuration(alloc: Global, lists: &[&[u32]]) -> Result<Configuration, Alloc
 
 #[test]
 fn steps_of_a_small_system(rt: HostRuntime) -> Result<(), Fail> {
-    let system = small_system(rt.alloc())?;
-    let c = configuration(rt.alloc(), &[&[0, 0]])?;
+    let system = small_system(rt.alloc())?.copy(rt.alloc())?;
+    let c = configuration(rt.alloc(), &[&[0, 0]])?.copy(rt.alloc())?;
     assert!(rt; is_initial(&system, &c) && is_bad(&system, &c) && is_step(&system, 0, &c, &c));
     assert!(rt; fits(&system, &c));
     assert_eq!(rt; successors(rt.alloc(), &system, &c)?.len(), 1);
