@@ -11,11 +11,10 @@ use Rattle.protocol_model.specs.System.{letter_count, IsValidSection}
 use Rattle.protocol_model.specs.Patterns.{has_any_length, list_fits, lists_fit}
 use Rattle.configuration_words.specs.declared.reading.Stage.{Stage}
 use Rattle.configuration_words.specs.declared.reading.Stage.TheVariants as Stages
-use Rattle.configuration_words.specs.declared.reading.Effect.{Effect}
 use Rattle.configuration_words.specs.declared.reading.Effect.TheVariants.{To, Letter, End}
 use Rattle.configuration_words.specs.Texts.{letter_name}
 use Rattle.configuration_words.specs.ConfigurationText.{list_tokens, part_tokens, parts_tokens}
-use Rattle.configuration_words.specs.ConfigurationReader.{ReaderData, reader_of, letter_effect, letter_number, effect_of, take_effect, advance, whole_lists, HasFewLetters}
+use Rattle.configuration_words.specs.ConfigurationReader.{ReaderData, reader_of, letter_effect, effect_of, take_effect, advance, whole_lists, HasFewLetters}
 use Rattle.configuration_words.proofs.LetterLemmas.{tested, decided, numbered, name_no_semicolon, name_not_empty, letter_is_name, same_letter}
 
 -- the tokens behind a part: for each later section a semicolon and its part

@@ -1,6 +1,6 @@
 -- The text of the sections so far.
 use Rattle.std.proofs.Common.{◌≡◌, ◌<◌, ◌≤◌, ◌+◌, ◌&&◌, ℕ, zero, suc, true, List, [], ◌∷◌, ◌++◌, All, codes, flat_map, length, get_or, drop, refl, sym, ap, subst, ◌∙◌, arith, append_assoc, add-one, nat_lt, ltb-true}
-use Rattle.std.specs.List.{join_by, list_all}
+use Rattle.std.specs.List.{join_by}
 use Rattle.std.proofs.lemmas.Bool.{and_parts}
 use Rattle.std.proofs.lemmas.List.{append-nil, drop_more, drop_all}
 use Rattle.std.proofs.lemmas.List.Sums.{AllPass-from_list_all}

@@ -1,5 +1,5 @@
 -- The text of a configuration has the configuration's tokens.
-use Rattle.std.proofs.Common.{◌≡◌, ◌<◌, ◌≤◌, ◌&&◌, ◌||◌, ◌==◌, ℕ, Bool, true, false, List, [], ◌∷◌, ◌++◌, cond, codes, flat_map, map, length, refl, sym, ap, subst, ◌∙◌, arith}
+use Rattle.std.proofs.Common.{◌≡◌, ◌<◌, ◌&&◌, ◌||◌, ◌==◌, ℕ, true, false, List, [], ◌∷◌, ◌++◌, cond, codes, flat_map, map, length, refl, sym, ap, subst, ◌∙◌, arith}
 use Rattle.std.proofs.Common.{append_assoc, nat_lt, nat_le, ltb-true, true≢false}
 use Rattle.std.specs.Prelude.{is_none}
 use Rattle.std.specs.List.{AllByRecursion, join_by, list_all}
@@ -9,14 +9,14 @@ use Rattle.std.proofs.lemmas.Grind.{flat_map-append}
 use Rattle.protocol_lexer.specs.declared.Token.{Token}
 use Rattle.protocol_lexer.specs.Piece.{is_word_byte}
 use Rattle.protocol_lexer.specs.Tokens.{AreTokens}
-use Rattle.protocol_syntax.specs.Spacing.{is_attached, spaced}
+use Rattle.protocol_syntax.specs.Spacing.{spaced}
 use Rattle.protocol_syntax.specs.Symbol.{keyword_of, spelled}
-use Rattle.protocol_syntax.proofs.Lexing.{IsToken, IsToken-word, IsToken-colon, IsToken-semicolon, is_word, tokens_of_words, AreWords-spelled}
+use Rattle.protocol_syntax.proofs.Lexing.{IsToken, IsToken-word, IsToken-colon, IsToken-semicolon, tokens_of_words, AreWords-spelled}
 use Rattle.protocol_model.specs.declared.system.Section.{Section}
 use Rattle.protocol_model.specs.declared.system.Configuration.{Configuration}
 use Rattle.protocol_model.specs.Names.{IsName}
 use Rattle.protocol_model.specs.System.{SystemData, IsValid, IsValidSection, letter_count}
-use Rattle.protocol_model.specs.Patterns.{fits, list_fits, lists_fit, has_any_length}
+use Rattle.protocol_model.specs.Patterns.{fits, list_fits, lists_fit}
 use Rattle.configuration_words.specs.Texts.{configuration_text, letter_name, list_text, part_text, part_texts}
 use Rattle.configuration_words.specs.ConfigurationText.{MeansConfiguration, list_tokens, part_tokens, parts_tokens}
 use Rattle.configuration_words.proofs.LetterLemmas.{letter_is_name}

@@ -1,5 +1,5 @@
 -- Which texts are configurations, and where every other text first goes wrong.
-use Rattle.std.specs.Prelude.{◌≡◌, ◌<◌, ◌≤◌, ◌+◌, ◌⊎◌, ℕ, List, [], ◌∷◌, ◌++◌, map, take, length, slice_get, codes, IsTrue}
+use Rattle.std.specs.Prelude.{◌≡◌, ◌<◌, ◌+◌, ◌⊎◌, ℕ, List, [], ◌∷◌, ◌++◌, map, take, length, slice_get, codes, IsTrue}
 use Rattle.std.specs.List.{join_by}
 use Rattle.protocol_lexer.specs.declared.Place.{Place}
 use Rattle.protocol_lexer.specs.declared.Token.{Token}

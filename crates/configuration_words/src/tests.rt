@@ -115,25 +115,26 @@ fn answer(alloc: Global, system: &System, text: &str) -> Result<Vec<u8>, Fail> {
     }
 }
 
+/// Texts, and the answer to each.
+const ANSWERS: [(&str, &str); 10] = [
+    ("S: a; C: m", "S: a; C: m"),
+    (" S:b;C:empty # end", "S: b; C: empty"),
+    ("S: a b; C: m", "line 1 column 6: unexpected token"),
+    ("", "line 1 column 1: unexpected token"),
+    ("S: a", "line 1 column 5: unexpected token"),
+    ("S: a; C: m;", "line 1 column 11: unexpected token"),
+    ("S: empty; C: m", "line 1 column 4: unexpected token"),
+    ("S: a; C: m @", "line 1 column 12: bad byte"),
+    ("S: a; C: b", "line 1 column 10: unexpected token"),
+    ("C: m; S: a", "line 1 column 1: unexpected token"),
+];
+
 #[test]
 fn texts_are_read(rt: HostRuntime) -> Result<(), Fail> {
     let system = cell_and_channel(rt.alloc())?;
-    for (text, expected) in [
-        ("S: a; C: m", "S: a; C: m"),
-        (" S:b;C:empty # end", "S: b; C: empty"),
-        ("S: a b; C: m", "line 1 column 6: unexpected token"),
-        ("", "line 1 column 1: unexpected token"),
-        ("S: a", "line 1 column 5: unexpected token"),
-        ("S: a; C: m;", "line 1 column 11: unexpected token"),
-        ("S: empty; C: m", "line 1 column 4: unexpected token"),
-        ("S: a; C: m @", "line 1 column 12: bad byte"),
-        ("S: a; C: b", "line 1 column 10: unexpected token"),
-        ("C: m; S: a", "line 1 column 1: unexpected token"),
-    ] {
-        assert_eq!(rt;
-            answer(rt.alloc(), &system, text)?.as_slice(),
-            expected.as_bytes()
-        );
+    for (text, expected) in ANSWERS {
+        let found = answer(rt.alloc(), &system, text)?;
+        assert_eq!(rt; found.as_slice(), expected.as_bytes());
     }
     Ok(())
 }

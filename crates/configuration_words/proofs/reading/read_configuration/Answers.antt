@@ -1,8 +1,7 @@
 use Rattle.std.proofs.Common.{◌≡◌, ◌≢◌, ℕ, List, true, refl, sym, subst}
-use Rattle.std.specs.Prelude.{◌↔◌, slice_get}
+use Rattle.std.specs.Prelude.{◌↔◌}
 use Rattle.std.proofs.lemmas.Result.{err_from_is_err_and}
 use Rattle.protocol_lexer.specs.Tokens.{AreTokens}
-use Rattle.protocol_syntax.specs.Symbol.{place_of}
 use Rattle.protocol_model.specs.declared.system.Configuration.{Configuration}
 use Rattle.protocol_model.specs.Patterns.{lists_fit}
 use Rattle.configuration_words.specs.declared.fault.ConfigFault.{ConfigFault}

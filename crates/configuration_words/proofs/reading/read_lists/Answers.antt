@@ -1,4 +1,4 @@
-use Rattle.std.proofs.Common.{◌≡◌, ◌≤◌, Some, length, sym, ap, subst, ◌∙◌, refl, arith}
+use Rattle.std.proofs.Common.{sym, ap, subst, ◌∙◌, arith}
 use Rattle.std.specs.Option.{option_map}
 use Rattle.configuration_words.specs.ConfigurationText.{spelled_tokens}
 use Rattle.configuration_words.proofs.ReaderLemmas.{few_letters}
