@@ -4,6 +4,7 @@
 mod all_steps;
 mod combinations;
 mod configurations;
+mod enabled;
 mod options;
 mod rows;
 mod runs;
