@@ -5,6 +5,7 @@ mod all_steps;
 mod combinations;
 mod configurations;
 mod enabled;
+mod moves;
 mod options;
 mod rows;
 mod runs;
