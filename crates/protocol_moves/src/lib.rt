@@ -1,6 +1,7 @@
 //! Moves and patterns on one list of letters: which lists a pattern matches, and from which list a move leads to which.
 #![tactic(auto)]
 
+mod enabled;
 mod extent;
 mod letter_list;
 mod moves;
@@ -11,6 +12,7 @@ mod results;
 #[cfg(test)]
 mod tests;
 
+pub use enabled::is_enabled;
 pub use letter_list::LetterList;
 pub use moves::{is_equal, is_move};
 pub use patterns::atoms_match;

@@ -4,6 +4,8 @@
 mod all_steps;
 mod combinations;
 mod configurations;
+mod enabled;
+mod moves;
 mod options;
 mod rows;
 mod runs;

@@ -7,6 +7,7 @@ ghost use Rattle.protocol_model.specs.Patterns.{list_at as list_of};
 ghost use Rattle.protocol_model.specs.Steps.{move_of, ChangesBy, IsStep};
 
 use crate::configurations::fits;
+use crate::moves::move_at;
 use crate::rows::list_at;
 use protocol_model::{Configuration, Move, System};
 use protocol_moves::{is_equal, is_move};
@@ -16,12 +17,10 @@ fn section_changes(moves: &[(u32, Move)], section: u32, old: &[u32], new: &[u32]
     requires { AllByRecursion (λ part. HasFewGuards part.1) moves.now }
     ensures { IsTrue result ↔ ChangesBy (move_of moves.now section) old.now new.now }
 {
-    for part in moves {
-        if part.0 == section {
-            return is_move(&part.1, old, new);
-        }
+    match move_at(moves, section) {
+        Some(step) => is_move(step, old, new),
+        None => is_equal(old, new),
     }
-    is_equal(old, new)
 }
 
 /// Whether each section's list changes by the moves.

@@ -1,0 +1,7 @@
+use Rattle.std.proofs.Common.{◌≡◌, ◌<◌, ℕ, false}
+use Rattle.protocol_moves.specs.Results.{can_change_two}
+use Rattle.protocol_moves.proofs.enabled.has_partner.Given as goal
+
+-- no position before j is the partner
+abbrev pub invariant-loop-j : goal.invariant-loop-j
+invariant-loop-j l = (k : ℕ) → k < l.j → can_change_two l.a l.b l.list l.i k ≡ false

@@ -1,0 +1,48 @@
+use Rattle.std.proofs.Common.{◌↔◌, ◌∙◌, ◌∷◌, [], ◌++◌, ap, sym, subst, refl, true, length, IsTrue}
+use Rattle.protocol_moves.specs.Results.{some_below, can_change_at, IsEnabled}
+use Rattle.protocol_moves.proofs.EnabledMoves.{test_is, at_enabled, pair_enabled, ring_enabled, two_enabled, set_enabled, stack_enabled}
+use Rattle.protocol_moves.proofs.enabled.is_enabled.Goals as goal
+
+pub returns-in-At : goal.returns-in-At
+returns-in-At c =
+    let list = c.args.list.now in
+    let m = c.in-At in
+    let is = c.has_start.ensures ∙ ap (λ guards. some_below (can_change_at m.from guards list) (length list)) c.as_slice.ensures in
+    subst (λ move. IsTrue c.has_start.result ↔ IsEnabled move list) (sym m.is)
+    (test_is c.has_start.result _ _ is (at_enabled m.from m.to m.guards m.map list))
+
+pub returns-in-Pair : goal.returns-in-Pair
+returns-in-Pair c =
+    let list = c.args.list.now in
+    let m = c.in-Pair in
+    subst (λ move. IsTrue c.has_neighbours.result ↔ IsEnabled move list) (sym m.is)
+    (test_is c.has_neighbours.result _ _ c.has_neighbours.ensures (pair_enabled m.a m.b m.c m.d list))
+
+pub returns-in-Ring : goal.returns-in-Ring
+returns-in-Ring c =
+    let list = c.args.list.now in
+    let m = c.in-Ring in
+    subst (λ move. IsTrue c.has_ends.result ↔ IsEnabled move list) (sym m.is)
+    (test_is c.has_ends.result _ _ c.has_ends.ensures (ring_enabled m.a m.b m.c m.d list))
+
+pub returns-in-Two : goal.returns-in-Two
+returns-in-Two c =
+    let list = c.args.list.now in
+    let m = c.in-Two in
+    subst (λ move. IsTrue c.has_two.result ↔ IsEnabled move list) (sym m.is)
+    (test_is c.has_two.result _ _ c.has_two.ensures (two_enabled m.a m.b m.c m.d list))
+
+pub returns-in-Set : goal.returns-in-Set
+returns-in-Set c =
+    subst (λ move. IsTrue c.is_single.result ↔ IsEnabled move c.args.list.now) (sym c.in-Set.is)
+    (set_enabled c.in-Set.from c.in-Set.to c.args.list.now c.is_single.result c.is_single.ensures)
+
+pub returns-in-Send : goal.returns-in-Send
+returns-in-Send c =
+    subst (λ move. IsTrue true ↔ IsEnabled move c.args.list.now) (sym c.in-Send.is)
+    (λ h. (c.args.list.now ++ c.in-Send.letter ∷ [], refl), λ m. refl)
+
+pub returns-in-Stack : goal.returns-in-Stack
+returns-in-Stack c =
+    subst (λ move. IsTrue c.has_top-in-Stack.result ↔ IsEnabled move c.args.list.now) (sym c.in-Stack.is)
+    (stack_enabled c.in-Stack.pop c.in-Stack.push c.args.list.now c.has_top-in-Stack.result c.has_top-in-Stack.ensures)
