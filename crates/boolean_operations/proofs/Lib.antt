@@ -1,9 +1,12 @@
-pub mod BreadthFirst
 pub mod Complements
-pub mod FirstEdges
-pub mod Outside
-pub mod LeastWords
+pub mod EdgeTargets
 pub mod Letters
+pub mod MergedPairs
 pub mod OptionalStates
 pub mod Order
+pub mod PairWalks
 pub mod ProductLanguages
+pub mod SearchCalls
+pub mod SearchSteps
+pub mod SearchWords
+pub mod StateWalks

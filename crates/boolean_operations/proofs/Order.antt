@@ -5,7 +5,7 @@ use Rattle.std.proofs.lemmas.List.{reverse-reverse, reverse-append}
 use Rattle.sequence.specs.WordOrder.{is_before, is_lexicographically_before}
 use Rattle.exploration.proofs.Words.{Below, Below-cases, Below-trans, before_from_Below, before_at_reverses, is_before-irreflexive, is_before-asymmetric}
 
-before_to_Below : (u w : List ℕ) → IsTrue (is_before u w) → Below (reverse u) (reverse w)
+pub before_to_Below : (u w : List ℕ) → IsTrue (is_before u w) → Below (reverse u) (reverse w)
 before_to_Below u w h =
     elim (Below-cases (reverse u) (reverse w)) [
       | inl below ↦ below

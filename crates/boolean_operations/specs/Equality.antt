@@ -16,3 +16,8 @@ pub same_pairs : (x y : Option ℕ × Option ℕ) → (option_eq eqb x.0 y.0 && 
 same_pairs x y same =
     let parts = and_parts (option_eq eqb x.0 y.0) (option_eq eqb x.1 y.1) same in
     ap (λ (p : Option ℕ). (p, x.1)) (same_options x.0 y.0 parts.0) ∙ ap (λ (q : Option ℕ). (y.0, q)) (same_options x.1 y.1 parts.1)
+
+pub same_left_pairs : (x y : ℕ × Option ℕ) → (eqb x.0 y.0 && option_eq eqb x.1 y.1) ≡ true → x ≡ y
+same_left_pairs x y same =
+    let parts = and_parts (eqb x.0 y.0) (option_eq eqb x.1 y.1) same in
+    ap (λ (p : ℕ). (p, x.1)) (eqb-true x.0 y.0 parts.0) ∙ ap (λ (q : Option ℕ). (y.0, q)) (same_options x.1 y.1 parts.1)

@@ -2,5 +2,8 @@ pub mod Complements
 pub mod Equality
 pub mod Inclusion
 pub mod LeastWords
+pub mod MergedEdges
 pub mod OptionalStates
+pub mod PairGraph
 pub mod Products
+pub mod Search

@@ -1,7 +1,6 @@
 -- Products of two automata: their states are pairs of states that may be missing.
-use Rattle.std.specs.Prelude.{◌≡◌, ◌++◌, ◌&&◌, ◌||◌, ℕ, Bool, not, List, Option, None, Some, Contains, is_some, if◌then◌else◌, map}
-use Rattle.std.specs.List.Sorted.{IsStrictlyIncreasing}
-use Rattle.word_automata.specs.Automaton.{Automaton, find_target, IsValid}
+use Rattle.std.specs.Prelude.{◌&&◌, ◌||◌, ℕ, Bool, not, Option, None, Some, is_some, if◌then◌else◌}
+use Rattle.word_automata.specs.Automaton.{Automaton, IsValid}
 use Rattle.exploration.specs.System.{System}
 use Rattle.boolean_operations.specs.OptionalStates.{start_of, follow, accepts_at, IsStateOrNone}
 use Rattle.boolean_operations.specs.declared.products.Operation.{Operation}
@@ -31,13 +30,6 @@ pair_system operation left right = record {
   step = λ state a. pair_of operation (follow left state.0 a) (follow right state.1 a);
   accepting = λ state. combine operation (accepts_at left state.0) (accepts_at right state.1);
 }
-
--- the letters of the edges of two lists, each once, in increasing order
-pub record AreLettersOf (left right : List (ℕ × ℕ)) (letters : List ℕ) : Type 0 where
-  pub increasing : IsStrictlyIncreasing letters
-  pub left_letters : (a r : ℕ) → find_target left a ≡ Some r → Contains letters a
-  pub right_letters : (a r : ℕ) → find_target right a ≡ Some r → Contains letters a
-  pub only_letters : (a : ℕ) → Contains letters a → Contains (map (λ edge. edge.0) (left ++ right)) a
 
 -- both automata are valid, and the pair has a state of each or none
 abbrev pub IsPairOfStates : Automaton → Automaton → Option ℕ × Option ℕ → Type 0

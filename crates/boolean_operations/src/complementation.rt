@@ -6,7 +6,8 @@ ghost use Rattle.boolean_operations.specs.OptionalStates.{IsStateOrNone};
 ghost use Rattle.boolean_operations.specs.Complements.{are_letters, complement_system};
 ghost use Rattle.boolean_operations.specs.Equality.{same_options};
 
-use crate::optional_states::{accepts_at, follow, start_of};
+use crate::merged_edges::take;
+use crate::optional_states::{accepts_at, edges_at, start_of};
 use exploration::{TransitionSystem, explore};
 use std::alloc::{AllocError, Global};
 use word_automata::Dfa;
@@ -41,10 +42,13 @@ impl TransitionSystem for ComplementSystem<'_> {
         alloc: Global,
         state: &Option<usize>,
     ) -> Result<Vec<(u32, Option<usize>)>, AllocError> {
-        let from = *state;
+        let edges = edges_at(self.automaton, *state);
         let mut successors = Vec::new(alloc);
+        let mut place = 0;
         'letters: for letter in 0..self.automaton.letters() {
-            successors.push((letter, follow(self.automaton, from, letter)))?;
+            let (target, next) = take(edges, place, letter);
+            successors.push((letter, target))?;
+            place = next;
         }
         Ok(successors)
     }

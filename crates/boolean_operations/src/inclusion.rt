@@ -1,14 +1,81 @@
-//! Whether each word of a nondeterministic automaton is one of a deterministic automaton.
+//! Whether each word of a nondeterministic automaton is one of a deterministic automaton: a walk over pairs of a state of the first
+//! and a state of the second or none, breadth first, which ends at the first pair where the one accepts and the other does not
+//! (so neither automaton is made deterministic or complemented). It takes time linear in the edges that leave the pairs that are
+//! reached, at most as many as the product of both numbers of states, up to sorting and searching, on average.
 
 ghost use Rattle.std.specs.Prelude.{◌≡◌, MatchOption, IfOk};
 ghost use Rattle.sequence.specs.WordOrder.{IsLeastWord};
 ghost use Rattle.boolean_operations.specs.Inclusion.{IsIncluded, IsOutside};
+ghost use Rattle.boolean_operations.specs.PairGraph.{IsPair, IsStartPair, PairEdge, is_outside_pair};
+ghost use Rattle.boolean_operations.specs.Equality.{same_left_pairs};
 
-use crate::least_words::least_word;
-use crate::products::difference;
-use determinise::determinise;
+use crate::graph::Graph;
+use crate::optional_states::{accepts_at, follow, start_of};
+use crate::search::least_word_to_goal;
 use std::alloc::{AllocError, Global};
 use word_automata::{Dfa, Nfa};
+
+/// The pairs of states of two automata, as a graph.
+#[derive(Drop)]
+struct PairGraph<'a> {
+    left: &'a Nfa,
+    right: &'a Dfa,
+}
+
+/// A state of the left automaton, and one of the right automaton or none.
+type LeftPair = (usize, Option<usize>);
+
+impl Graph for PairGraph<'_> {
+    type State = LeftPair;
+
+    ghost is_state = { λ g. IsPair g.left.now g.right.now };
+
+    ghost is_start = { λ g. IsStartPair g.left.now g.right.now };
+
+    ghost edge = { λ g. PairEdge g.left.now g.right.now };
+
+    ghost goal = { λ g. is_outside_pair g.left.now g.right.now };
+
+    fn starts(&self, alloc: Global) -> Result<Vec<LeftPair>, AllocError> {
+        let right = start_of(self.right);
+        let mut pairs = Vec::new(alloc);
+        'starts: for &left in self.left.starts() {
+            pairs.push((left, right))?;
+        }
+        Ok(pairs)
+    }
+
+    fn is_goal(&self, state: &LeftPair) -> bool {
+        self.left.accepting(state.0) && !accepts_at(self.right, state.1)
+    }
+
+    fn silent_targets(&self, alloc: Global, state: &LeftPair) -> Result<Vec<LeftPair>, AllocError> {
+        let (left, right) = *state;
+        let mut targets = Vec::new(alloc);
+        'edges: for &(letter, to) in self.left.edges_from(left) {
+            if letter.is_none() {
+                targets.push((to, right))?;
+            }
+        }
+        Ok(targets)
+    }
+
+    fn add_steps(
+        &self,
+        state: &LeftPair,
+        steps: &mut Vec<(u32, LeftPair)>,
+    ) -> Result<(), AllocError> {
+        let (left, right) = *state;
+        'edges: for &(letter, to) in self.left.edges_from(left) {
+            if let Some(letter) = letter {
+                steps.push((letter, (to, follow(self.right, right, letter))))?;
+            }
+        }
+        Ok(())
+    }
+
+    ghost equality = { same_left_pairs };
+}
 
 /// `None` where `b` accepts every word that `a` accepts, and else the least word that `a` accepts and `b` refuses. Both have the
 /// same letters.
@@ -16,7 +83,5 @@ pub fn included(alloc: Global, a: &Nfa, b: &Dfa) -> Result<Option<Vec<u32>>, All
     requires { a.now.letters ≡ b.now.letters }
     ensures { IfOk result (λ word. MatchOption word (IsIncluded a.now b.now) (λ w. IsLeastWord (IsOutside a.now b.now) w.items)) }
 {
-    let subsets = determinise(alloc, a)?;
-    let outside = difference(alloc, &subsets, b)?;
-    Ok(least_word(alloc, &outside)?)
+    Ok(least_word_to_goal(alloc, &PairGraph { left: a, right: b })?)
 }

@@ -2,15 +2,15 @@
 #![tactic(auto)]
 
 mod complementation;
+mod graph;
 mod inclusion;
 mod least_words;
+mod merged_edges;
 mod optional_states;
 mod products;
+mod search;
 
 pub use complementation::complement;
 pub use inclusion::included;
 pub use least_words::{is_empty, least_word};
 pub use products::{difference, intersect, union};
-
-#[cfg(test)]
-mod tests;

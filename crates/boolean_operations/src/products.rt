@@ -1,12 +1,13 @@
-//! Union, intersection and difference, as products of two automata.
+//! Union, intersection and difference, as products of two automata: the sorted edges of two states are merged.
 
 ghost use Rattle.std.specs.Prelude.{◌≡◌, ◌++◌, ◌&&◌, ◌||◌, ℕ, not, List, Option, map, IfOk, OnOk, IsTrue};
 ghost use Rattle.word_automata.specs.Automaton.{accepts, IsValid};
 ghost use Rattle.exploration.specs.System.{IsSuccessors};
-ghost use Rattle.boolean_operations.specs.Products.{IsPairOfStates, combine, pair_of, is_live, pair_system, AreLettersOf};
+ghost use Rattle.boolean_operations.specs.Products.{IsPairOfStates, combine, pair_of, is_live, pair_system};
 ghost use Rattle.boolean_operations.specs.Equality.{same_pairs};
 
-use crate::optional_states::{accepts_at, edges_at, follow, start_of};
+use crate::merged_edges::{least_letter, take};
+use crate::optional_states::{accepts_at, edges_at, start_of};
 use exploration::{TransitionSystem, explore};
 use std::alloc::{AllocError, Global};
 use word_automata::Dfa;
@@ -71,50 +72,25 @@ impl TransitionSystem for Product<'_> {
     }
 
     fn successors(&self, alloc: Global, state: &Pair) -> Result<Vec<(u32, Pair)>, AllocError> {
-        let (left, right) = *state;
-        let letters = letters_of(
-            alloc,
-            edges_at(self.left, left),
-            edges_at(self.right, right),
-        )?;
+        let left = edges_at(self.left, state.0);
+        let right = edges_at(self.right, state.1);
         let mut successors = Vec::new(alloc);
-        'letters: for letter in &letters {
-            let left_target = follow(self.left, left, *letter);
-            let right_target = follow(self.right, right, *letter);
+        let mut i = 0;
+        let mut j = 0;
+        'letters: while i < left.len() || j < right.len() {
+            let letter = least_letter(left, i, right, j);
+            let (left_target, left_next) = take(left, i, letter);
+            let (right_target, right_next) = take(right, j, letter);
             if let Some(pair) = self.pair(left_target, right_target) {
-                successors.push((*letter, pair))?;
+                successors.push((letter, pair))?;
             }
+            i = left_next;
+            j = right_next;
         }
         Ok(successors)
     }
 
     ghost equality = { same_pairs };
-}
-
-/// The letters of the edges of both lists, each once, in increasing order.
-fn letters_of(
-    alloc: Global,
-    left: &[(u32, usize)],
-    right: &[(u32, usize)],
-) -> Result<Vec<u32>, AllocError>
-    ensures { IfOk result (λ letters. AreLettersOf left.now right.now letters.items) }
-{
-    let mut letters = Vec::new(alloc);
-    push_letters(&mut letters, left)?;
-    push_letters(&mut letters, right)?;
-    letters.sort()?;
-    letters.dedup();
-    Ok(letters)
-}
-
-/// Adds the letters of the edges at the end.
-fn push_letters(letters: &mut Vec<u32>, edges: &[(u32, usize)]) -> Result<(), AllocError>
-    ensures { OnOk result (letters.new.items ≡ letters.old.items ++ map (λ edge. edge.0) edges.now) }
-{
-    'edges: for (letter, _) in edges {
-        letters.push(*letter)?;
-    }
-    Ok(())
 }
 
 /// An automaton that accepts the words that `a` or `b` accepts. Both have the same letters.

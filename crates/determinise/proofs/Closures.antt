@@ -1,10 +1,12 @@
 -- Closures told by the members of their sets.
-use Rattle.std.proofs.Common.{◌≡◌, ◌<◌, ◌↔◌, ℕ, Bool, true, false, not, List, Option, None, Some, Contains, length, refl, sym}
-use Rattle.std.proofs.lemmas.Bool.{true≢false}
+use Rattle.std.proofs.Common.{◌≡◌, ◌<◌, ◌↔◌, ◌⊎◌, ℕ, Bool, true, false, not, List, [], ◌∷◌, ◌++◌, Option, None, Some, Contains, length, get_or, refl, sym, subst, ◌∙◌, inl, inr, arith, length-append}
+use Rattle.std.proofs.lemmas.Bool.{true≢false, cases_order}
+use Rattle.std.proofs.lemmas.List.{append-nil, get_or_push, get_or_append_left, get_or_past}
 use Rattle.std.proofs.lemmas.List.Elements.{All-contains}
 use Rattle.std.specs.Option.{is_some}
 use Rattle.word_automata.specs.Nondeterministic.{NondeterministicAutomaton}
-use Rattle.word_automata.specs.StateSets.{AreStates, IsClosure}
+use Rattle.word_automata.specs.StateSets.{AreStates, IsClosure, AddsTargets}
+use Rattle.determinise.specs.Subsets.{IsPlain, ArePlainWhereFalse, IsSubsetFrom}
 use Rattle.word_automata.proofs.Members.{All-from_contains}
 
 -- members of a list of states are states
@@ -30,3 +32,39 @@ pub some_from_test : (o : Option ℕ) (b : Bool) → is_some o ≡ not b → b �
 some_from_test None true e t h = true≢false t
 some_from_test None false e t h = true≢false (sym e)
 some_from_test (Some x) b e t h = cc
+
+-- no target is added where the label is on no edge
+pub adds_no_target : (edges : List (Option ℕ × ℕ)) (old : List ℕ) → ((q : ℕ) → Contains edges (None, q) → ⊥) → AddsTargets edges None old old
+adds_no_target edges old none = record {
+  begins = ([], sym (append-nil old));
+  targets = λ q there. absurd (none q there);
+  only_targets = λ q there. inl there;
+}
+
+-- states without such edges are their own closure
+pub subset_itself : (n : NondeterministicAutomaton) (states : List ℕ) → AreStates n states → ((p : ℕ) → Contains states p → IsPlain n p) → IsSubsetFrom n states states
+subset_itself n states are plain = record {
+  states = are;
+  closure = record {
+    kept = λ q there. there;
+    closed = λ p q there edge. absurd (plain p there q edge);
+    reached = λ q there. (q, [], there, refl, refl);
+  };
+}
+
+-- one more flag
+pub plain_more : (n : NondeterministicAutomaton) (flags : List Bool) (flag : Bool) (state : ℕ) → length flags ≡ state → ArePlainWhereFalse n flags → (flag ≡ false → IsPlain n state)
+    → ArePlainWhereFalse n (flags ++ flag ∷ [])
+plain_more n flags flag state count plain last p e = by (cases_order p state)
+  where
+    by : (p ≡ state) ⊎ ((p < state) ⊎ (state < p)) → IsPlain n p
+    by (inl same) = subst (IsPlain n) (sym same) (last (sym (get_or_push flags flag true state count) ∙ subst (λ x. get_or (flags ++ flag ∷ []) x true ≡ false) same e))
+    by (inr (inl less)) = plain p (sym (get_or_append_left flags (flag ∷ []) true p (omega arith)) ∙ e)
+    by (inr (inr past)) = absurd (true≢false (sym (get_or_past (flags ++ flag ∷ []) p true (let a = length-append flags (flag ∷ []) in omega arith)) ∙ e))
+
+-- lists with the same members have the same subsets
+pub subset_members : (n : NondeterministicAutomaton) (old other subset : List ℕ) → ((q : ℕ) → Contains old q ↔ Contains other q) → IsSubsetFrom n old subset → IsSubsetFrom n other subset
+subset_members n old other subset same from = record {
+  states = from.states;
+  closure = IsClosure-members n old other subset subset same (λ q. ((λ h. h), (λ h. h))) from.closure;
+}

@@ -1,3 +1,4 @@
 pub mod Closures
 pub mod Grouping
 pub mod MoveLists
+pub mod Rejection

@@ -3,7 +3,7 @@ use Rattle.std.proofs.Common.{◌≡◌, ◌+◌, ◌-◌, ◌<◌, ◌≤◌, �
 use Rattle.std.proofs.lemmas.Bool.{cases_lt, true≢false, lt-ltb}
 use Rattle.std.specs.declared.cmp.Ordering.TheVariants.{Less, Equal, Greater}
 use Rattle.std.proofs.lemmas.List.{take_more, append_assoc, append-nil}
-use Rattle.std.proofs.lemmas.List.Elements.{filter_map-append, Contains-append_left, Contains-append_right, Contains-append_cases}
+use Rattle.std.proofs.lemmas.List.Elements.{filter_map-append, Contains-push, Contains-push_cases, Contains-append_left, Contains-append_right, Contains-append_cases}
 use Rattle.std.proofs.lemmas.Option.{some_pair_parts}
 use Rattle.std.specs.List.{filter_map, flat_map, cons_option}
 use Rattle.std.specs.Ordering.{is_lt, ordering_then, nat_cmp}
@@ -127,4 +127,33 @@ module _ (moves : List (ℕ × ℕ)) (ordered : HasOrderedLetters moves) where
           | inl less ↦ omega arith
           | inr more ↦ absurd (other (omega arith))
         ];
+  }
+
+-- the list has the targets of the first i moves, and targets of moves alone
+pub record HasTargets (moves : List (ℕ × ℕ)) (targets : List ℕ) (i : ℕ) : Type 0 where
+  pub added : (k : ℕ) → k < i → Contains targets (get_or moves k (0, 0)).1
+  pub only : (q : ℕ) → Contains targets q → (k : ℕ) × (k < length moves) × ((get_or moves k (0, 0)).1 ≡ q)
+
+module _ (moves : List (ℕ × ℕ)) (targets : List ℕ) (i : ℕ) (h : HasTargets moves targets i) where
+  pub targets_same : Contains targets (get_or moves i (0, 0)).1 → HasTargets moves targets (i + 1)
+  targets_same there = record {
+    added = λ k l. elim (cases_lt k i) [
+      | inl less ↦ h.added k less
+      | inr more ↦ let e : i ≡ k = omega arith in subst (λ x. Contains targets (get_or moves x (0, 0)).1) e there
+    ];
+    only = h.only;
+  }
+
+  pub targets_more : i < length moves → HasTargets moves (targets ++ (get_or moves i (0, 0)).1 ∷ []) (i + 1)
+  targets_more within = record {
+    added = λ k l. elim (cases_lt k i) [
+      | inl less ↦ Contains-append_left targets ((get_or moves i (0, 0)).1 ∷ []) (get_or moves k (0, 0)).1 (h.added k less)
+      | inr more ↦
+          let e : i ≡ k = omega arith in
+          subst (λ x. Contains (targets ++ (get_or moves i (0, 0)).1 ∷ []) (get_or moves x (0, 0)).1) e (Contains-push targets (get_or moves i (0, 0)).1)
+    ];
+    only = λ q there. elim (Contains-push_cases targets (get_or moves i (0, 0)).1 q there) [
+      | inl old ↦ h.only q old
+      | inr e ↦ (i, within, e)
+    ];
   }

@@ -1,5 +1,5 @@
 -- Sets of states of a nondeterministic automaton, and the moves that lead out of them.
-use Rattle.std.specs.Prelude.{◌≡◌, ◌+◌, ◌<◌, ◌≤◌, ℕ, List, Option, None, Some, Contains, length, slice_index_or}
+use Rattle.std.specs.Prelude.{◌≡◌, ◌+◌, ◌<◌, ◌≤◌, ℕ, Bool, true, false, List, Option, None, Some, Contains, length, slice_index_or}
 use Rattle.std.specs.List.{filter_map, flat_map}
 use Rattle.word_automata.specs.Path.{edges_of}
 use Rattle.word_automata.specs.Nondeterministic.{NondeterministicAutomaton, IsInRange}
@@ -15,6 +15,14 @@ pub record IsSubset (n : NondeterministicAutomaton) (subset : List ℕ) : Type 0
 pub record IsSubsetFrom (n : NondeterministicAutomaton) (from subset : List ℕ) : Type 0 where
   pub states : AreStates n subset
   pub closure : IsClosure n from subset
+
+-- no edge without a letter leaves the state
+abbrev pub IsPlain : NondeterministicAutomaton → ℕ → Type 0
+IsPlain n p = (q : ℕ) → Contains (edges_of n.states p) (None, q) → ⊥
+
+-- a state whose flag is false has no edge without a letter
+abbrev pub ArePlainWhereFalse : NondeterministicAutomaton → List Bool → Type 0
+ArePlainWhereFalse n flags = (p : ℕ) → slice_index_or flags p true ≡ false → IsPlain n p
 
 -- the move of an edge with a letter: the letter and the target
 abbrev pub lettered_move : Option ℕ × ℕ → Option (ℕ × ℕ)

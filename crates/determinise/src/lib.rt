@@ -1,16 +1,17 @@
 //! Deterministic automata from nondeterministic ones, by the subset construction.
 #![tactic(auto)]
 
+mod emptiness;
 mod moves;
+mod silent;
 mod subset;
 mod subsets;
-#[cfg(test)]
-mod tests;
 
 ghost use Rattle.std.specs.Prelude.{◌≡◌, ◌↔◌, List, ℕ, IsTrue, IfOk};
 ghost use Rattle.word_automata.specs.Automaton.{accepts, IsValid};
 ghost use Rattle.word_automata.specs.Nondeterministic.{Accepts};
 
+use crate::silent::silent_flags;
 use crate::subsets::Subsets;
 use exploration::explore_languages;
 use std::alloc::{AllocError, Global};
@@ -24,5 +25,6 @@ pub fn determinise(alloc: Global, automaton: &Nfa) -> Result<Dfa, AllocError>
     ensures letters { IfOk result (λ dfa. dfa.letters ≡ automaton.now.letters) }
     ensures valid { IfOk result IsValid }
 {
-    Ok(explore_languages(alloc, &Subsets::new(automaton))?)
+    let silent = silent_flags(alloc, automaton)?;
+    Ok(explore_languages(alloc, &Subsets::new(automaton, &silent))?)
 }

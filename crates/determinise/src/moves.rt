@@ -1,6 +1,6 @@
 //! The moves with a letter out of a set of states.
 
-ghost use Rattle.std.specs.Prelude.{◌≡◌, ◌<◌, ◌++◌, length, map, IfOk, OnOk};
+ghost use Rattle.std.specs.Prelude.{◌≡◌, ◌↔◌, ◌<◌, ◌++◌, ℕ, Contains, IsTrue, length, map, IfOk, OnOk};
 ghost use Rattle.std.specs.List.{filter_map};
 ghost use Rattle.word_automata.specs.StateSets.{AreStates};
 ghost use Rattle.determinise.specs.Subsets.{lettered_move, moves_from, HasOrderedLetters, AreOrderedMoves, IsRun};
@@ -66,9 +66,25 @@ pub fn end_of_run(moves: &[(u32, usize)], at: usize) -> usize
     end
 }
 
-/// The targets of the moves.
+/// The targets of the moves, each once where equal targets stand side by side.
 pub fn targets(alloc: Global, moves: &[(u32, usize)]) -> Result<Vec<usize>, AllocError>
-    ensures { IfOk result (λ targets. targets.items ≡ map (λ move. move.1) moves.now) }
+    ensures { IfOk result (λ targets. (q : ℕ) → Contains targets.items q ↔ Contains (map (λ move. move.1) moves.now) q) }
 {
-    moves.iter().map(|&(_, to)| to).collect(alloc)
+    let mut targets = Vec::with_capacity(alloc, moves.len())?;
+    'moves: for &(_, to) in moves {
+        if !ends_with(&targets, to) {
+            targets.push(to)?;
+        }
+    }
+    Ok(targets)
+}
+
+/// Whether the state is the last of the list.
+fn ends_with(states: &[usize], state: usize) -> bool
+    ensures { IsTrue result → Contains states.now state }
+{
+    match states.last() {
+        Some(last) => *last == state,
+        None => false,
+    }
 }

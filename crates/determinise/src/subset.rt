@@ -1,9 +1,10 @@
 //! Sets of states.
 
-ghost use Rattle.std.specs.Prelude.{◌↔◌, ℕ, Contains, IsTrue, IfOk, OnOk};
-ghost use Rattle.word_automata.specs.Path.{is_accepting};
+ghost use Rattle.std.specs.Prelude.{◌≡◌, ◌↔◌, ◌<◌, ℕ, true, false, All, Contains, IsTrue, IfOk, OnOk, length, slice_index_or};
+ghost use Rattle.word_automata.specs.Path.{edges_of, is_accepting};
+ghost use Rattle.word_automata.specs.Nondeterministic.{IsInRange};
 ghost use Rattle.word_automata.specs.StateSets.{AreStates, AddsState, AddsTargets, IsClosure};
-ghost use Rattle.determinise.specs.Subsets.{IsSubsetFrom};
+ghost use Rattle.determinise.specs.Subsets.{IsSubsetFrom, ArePlainWhereFalse};
 ghost use Rattle.std.specs.Prelude.{None};
 
 use exploration::StateList;
@@ -11,12 +12,51 @@ use indexmap::IndexSet;
 use std::alloc::{AllocError, Global};
 use word_automata::Nfa;
 
+/// The states that moves without a letter reach from the states: these states as they are, where no move without a letter leaves
+/// them, and else in increasing order.
+pub fn subset_of(
+    alloc: Global,
+    automaton: &Nfa,
+    silent: &[bool],
+    from: Vec<usize>,
+) -> Result<StateList, AllocError>
+    requires states { AreStates automaton.now from.items }
+    requires count { length silent.now ≡ length automaton.now.states }
+    requires plain { ArePlainWhereFalse automaton.now silent.now }
+    ensures { IfOk result (IsSubsetFrom automaton.now from.items) }
+{
+    if has_flag(silent, &from) {
+        return Ok(subset_from(alloc, automaton, silent, &from)?);
+    }
+    Ok(StateList::from_vec(from))
+}
+
+/// Whether one of the states has the flag.
+fn has_flag(flags: &[bool], states: &[usize]) -> bool
+    requires { All (λ q. q < length flags.now) states.now }
+    ensures { result ≡ false → (q : ℕ) → Contains states.now q → slice_index_or flags.now q true ≡ false }
+{
+    'states: for state in states {
+        if flags[*state] {
+            return true;
+        }
+    }
+    false
+}
+
 /// The states that moves without a letter reach from the states, in increasing order.
-pub fn subset_from(alloc: Global, automaton: &Nfa, from: &[usize]) -> Result<StateList, AllocError>
-    requires { AreStates automaton.now from.now }
+pub fn subset_from(
+    alloc: Global,
+    automaton: &Nfa,
+    silent: &[bool],
+    from: &[usize],
+) -> Result<StateList, AllocError>
+    requires states { AreStates automaton.now from.now }
+    requires count { length silent.now ≡ length automaton.now.states }
+    requires plain { ArePlainWhereFalse automaton.now silent.now }
     ensures { IfOk result (IsSubsetFrom automaton.now from.now) }
 {
-    let set = closure(alloc, automaton, from)?;
+    let set = closure(alloc, automaton, silent, from)?;
     let mut states = Vec::from_slice(alloc, set.as_slice())?;
     states.sort()?;
     Ok(StateList::from_vec(states))
@@ -36,8 +76,15 @@ pub fn accepts_some(automaton: &Nfa, states: &[usize]) -> bool
 }
 
 /// The set of the states that moves without a letter reach from the states.
-fn closure(alloc: Global, automaton: &Nfa, from: &[usize]) -> Result<IndexSet<usize>, AllocError>
-    requires { AreStates automaton.now from.now }
+fn closure(
+    alloc: Global,
+    automaton: &Nfa,
+    silent: &[bool],
+    from: &[usize],
+) -> Result<IndexSet<usize>, AllocError>
+    requires states { AreStates automaton.now from.now }
+    requires count { length silent.now ≡ length automaton.now.states }
+    requires plain { ArePlainWhereFalse automaton.now silent.now }
     ensures states { IfOk result (λ set. AreStates automaton.now set.keys) }
     ensures closure { IfOk result (λ set. IsClosure automaton.now from.now set.keys) }
 {
@@ -45,10 +92,30 @@ fn closure(alloc: Global, automaton: &Nfa, from: &[usize]) -> Result<IndexSet<us
     let mut next = 0;
     'states: while next < set.len() {
         let state = set.as_slice()[next];
-        add_silent_targets(&mut set, automaton.edges_from(state))?;
+        add_targets_of(&mut set, automaton, silent, state)?;
         next += 1;
     }
     Ok(set)
+}
+
+/// Adds the targets of the edges without a letter that leave the state.
+fn add_targets_of(
+    set: &mut IndexSet<usize>,
+    automaton: &Nfa,
+    silent: &[bool],
+    state: usize,
+) -> Result<(), AllocError>
+    requires state { state < length automaton.now.states }
+    requires count { length silent.now ≡ length automaton.now.states }
+    requires plain { ArePlainWhereFalse automaton.now silent.now }
+    ensures targets { OnOk result (AddsTargets (edges_of automaton.now.states state) None set.old.keys set.new.keys) }
+    ensures in_range { OnOk result (IsInRange automaton.now) }
+{
+    let edges = automaton.edges_from(state);
+    if silent[state] {
+        add_silent_targets(set, edges)?;
+    }
+    Ok(())
 }
 
 /// The set of the states.

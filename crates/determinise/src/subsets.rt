@@ -1,12 +1,13 @@
 //! The system of the sets of states of a nondeterministic automaton.
 
-ghost use Rattle.std.specs.Prelude.{◌≡◌, ◌<◌};
+ghost use Rattle.std.specs.Prelude.{◌≡◌, ◌<◌, length};
 ghost use Rattle.std.specs.Cmp.Lexicographic.{bytes_decides};
 ghost use Rattle.word_automata.specs.Nondeterministic.{Accepts, AcceptsFromAny};
-ghost use Rattle.determinise.specs.Subsets.{IsSubset};
+ghost use Rattle.determinise.specs.Subsets.{IsSubset, ArePlainWhereFalse};
 
+use crate::emptiness::accepts_a_word;
 use crate::moves::{end_of_run, ordered_moves, targets};
-use crate::subset::{accepts_some, subset_from};
+use crate::subset::{accepts_some, subset_from, subset_of};
 use exploration::{LanguageSystem, StateList};
 use std::alloc::{AllocError, Global};
 use word_automata::Nfa;
@@ -15,14 +16,19 @@ use word_automata::Nfa;
 #[derive(Drop)]
 pub struct Subsets<'a> {
     automaton: &'a Nfa,
+    silent: &'a [bool],
+    ghost count: { length silent.now ≡ length automaton.now.states },
+    ghost plain: { ArePlainWhereFalse automaton.now silent.now },
 }
 
 impl<'a> Subsets<'a> {
-    /// The sets of states of this automaton.
-    pub fn new(automaton: &'a Nfa) -> Subsets<'a>
+    /// The sets of states of this automaton, with a flag for each state, which is false only where no edge without a letter leaves it.
+    pub fn new(automaton: &'a Nfa, silent: &'a [bool]) -> Subsets<'a>
+        requires count { length silent.now ≡ length automaton.now.states }
+        requires plain { ArePlainWhereFalse automaton.now silent.now }
         ensures { result.automaton.now ≡ automaton.now }
     {
-        Subsets { automaton }
+        Subsets { automaton, silent }
     }
 }
 
@@ -43,10 +49,10 @@ impl<'a> LanguageSystem for Subsets<'a> {
 
     fn start(&self, alloc: Global) -> Result<Option<StateList>, AllocError> {
         let starts = self.automaton.starts();
-        if starts.is_empty() {
+        if !accepts_a_word(alloc, self.automaton)? {
             return Ok(None);
         }
-        Ok(Some(subset_from(alloc, self.automaton, starts)?))
+        Ok(Some(subset_from(alloc, self.automaton, self.silent, starts)?))
     }
 
     fn is_accepting(&self, state: &StateList) -> bool {
@@ -64,7 +70,8 @@ impl<'a> LanguageSystem for Subsets<'a> {
         'runs: while at < moves.len() {
             let end = end_of_run(&moves, at);
             let targets = targets(alloc, &moves[at..end])?;
-            successors.push((moves[at].0, subset_from(alloc, self.automaton, &targets)?))?;
+            let subset = subset_of(alloc, self.automaton, self.silent, targets)?;
+            successors.push((moves[at].0, subset))?;
             at = end;
         }
         Ok(successors)

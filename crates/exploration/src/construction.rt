@@ -99,9 +99,9 @@ fn number<T: LanguageSystem>(
     requires { T.is_state system.now state }
     ensures { IfOk result (Numbers (T.language system.now) found.old.keys found.new.keys builder.old builder.new state) }
 {
-    let accepting = system.is_accepting(&state);
     let (number, is_new) = found.insert_full(state)?;
     if is_new {
+        let accepting = system.is_accepting(&found.as_slice()[number]);
         builder.state(accepting)?;
     }
     Ok(number)

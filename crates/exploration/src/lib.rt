@@ -9,8 +9,6 @@ mod construction;
 mod language_system;
 mod state_list;
 mod stepwise;
-#[cfg(test)]
-mod tests;
 mod transition_system;
 
 pub use construction::{explore, explore_languages};

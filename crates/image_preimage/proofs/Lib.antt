@@ -1,4 +1,3 @@
 mod GraphLemmas
 mod PairLemmas
 mod ImageLemmas
-mod RelatedLetters

@@ -1,4 +1,2 @@
 pub mod Images
-pub mod Problem
 pub mod Pairs
-pub mod OneRule

@@ -4,3 +4,5 @@ pub mod Refining
 pub mod Splitting
 pub mod Unique
 pub mod Comparisons
+pub mod LookingAgain
+pub mod PredecessorLists

@@ -1,31 +1,20 @@
 -- Rounds of refinement: different classes stay told apart by words, and at the end each class has one language.
 use Rattle.std.proofs.Common.{◌≡◌, ◌-◌, ◌<◌, ◌≤◌, ◌⊎◌, ℕ, zero, suc, Bool, true, false, List, [], ◌∷◌, length, replicate, slice_index, refl, sym, ap, ◌∙◌, inl, inr, arith}
 use Rattle.std.proofs.lemmas.Bool.{cases_eq, cases_lt, true≢false}
-use Rattle.std.proofs.lemmas.List.{length-replicate}
 use Rattle.std.proofs.lemmas.List.Sums.{sum_by-cons}
 use Rattle.std.specs.List.{filter_map, sum_by}
 use Rattle.word_automata.specs.Path.{edges_of, is_accepting}
 use Rattle.word_automata.specs.Automaton.{Automaton, accepts_from, IsValid}
 use Rattle.exploration.specs.System.{look_up}
 use Rattle.minimise.specs.Signatures.{Signature}
-use Rattle.minimise.specs.Refinement.{live_class, live_edge, signature_of, IsSplit, AreCoarse, AreClasses}
+use Rattle.minimise.specs.Refinement.{live_class, live_edge, signature_of, IsSplit, AreGrouped, AreCoarse, AreClasses}
+use Rattle.minimise.specs.Rounds.{AreToldApart, outgoing, AreAlike}
 use Rattle.minimise.proofs.Edges.{edges_differ, next_state, accepts_from-next, class-past, look_up-live_edges, live_edges-increasing, live_class-same}
 
-index-zeros : (n q : ℕ) → slice_index (replicate n 0) q ≡ 0
+pub index-zeros : (n q : ℕ) → slice_index (replicate n 0) q ≡ 0
 index-zeros zero q = refl
 index-zeros (suc n) zero = refl
 index-zeros (suc n) (suc q) = index-zeros n q
-
--- at first all states are in class 0
-pub coarse_first : (m : Automaton) (classes : List ℕ) → classes ≡ replicate (length m.states) 0 → AreCoarse m classes
-coarse_first m classes e = record {
-  count = ap length e ∙ length-replicate (length m.states) 0;
-  told_apart = λ p q ne. absurd (ne (zero_at p ∙ sym (zero_at q)));
-  least = λ q r h. absurd (let z = zero_at q in let k : slice_index classes q ≡ suc r = h in omega arith);
-}
-  where
-    zero_at : (q : ℕ) → slice_index classes q ≡ 0
-    zero_at q = ap (λ xs. slice_index xs q) e ∙ index-zeros (length m.states) q
 
 same_or_not : (x y : Bool) → (x ≡ y) ⊎ (x ≡ y → ⊥)
 same_or_not true true = inl refl
@@ -53,30 +42,34 @@ falls n (c ∷ cs) (f ∷ fs) l h k ne =
       | inr other ↦ let a = rest-le n cs fs (omega arith) (λ q. h (suc q)) in omega (arith, sum_by-cons (λ c. n - c) f fs, sum_by-cons (λ c. n - c) c cs)
     ]
 
-module _ (m : Automaton) (valid : IsValid m) (classes finer : List ℕ) (coarse : AreCoarse m classes) (split : IsSplit m classes finer) where
-  -- states with different signatures are told apart
+-- states with different signatures are told apart
+pub outgoing_apart : (m : Automaton) → IsValid m → (classes : List ℕ) → AreToldApart m classes → (p q : ℕ) → (outgoing m classes p ≡ outgoing m classes q → ⊥)
+    → (w : List ℕ) × (accepts_from m p w ≡ accepts_from m q w → ⊥)
+outgoing_apart m valid classes apart p q ne = by_flag (same_or_not (is_accepting m.states p) (is_accepting m.states q))
+  where
+    by_edges : is_accepting m.states p ≡ is_accepting m.states q
+        → (filter_map (live_edge classes) (edges_of m.states p) ≡ filter_map (live_edge classes) (edges_of m.states q))
+        ⊎ ((a : ℕ) × (look_up (filter_map (live_edge classes) (edges_of m.states p)) a ≡ look_up (filter_map (live_edge classes) (edges_of m.states q)) a → ⊥))
+        → (w : List ℕ) × (accepts_from m p w ≡ accepts_from m q w → ⊥)
+    by_edges f (inl e) = absurd (ne (λ i. record { class = 0; accepting = f i; edges = e i }))
+    by_edges f (inr (a, differ)) =
+        let more = apart.told_apart (next_state m p a) (next_state m q a)
+        (λ same. differ (look_up-live_edges m valid classes apart.count p a ∙ ap live_class same ∙ sym (look_up-live_edges m valid classes apart.count q a))) in
+        (a ∷ more.0, λ h. more.1 (sym (accepts_from-next m p a more.0) ∙ h ∙ accepts_from-next m q a more.0))
+
+    by_flag : (is_accepting m.states p ≡ is_accepting m.states q) ⊎ (is_accepting m.states p ≡ is_accepting m.states q → ⊥)
+        → (w : List ℕ) × (accepts_from m p w ≡ accepts_from m q w → ⊥)
+    by_flag (inl f) = by_edges f (edges_differ (filter_map (live_edge classes) (edges_of m.states p)) (filter_map (live_edge classes) (edges_of m.states q))
+        (live_edges-increasing m valid classes apart.count p) (live_edges-increasing m valid classes apart.count q))
+    by_flag (inr g) = ([], g)
+
+module _ (m : Automaton) (valid : IsValid m) (classes finer : List ℕ) (apart : AreToldApart m classes) (split : IsSplit m classes finer) where
   signatures_apart : (p q : ℕ) → (signature_of m classes p ≡ signature_of m classes q → ⊥) → (w : List ℕ) × (accepts_from m p w ≡ accepts_from m q w → ⊥)
-  signatures_apart p q ne = by_class (cases_eq (slice_index classes p) (slice_index classes q))
-    where
-      by_edges : slice_index classes p ≡ slice_index classes q → is_accepting m.states p ≡ is_accepting m.states q
-          → (filter_map (live_edge classes) (edges_of m.states p) ≡ filter_map (live_edge classes) (edges_of m.states q))
-          ⊎ ((a : ℕ) × (look_up (filter_map (live_edge classes) (edges_of m.states p)) a ≡ look_up (filter_map (live_edge classes) (edges_of m.states q)) a → ⊥))
-          → (w : List ℕ) × (accepts_from m p w ≡ accepts_from m q w → ⊥)
-      by_edges c f (inl e) = absurd (ne (λ i. record { class = c i; accepting = f i; edges = e i }))
-      by_edges c f (inr (a, differ)) =
-          let more = coarse.told_apart (next_state m p a) (next_state m q a)
-          (λ same. differ (look_up-live_edges m valid classes coarse.count p a ∙ ap live_class same ∙ sym (look_up-live_edges m valid classes coarse.count q a))) in
-          (a ∷ more.0, λ h. more.1 (sym (accepts_from-next m p a more.0) ∙ h ∙ accepts_from-next m q a more.0))
-
-      by_flag : slice_index classes p ≡ slice_index classes q → (is_accepting m.states p ≡ is_accepting m.states q) ⊎ (is_accepting m.states p ≡ is_accepting m.states q → ⊥)
-          → (w : List ℕ) × (accepts_from m p w ≡ accepts_from m q w → ⊥)
-      by_flag c (inl f) = by_edges c f (edges_differ (filter_map (live_edge classes) (edges_of m.states p)) (filter_map (live_edge classes) (edges_of m.states q))
-          (live_edges-increasing m valid classes coarse.count p) (live_edges-increasing m valid classes coarse.count q))
-      by_flag c (inr g) = ([], g)
-
-      by_class : (slice_index classes p ≡ slice_index classes q) ⊎ (slice_index classes p ≡ slice_index classes q → ⊥) → (w : List ℕ) × (accepts_from m p w ≡ accepts_from m q w → ⊥)
-      by_class (inl c) = by_flag c (same_or_not (is_accepting m.states p) (is_accepting m.states q))
-      by_class (inr d) = coarse.told_apart p q d
+  signatures_apart p q ne = elim (cases_eq (slice_index classes p) (slice_index classes q)) [
+    | inl c ↦ outgoing_apart m valid classes apart p q
+        (λ e. ne (λ i. record { class = c i; accepting = ap (λ (s : Signature). s.accepting) e i; edges = ap (λ (s : Signature). s.edges) e i }))
+    | inr d ↦ apart.told_apart p q d
+  ]
 
   pub split_coarse : AreCoarse m finer
   split_coarse = record {
@@ -85,6 +78,11 @@ module _ (m : Automaton) (valid : IsValid m) (classes finer : List ℕ) (coarse 
     least = λ q r h. let l = split.least q r h in (l.0, split.together r q l.1 ∙ h);
   }
 
+-- classes that have least states are told apart
+pub coarse_apart : (m : Automaton) (classes : List ℕ) → AreCoarse m classes → AreToldApart m classes
+coarse_apart m classes coarse = record { count = coarse.count; told_apart = coarse.told_apart }
+
+module _ (m : Automaton) (valid : IsValid m) (classes finer : List ℕ) (coarse : AreCoarse m classes) (split : IsSplit m classes finer) where
   -- a class of a round is at most that of the next
   pub split_le : (q : ℕ) → slice_index classes q ≤ slice_index finer q
   split_le q = by (slice_index finer q) refl
@@ -119,14 +117,28 @@ module _ (m : Automaton) (valid : IsValid m) (classes finer : List ℕ) (coarse 
   pub split_falls : (finer ≡ classes → ⊥) → sum_by (λ c. length m.states - c) finer < sum_by (λ c. length m.states - c) classes
   split_falls ne = falls (length m.states) classes finer (coarse.count ∙ sym split.count) split_le split_below ne
 
--- where a round changes nothing, the states of a class accept the same words
-pub stable : (m : Automaton) → IsValid m → (classes : List ℕ) → AreCoarse m classes → IsSplit m classes classes → AreClasses m classes
-stable m valid classes coarse split = record { valid = valid; coarse = coarse; alike = λ p q w h. alike w p q h }
+-- the signatures of a round that changes nothing are those of the classes
+pub alike_split : (m : Automaton) (classes : List ℕ) → IsSplit m classes classes → AreAlike m classes
+alike_split m classes split p q e =
+    let same = split.apart p q e in
+    λ i. record { class = 0; accepting = ap (λ (s : Signature). s.accepting) same i; edges = ap (λ (s : Signature). s.edges) same i }
+
+-- where the states of a class have one signature, they accept the same words
+pub stable : (m : Automaton) → IsValid m → (classes : List ℕ) → AreCoarse m classes → AreAlike m classes → AreClasses m classes
+stable m valid classes coarse same = record { valid = valid; coarse = coarse; alike = λ p q w h. alike w p q h }
   where
     alike : (w : List ℕ) (p q : ℕ) → slice_index classes p ≡ slice_index classes q → accepts_from m p w ≡ accepts_from m q w
-    alike [] p q h = ap (λ (s : Signature). s.accepting) (split.apart p q h)
+    alike [] p q h = ap (λ (s : Signature). s.accepting) (same p q h)
     alike (a ∷ w) p q h =
         accepts_from-next m p a w
         ∙ alike w (next_state m p a) (next_state m q a) (live_class-same (slice_index classes (next_state m p a)) (slice_index classes (next_state m q a))
-        (sym (look_up-live_edges m valid classes coarse.count p a) ∙ ap (λ (s : Signature). look_up s.edges a) (split.apart p q h) ∙ look_up-live_edges m valid classes coarse.count q a))
+        (sym (look_up-live_edges m valid classes coarse.count p a) ∙ ap (λ (s : Signature). look_up s.edges a) (same p q h) ∙ look_up-live_edges m valid classes coarse.count q a))
         ∙ sym (accepts_from-next m q a w)
+
+-- classes by their least states
+pub least_coarse : (m : Automaton) (classes least : List ℕ) → AreToldApart m classes → AreGrouped (slice_index classes) (length m.states) least → AreCoarse m least
+least_coarse m classes least apart grouped = record {
+  count = grouped.count;
+  told_apart = λ p q ne. apart.told_apart p q (λ e. ne (grouped.together p q e));
+  least = λ q r h. let l = grouped.least q r h in (l.0, grouped.together r q l.1 ∙ h);
+}

@@ -34,34 +34,38 @@ signature_of m classes q = record {
 abbrev pub no_word : Signature
 no_word = record { class = 0; accepting = false; edges = [] }
 
--- the signature has this class: 0 for that of no word; else one more than the first state that has it, which is the state where it is new
-pub record IsClassOfNoWord (old new : Signature → Option ℕ) (s : Signature) (class : ℕ) : Type 0 where
-  pub none : s ≡ no_word
+-- the key has this class: 0 for the key none; else one more than the first state that has it, which is the state where it is new
+pub record IsClassOfNone {K : Type 0} (none : K) (old new : K → Option ℕ) (key : K) (class : ℕ) : Type 0 where
+  pub is_none : key ≡ none
   pub class_is : class ≡ 0
-  pub same : (t : Signature) → new t ≡ old t
+  pub same : (t : K) → new t ≡ old t
 
-pub record IsKnownClass (old new : Signature → Option ℕ) (s : Signature) (class : ℕ) : Type 0 where
-  pub some : s ≡ no_word → ⊥
-  pub known : old s ≡ Some class
-  pub same : (t : Signature) → new t ≡ old t
+pub record IsKnownClass {K : Type 0} (none : K) (old new : K → Option ℕ) (key : K) (class : ℕ) : Type 0 where
+  pub some : key ≡ none → ⊥
+  pub known : old key ≡ Some class
+  pub same : (t : K) → new t ≡ old t
 
-pub record IsNewClass (old new : Signature → Option ℕ) (s : Signature) (state class : ℕ) : Type 0 where
-  pub some : s ≡ no_word → ⊥
-  pub unknown : old s ≡ None
+pub record IsNewClass {K : Type 0} (none : K) (old new : K → Option ℕ) (key : K) (state class : ℕ) : Type 0 where
+  pub some : key ≡ none → ⊥
+  pub unknown : old key ≡ None
   pub class_is : class ≡ suc state
-  pub added : new s ≡ Some (suc state)
-  pub same : (t : Signature) → (s ≡ t → ⊥) → new t ≡ old t
+  pub added : new key ≡ Some (suc state)
+  pub same : (t : K) → (key ≡ t → ⊥) → new t ≡ old t
 
-abbrev pub FindsClass : (Signature → Option ℕ) → (Signature → Option ℕ) → Signature → ℕ → ℕ → Type 0
-FindsClass old new s state class =
-    IsClassOfNoWord old new s class ⊎ (IsKnownClass old new s class ⊎ IsNewClass old new s state class)
+abbrev pub FindsClass : {K : Type 0} → K → (K → Option ℕ) → (K → Option ℕ) → K → ℕ → ℕ → Type 0
+FindsClass none old new key state class =
+    IsClassOfNone none old new key class ⊎ (IsKnownClass none old new key class ⊎ IsNewClass none old new key state class)
+
+-- the first n states are in one class exactly where they have one key
+pub record AreGrouped {K : Type 0} (key : ℕ → K) (n : ℕ) (finer : List ℕ) : Type 0 where
+  pub count : length finer ≡ n
+  pub together : (p q : ℕ) → key p ≡ key q → slice_index finer p ≡ slice_index finer q
+  pub apart : (p q : ℕ) → slice_index finer p ≡ slice_index finer q → key p ≡ key q
+  pub least : (q r : ℕ) → slice_index finer q ≡ suc r → (r ≤ q) × (key r ≡ key q)
 
 -- states are in one class of the finer list exactly where they have one signature by the coarser
-pub record IsSplit (m : Automaton) (classes finer : List ℕ) : Type 0 where
-  pub count : length finer ≡ length m.states
-  pub together : (p q : ℕ) → signature_of m classes p ≡ signature_of m classes q → slice_index finer p ≡ slice_index finer q
-  pub apart : (p q : ℕ) → slice_index finer p ≡ slice_index finer q → signature_of m classes p ≡ signature_of m classes q
-  pub least : (q r : ℕ) → slice_index finer q ≡ suc r → (r ≤ q) × (signature_of m classes r ≡ signature_of m classes q)
+abbrev pub IsSplit : Automaton → List ℕ → List ℕ → Type 0
+IsSplit m classes finer = AreGrouped (signature_of m classes) (length m.states) finer
 
 -- each class but 0 has its least state
 abbrev pub HasLeastStates : List ℕ → Type 0

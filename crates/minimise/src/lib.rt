@@ -3,11 +3,14 @@
 
 mod canon;
 mod laws;
+mod numbering;
+mod predecessors;
 mod quotient;
 mod refinement;
+mod rounds;
 mod signature;
-#[cfg(test)]
-mod tests;
+mod sizes;
+mod stability;
 
 pub use canon::{Canon, canonical, canonical_nfa, same};
 pub use laws::{canonical_is_least, canonical_is_unique};

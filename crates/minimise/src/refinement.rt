@@ -1,21 +1,42 @@
-//! The classes of states that accept the same words, by refinement in rounds (E. F. Moore, 1956).
+//! The classes of states that accept the same words. They are refined in rounds that look at few states, and then it is seen whether
+//! they are stable; where they were not, rounds over all states (E. F. Moore, 1956) would go on.
 
-ghost use Rattle.std.specs.Prelude.{◌≡◌, ◌<◌, ◌^◌, IfOk, length};
+ghost use Rattle.std.specs.Prelude.{◌≡◌, ◌<◌, ◌^◌, IfOk, OnOk, length};
 ghost use Rattle.std.specs.HashMap.{get};
 ghost use Rattle.minimise.specs.Signatures.{same_signature};
-ghost use Rattle.minimise.specs.Refinement.{signature_of, FindsClass, IsSplit, AreClasses};
+ghost use Rattle.word_automata.specs.Path.{edges_of};
+ghost use Rattle.std.specs.List.{filter_map};
+ghost use Rattle.word_automata.specs.Automaton.{IsValid};
+ghost use Rattle.minimise.specs.Refinement.{live_edge, signature_of, no_word, FindsClass, IsSplit, AreCoarse, AreClasses};
 
+use crate::numbering::by_least_states;
+use crate::rounds::refine;
 use crate::signature::Signature;
+use crate::stability::is_stable;
 use std::alloc::{AllocError, Global};
 use std::collections::HashMap;
 use word_automata::Dfa;
 
 /// The class of each state: 0 where no word is accepted from it, and else one more than the least state from which the same words
-/// are. Each round takes time linear in the edges, on average, and there are at most as many rounds as states.
+/// are. It takes time linear in the edges, on average, times the logarithm of the states where classes split in halves.
 pub fn classes(alloc: Global, automaton: &Dfa) -> Result<Vec<usize>, AllocError>
     ensures { IfOk result (λ classes. AreClasses automaton.now classes.items) }
 {
-    let mut classes = vec![in alloc; 0; automaton.states()]?;
+    let refined = refine(alloc, automaton)?;
+    let classes = by_least_states(alloc, automaton, &refined)?;
+    if is_stable(alloc, automaton, &classes)? {
+        return Ok(classes);
+    }
+    Ok(rounds(alloc, automaton, classes)?)
+}
+
+/// Splits the classes, round by round over all states, until a round changes nothing.
+fn rounds(alloc: Global, automaton: &Dfa, coarse: Vec<usize>) -> Result<Vec<usize>, AllocError>
+    requires valid { IsValid automaton.now }
+    requires coarse { AreCoarse automaton.now coarse.items }
+    ensures { IfOk result (λ classes. AreClasses automaton.now classes.items) }
+{
+    let mut classes = coarse;
     'rounds: loop {
         let finer = split(alloc, automaton, &classes)?;
         if finer == classes {
@@ -50,13 +71,45 @@ fn signature_of(
     requires state { state < length automaton.now.states }
     ensures { IfOk result (λ signature. signature ≡ signature_of automaton.now classes.now state) }
 {
-    let mut edges = Vec::new(alloc);
-    'edges: for &(letter, to) in automaton.edges_from(state) {
+    let edges = live_edges(alloc, automaton, classes, state)?;
+    Ok(Signature::new(classes[state], automaton.accepting(state), edges))
+}
+
+/// The letters of the state that lead to classes other than 0, each with the class.
+pub fn live_edges(
+    alloc: Global,
+    automaton: &Dfa,
+    classes: &[usize],
+    state: usize,
+) -> Result<Vec<(u32, usize)>, AllocError>
+    requires count { length classes.now ≡ length automaton.now.states }
+    requires state { state < length automaton.now.states }
+    ensures { IfOk result (λ live. live.items ≡ filter_map (live_edge classes.now) (edges_of automaton.now.states state)) }
+{
+    let mut live = Vec::with_capacity(alloc, automaton.edges_from(state).len())?;
+    put_live_edges(&mut live, automaton, classes, state)?;
+    Ok(live)
+}
+
+/// Puts the letters of the state that lead to classes other than 0, each with the class, in the place of what the list has.
+pub fn put_live_edges(
+    live: &mut Vec<(u32, usize)>,
+    automaton: &Dfa,
+    classes: &[usize],
+    state: usize,
+) -> Result<(), AllocError>
+    requires count { length classes.now ≡ length automaton.now.states }
+    requires state { state < length automaton.now.states }
+    ensures { OnOk result (live.new.items ≡ filter_map (live_edge classes.now) (edges_of automaton.now.states state)) }
+{
+    live.clear();
+    let edges = automaton.edges_from(state);
+    'edges: for &(letter, to) in edges {
         if classes[to] != 0 {
-            edges.push((letter, classes[to]))?;
+            live.push((letter, classes[to]))?;
         }
     }
-    Ok(Signature::new(classes[state], automaton.accepting(state), edges))
+    Ok(())
 }
 
 /// The class of the state with the signature. A signature that is new gets the class of the state.
@@ -66,7 +119,7 @@ fn class_of(
     state: usize,
 ) -> Result<usize, AllocError>
     requires { state < 2 ^ 63 }
-    ensures { IfOk result (FindsClass (get same_signature firsts.old) (get same_signature firsts.new) signature state) }
+    ensures { IfOk result (FindsClass no_word (get same_signature firsts.old) (get same_signature firsts.new) signature state) }
 {
     if signature.is_of_no_word() {
         return Ok(0);

@@ -3,4 +3,3 @@ pub mod ListLemmas
 pub mod PatternLemmas
 pub mod SectionLemmas
 pub mod RowLemmas
-mod TestLemmas

@@ -1,9 +1,8 @@
 -- Rows as states: a row matches a configuration where its patterns match the lists of the sections, one after the other.
-use Rattle.std.proofs.Common.{◌≡◌, ◌≢◌, ◌==◌, ◌<◌, ◌≤◌, ◌+◌, ◌||◌, ◌↔◌, ◌⊎◌, ℕ, zero, suc, Bool, true, false, List, [], ◌∷◌, Option, None, Some, Contains, AllPairs, length, take, get_or, slice_get, unwrap_or, refl, sym, ap, subst, ◌∙◌, inl, inr, arith, eq-eqb, eqb-true, ne_eqb, if◌then◌else◌, add-zero}
+use Rattle.std.proofs.Common.{◌≡◌, ◌≢◌, ◌==◌, ◌<◌, ◌+◌, ◌||◌, ◌↔◌, ◌⊎◌, ℕ, zero, suc, Bool, true, false, List, [], ◌∷◌, Option, None, Some, Contains, AllPairs, IsTrue, length, take, get_or, slice_get, unwrap_or, refl, sym, ap, subst, ◌∙◌, inl, inr, arith, eq-eqb, eqb-true, ne_eqb, if◌then◌else◌, add-zero}
 use Rattle.std.specs.List.{list_all, list_any, AllByRecursion}
-use Rattle.std.proofs.lemmas.Bool.{cases_Bool, false≢true, and_parts, and_from}
+use Rattle.std.proofs.lemmas.Bool.{cases_Bool, false≢true, and_parts, and_from, or_cases}
 use Rattle.std.proofs.lemmas.Option.{same_Some, slice_get_within, slice_get-get_or, get_or_from_slice_get}
-use Rattle.std.proofs.lemmas.List.{take_all}
 use Rattle.std.proofs.lemmas.List.Folds.{list_any_more}
 use Rattle.std.proofs.lemmas.List.Elements.{Contains-append_left, Contains-push, Contains-push_cases}
 use Rattle.word_automata.specs.Nondeterministic.{NondeterministicAutomaton, Accepts, with_start, empty_nondeterministic}
@@ -254,11 +253,12 @@ module _ (s : SystemData) (rows : List Row) (index : ℕ) (row : Row) (within : 
     ];
   })
 
--- the words of all rows
-pub rows_all : (s : SystemData) (rows : List Row) (index : ℕ) (n : NondeterministicAutomaton) → length rows ≤ index → HasRows s (take index rows) n
-    → (w : List ℕ) → Accepts n w ↔ IsWordOfRows s rows w
-rows_all s rows index n past has w =
-    let all = subst (λ r. HasRows s r n) (take_all index rows past) has in (
+-- the words of the one row of an automaton
+pub row_alone : (s : SystemData) (row : Row) (mid new : NondeterministicAutomaton) (start : ℕ) → IsValidRow s.sections row
+    → IsAdded (empty_nondeterministic (separator_of s + 1)) mid start (IsRest row.parts 0 0 (separator_of s) s.sections) → new ≡ with_start mid start
+    → (w : List ℕ) → Accepts new w ↔ IsWordOfRows s (row ∷ []) w
+row_alone s row mid new start valid added e w =
+    let all = rows_more s (row ∷ []) 0 row (omega arith) refl (empty_nondeterministic (separator_of s + 1)) mid new start valid (rows_none s) added e in (
       λ (start, moves, end, contains, path, accepting, spells). all.into w start contains
           (record { moves = moves; end = end; path = path; accepting = accepting; spells = spells }),
       λ r.
@@ -266,6 +266,34 @@ rows_all s rows index n past has w =
           let a = found.1.1 in
           (found.0, a.moves, a.end, found.1.0, a.path, a.accepting, a.spells),
     )
+
+-- no configuration is matched by no row
+pub no_rows : (s : SystemData) (w : List ℕ) → IsWordOfRows s [] w → ⊥
+no_rows s w r = false≢true (and_parts (fits s r.0) false r.1).1
+
+-- one row more
+pub rows_united : (s : SystemData) (rows : List Row) (index : ℕ) (row : Row) → index < length rows → row ≡ get_or rows index row
+    → (old more new : Bool) (w : List ℕ) → new ≡ (old || more) → (IsTrue old ↔ IsWordOfRows s (take index rows) w) → (IsTrue more ↔ IsWordOfRows s (row ∷ []) w)
+    → IsTrue new ↔ IsWordOfRows s (take (index + 1) rows) w
+rows_united s rows index row within is old more new w united before alone = (
+  λ accepted. elim (or_cases old more (sym united ∙ accepted)) [
+    | inl first ↦ more_old s rows index row within is w (before.0 first)
+    | inr second ↦
+        let r = alone.0 second in
+        let parts = and_parts (fits s r.0) (row_matches r.0 row || false) r.1 in
+        more_new s rows index row within is w r.0 parts.0 (or_false (row_matches r.0 row) parts.1) r.2
+  ],
+  λ r. elim (more_cases s rows index row within is w r) [
+    | inl first ↦ united ∙ or_left old more (before.1 first)
+    | inr second ↦
+        let matches : (row_matches second.0 row || false) ≡ true = or_left (row_matches second.0 row) false second.1.1 in
+        united ∙ or_right old more (alone.1 (second.0, and_from (fits s second.0) (row_matches second.0 row || false) second.1.0 matches, second.1.2))
+  ],
+)
+  where
+    or_false : (b : Bool) → (b || false) ≡ true → b ≡ true
+    or_false true h = refl
+    or_false false h = h
 
 -- each row is valid
 pub row_valid : (sections : List Section) (rows : List Row) (index : ℕ) (row : Row) → AllByRecursion (IsValidRow sections) rows → index < length rows

@@ -1,7 +1,8 @@
 //! The words of the initial and of the bad configurations of a system, as automata.
 //!
-//! The words of all rows are accepted by one nondeterministic automaton. It is built from the ends of the words to their fronts: each
-//! state is added in front of a state that accepts what may follow.
+//! The words of each row are accepted by a nondeterministic automaton, which is built from the ends of the words to their fronts: each
+//! state is added in front of a state that accepts what may follow. It is made canonical alone, and the rows are then united one after
+//! the other, canonical after each, so that many rows cost what their unions do.
 #![tactic(auto)]
 
 mod letters;
@@ -9,8 +10,6 @@ mod patterns;
 mod rows;
 mod sections;
 mod states;
-#[cfg(test)]
-mod tests;
 
 ghost use Rattle.std.specs.Prelude.{◌≡◌, ◌↔◌, ℕ, List, IfOk, IsTrue};
 ghost use Rattle.word_automata.specs.Automaton.{accepts};

@@ -1,6 +1,6 @@
-//! All rows together.
+//! The words of rows: of each row alone, and then of all together.
 
-ghost use Rattle.std.specs.Prelude.{◌≡◌, ◌↔◌, ◌≤◌, ℕ, List, IfOk, IsTrue};
+ghost use Rattle.std.specs.Prelude.{◌≡◌, ◌↔◌, ◌≤◌, ◌||◌, ℕ, List, [], ◌∷◌, false, IfOk, IsTrue};
 ghost use Rattle.std.specs.List.{AllByRecursion};
 ghost use Rattle.word_automata.specs.Automaton.{accepts};
 ghost use Rattle.minimise.specs.Canonical.{IsCanonical};
@@ -9,10 +9,11 @@ ghost use Rattle.protocol_model.specs.Words.{automata_letters, separator_of};
 ghost use Rattle.section_patterns.specs.Lists.{IsWordOfRows};
 
 use crate::sections::add_sections;
-use minimise::{Canon, canonical_nfa};
+use boolean_operations::union;
+use minimise::{Canon, canonical, canonical_nfa};
 use protocol_model::{Row, System};
 use std::alloc::{AllocError, Global};
-use word_automata::NfaBuilder;
+use word_automata::{DfaBuilder, NfaBuilder};
 
 /// The canonical automaton of the words of the configurations that some of the rows match.
 pub(crate) fn words_of_rows(
@@ -25,20 +26,54 @@ pub(crate) fn words_of_rows(
     ensures letters { IfOk result (λ c. c.letters ≡ automata_letters system.now) }
     ensures canonical { IfOk result IsCanonical }
 {
+    let mut words = no_words(alloc, system)?;
+    'rows: for row in rows {
+        let more = words_of_row(alloc, system, row)?;
+        words = united(alloc, &words, &more)?;
+    }
+    Ok(words)
+}
+
+/// The canonical automaton of no word.
+fn no_words(alloc: Global, system: &System) -> Result<Canon, AllocError>
+    ensures language { IfOk result (λ c. (w : List ℕ) → accepts c w ≡ false) }
+    ensures letters { IfOk result (λ c. c.letters ≡ automata_letters system.now) }
+    ensures canonical { IfOk result IsCanonical }
+{
+    let none = DfaBuilder::new(alloc, separator(system) + 1).finish();
+    Ok(canonical(alloc, &none)?)
+}
+
+/// The canonical automaton of the words of both automata. Both have the same letters.
+fn united(alloc: Global, a: &Canon, b: &Canon) -> Result<Canon, AllocError>
+    requires { a.now.letters ≡ b.now.letters }
+    ensures language { IfOk result (λ c. (w : List ℕ) → accepts c w ≡ (accepts a.now w || accepts b.now w)) }
+    ensures letters { IfOk result (λ c. c.letters ≡ a.now.letters) }
+    ensures canonical { IfOk result IsCanonical }
+{
+    let both = union(alloc, a.as_dfa(), b.as_dfa())?;
+    Ok(canonical(alloc, &both)?)
+}
+
+/// The canonical automaton of the words of the configurations that the row matches.
+fn words_of_row(alloc: Global, system: &System, row: &Row) -> Result<Canon, AllocError>
+    requires { IsValidRow system.now.sections row.now }
+    ensures language { IfOk result (λ c. (w : List ℕ) → IsTrue (accepts c w) ↔ IsWordOfRows system.now (row.now ∷ []) w) }
+    ensures letters { IfOk result (λ c. c.letters ≡ automata_letters system.now) }
+    ensures canonical { IfOk result IsCanonical }
+{
     let separator = separator(system);
     let mut builder = NfaBuilder::new(alloc, separator + 1);
-    'rows: for row in rows {
-        let front = add_sections(
-            alloc,
-            &mut builder,
-            row,
-            system.sections.as_slice(),
-            0,
-            0,
-            separator,
-        )?;
-        builder.start(front)?;
-    }
+    let front = add_sections(
+        alloc,
+        &mut builder,
+        row,
+        system.sections.as_slice(),
+        0,
+        0,
+        separator,
+    )?;
+    builder.start(front)?;
     Ok(canonical_nfa(alloc, &builder.finish())?)
 }
 

@@ -1,7 +1,5 @@
-use Rattle.boolean_operations.proofs.Outside.{inclusion}
+use Rattle.boolean_operations.proofs.PairWalks.{inclusion}
 use Rattle.boolean_operations.proofs.inclusion.included.Goals as goal
 
 pub returns : goal.returns
-returns c =
-    inclusion c.args.a.now c.in_ok-subsets.subsets c.args.b.now c.in_ok-outside.outside c.in_ok-subsets.ensures.language c.in_ok-outside.ensures.language
-    (λ v. v.items) c.in_ok-least_word.field-0 c.in_ok-least_word.ensures
+returns c = inclusion c.args.a.now c.args.b.now (λ v. v.items) c.in_ok-least_word_to_goal.field-0 c.in_ok-least_word_to_goal.ensures

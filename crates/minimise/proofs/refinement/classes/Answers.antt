@@ -1,28 +1,19 @@
-use Rattle.std.proofs.Common.{subst}
-use Rattle.std.specs.Cmp.Lexicographic.{same_text, other_text}
-use Rattle.minimise.specs.Refinement.{IsSplit}
-use Rattle.minimise.proofs.Refining.{split_coarse, split_falls, stable}
+use Rattle.std.proofs.Common.{ℕ, List, length, slice_index, subst}
+use Rattle.minimise.specs.Refinement.{AreGrouped}
+use Rattle.minimise.specs.Rounds.{AreAlike}
+use Rattle.minimise.proofs.Refining.{least_coarse, stable}
 use Rattle.minimise.proofs.refinement.classes.Goals as goal
 
-pub returns-then-eq : goal.returns-then-eq
-returns-then-eq c =
+pub rounds-requires-clause-coarse : goal.rounds-requires-clause-coarse
+rounds-requires-clause-coarse c =
     let m = c.args.automaton.now in
-    let classes = c.rounds.classes.items in
-    let split = subst (λ old. IsSplit m old c.in_ok-finer.finer.items) c.deref.ensures.value c.in_ok-finer.ensures in
-    stable m c.rounds.invariant.valid classes c.rounds.invariant.coarse (subst (IsSplit m classes) (same_text c.in_ok-finer.finer.items classes c.if-eq.ensures) split)
+    least_coarse m c.in_ok-refined.refined.items c.in_ok-classes.classes.items c.in_ok-refined.ensures.apart
+    (subst (λ (xs : List ℕ). AreGrouped (slice_index xs) (length m.states) c.in_ok-classes.classes.items) c.deref.ensures.value c.in_ok-classes.ensures)
 
-pub rounds-smaller : goal.rounds-smaller
-rounds-smaller c =
+pub returns-then-branch : goal.returns-then-branch
+returns-then-branch c =
     let m = c.args.automaton.now in
-    let split = subst (λ old. IsSplit m old c.in_ok-finer.finer.items) c.deref.ensures.value c.in_ok-finer.ensures in
-    split_falls m c.rounds.invariant.valid c.rounds.classes.items c.in_ok-finer.finer.items c.rounds.invariant.coarse split
-    (other_text c.in_ok-finer.finer.items c.rounds.classes.items c.if-eq.ensures)
-
-pub rounds-preserved : goal.rounds-preserved
-rounds-preserved c =
-    let m = c.args.automaton.now in
-    let split = subst (λ old. IsSplit m old c.in_ok-finer.finer.items) c.deref.ensures.value c.in_ok-finer.ensures in
-    record {
-      valid = c.rounds.invariant.valid;
-      coarse = split_coarse m c.rounds.invariant.valid c.rounds.classes.items c.in_ok-finer.finer.items c.rounds.invariant.coarse split;
-    }
+    let classes = c.in_ok-classes.classes.items in
+    let grouped = subst (λ (xs : List ℕ). AreGrouped (slice_index xs) (length m.states) classes) c.deref.ensures.value c.in_ok-classes.ensures in
+    stable m c.in_ok-refined.ensures.valid classes (least_coarse m c.in_ok-refined.refined.items classes c.in_ok-refined.ensures.apart grouped)
+    (subst (AreAlike m) c.deref-2.ensures.value (c.in_ok-is_stable.ensures c.if-branch.true))

@@ -1,54 +1,116 @@
-use Rattle.std.proofs.Common.{◌≡◌, ℕ, List, Option, get_or, map, sym, ap, subst, ◌∙◌, arith}
-use Rattle.std.specs.List.{filter_map}
-use Rattle.std.proofs.lemmas.List.{take_all}
-use Rattle.word_automata.specs.Automaton.{IsValid}
-use Rattle.exploration.specs.System.{IsSuccessors}
-use Rattle.exploration.proofs.Successors.{moved}
-use Rattle.boolean_operations.specs.OptionalStates.{follow, edges_at, IsStateOrNone}
-use Rattle.boolean_operations.specs.Products.{pair_of, pair_system, AreLettersOf}
-use Rattle.boolean_operations.proofs.Letters.{doubled, moved-none, moved-some}
-use Rattle.boolean_operations.proofs.ProductLanguages.{pair_step, product_successors}
+use Rattle.std.proofs.Common.{ℕ, List, length, inl, inr, sym, ap, subst, ◌∙◌, arith}
+use Rattle.std.proofs.lemmas.Option.{slice_get_within}
+use Rattle.word_automata.specs.Automaton.{HasIncreasingLetters}
+use Rattle.boolean_operations.specs.OptionalStates.{edges_at}
+use Rattle.boolean_operations.specs.MergedEdges.{IsPassed, IsTaken, IsLeastLetter, IsMerging}
+use Rattle.boolean_operations.proofs.OptionalStates.{edges_at-increasing}
+use Rattle.boolean_operations.proofs.MergedPairs.{merging_nothing, left_passed, right_passed, merging_none, merging_pair, merged_all}
 use Rattle.boolean_operations.proofs.products.ProductTransitionSystem.successors.Goals as goal
-use Rattle.boolean_operations.proofs.products.ProductTransitionSystem.successors.Goals.{in-Some+in_ok-push, in_default}
+use Rattle.boolean_operations.proofs.products.ProductTransitionSystem.successors.Goals.{then-i-left, else-i-left+then-j-right}
 
 pub letters-init : goal.letters-init
-letters-init c = c.new-successors.ensures.items
+letters-init c =
+    let s = c.args.self.now in
+    let p = c.args.state.now.0 in
+    let q = c.args.state.now.1 in
+    subst (IsMerging s.operation s.left.now s.right.now (edges_at s.left.now p) (edges_at s.right.now q) 0 0) (sym c.new-successors.ensures.items)
+    (merging_nothing s.operation s.left.now s.right.now s.same_letters c.requires.0 c.requires.1 p q)
 
--- the letter becomes a pair, or none
+pub least_letter-letter-requires-clause-left : goal.least_letter-letter-requires-clause-left
+least_letter-letter-requires-clause-left c = subst HasIncreasingLetters (sym c.edges_at-left.ensures) (edges_at-increasing c.args.self.now.left.now c.requires.0 c.args.state.now.0)
+
+pub least_letter-letter-requires-clause-right : goal.least_letter-letter-requires-clause-right
+least_letter-letter-requires-clause-right c = subst HasIncreasingLetters (sym c.edges_at-right.ensures) (edges_at-increasing c.args.self.now.right.now c.requires.1 c.args.state.now.1)
+
+pub least_letter-letter-requires-clause-some : goal.least_letter-letter-requires-clause-some
+least_letter-letter-requires-clause-some c = elim c.if-i-left.branch [
+  | then-i-left w ↦ inl w.if-i-left.true
+  | else-i-left+then-j-right w ↦ inr w.if-j-right.true
+]
+
+pub take-left_target-requires-clause-sorted : goal.take-left_target-requires-clause-sorted
+take-left_target-requires-clause-sorted c = subst HasIncreasingLetters (sym c.edges_at-left.ensures) (edges_at-increasing c.args.self.now.left.now c.requires.0 c.args.state.now.0)
+
+pub take-right_target-requires-clause-sorted : goal.take-right_target-requires-clause-sorted
+take-right_target-requires-clause-sorted c = subst HasIncreasingLetters (sym c.edges_at-right.ensures) (edges_at-increasing c.args.self.now.right.now c.requires.1 c.args.state.now.1)
+
+pub take-left_target-requires-clause-passed : goal.take-left_target-requires-clause-passed
+take-left_target-requires-clause-passed c =
+    let s = c.args.self.now in
+    let p = c.args.state.now.0 in
+    let q = c.args.state.now.1 in
+    let letter = c.least_letter-letter.result in
+    let least = subst (λ xs. IsLeastLetter xs c.letters.i (edges_at s.right.now q) c.letters.j letter) c.edges_at-left.ensures
+    (subst (λ ys. IsLeastLetter c.edges_at-left.result.now c.letters.i ys c.letters.j letter) c.edges_at-right.ensures c.least_letter-letter.ensures) in
+    subst (λ xs. IsPassed xs c.letters.i letter) (sym c.edges_at-left.ensures)
+    (left_passed s.operation s.left.now s.right.now s.same_letters c.requires.0 c.requires.1 p q c.letters.i c.letters.j c.letters.successors.items c.letters.invariant letter least)
+
+pub take-right_target-requires-clause-passed : goal.take-right_target-requires-clause-passed
+take-right_target-requires-clause-passed c =
+    let s = c.args.self.now in
+    let p = c.args.state.now.0 in
+    let q = c.args.state.now.1 in
+    let letter = c.least_letter-letter.result in
+    let least = subst (λ xs. IsLeastLetter xs c.letters.i (edges_at s.right.now q) c.letters.j letter) c.edges_at-left.ensures
+    (subst (λ ys. IsLeastLetter c.edges_at-left.result.now c.letters.i ys c.letters.j letter) c.edges_at-right.ensures c.least_letter-letter.ensures) in
+    subst (λ xs. IsPassed xs c.letters.j letter) (sym c.edges_at-right.ensures)
+    (right_passed s.operation s.left.now s.right.now s.same_letters c.requires.0 c.requires.1 p q c.letters.i c.letters.j c.letters.successors.items c.letters.invariant letter least)
+
+-- the letter becomes no pair
 pub letters-preserved : goal.letters-preserved
 letters-preserved c =
-    let system = c.args.self.now in
-    let state = c.args.state.now in
-    let letters = c.deref-letter-items.result.now in
-    let i = c.letters.letter-index in
-    let step = pair_step system.operation system.left.now system.right.now state.0 state.1 in
-    let made : step (get_or letters i 0) (get_or letters i 0) ≡ c.pair.result =
-    sym (c.pair.ensures
-    ∙ ap (λ (s : Option ℕ). pair_of system.operation s c.follow-right_target.result) c.follow-left_target.ensures.value
-    ∙ ap (λ (s : Option ℕ). pair_of system.operation (follow system.left.now state.0 (get_or letters i 0)) s) c.follow-right_target.ensures.value) in
-    elim c.match-pair.branch [
-      | in-Some+in_ok-push w ↦
-          ap (λ v. v.items) w.successors-is ∙ w.in_ok-push.ensures.items
-          ∙ moved-some step letters i (omega (arith, c.letters-test.true)) c.letters.successors.items c.letters.invariant w.in-Some.pair (made ∙ w.in-Some.is)
-      | in_default w ↦
-          ap (λ v. v.items) w.successors-is
-          ∙ moved-none step letters i (omega (arith, c.letters-test.true)) c.letters.successors.items c.letters.invariant (made ∙ w.in_default.is)
+    let s = c.args.self.now in
+    let p = c.args.state.now.0 in
+    let q = c.args.state.now.1 in
+    let letter = c.least_letter-letter.result in
+    let least = subst (λ xs. IsLeastLetter xs c.letters.i (edges_at s.right.now q) c.letters.j letter) c.edges_at-left.ensures
+    (subst (λ ys. IsLeastLetter c.edges_at-left.result.now c.letters.i ys c.letters.j letter) c.edges_at-right.ensures c.least_letter-letter.ensures) in
+    merging_none s.operation s.left.now s.right.now s.same_letters c.requires.0 c.requires.1 p q c.letters.i c.letters.j c.letters.successors.items c.letters.invariant letter least
+    c.take-left_target.result.0 c.take-right_target.result.0 c.take-left_target.result.1 c.take-right_target.result.1
+    (subst (λ xs. IsTaken xs c.letters.i letter c.take-left_target.result.0 c.take-left_target.result.1) c.edges_at-left.ensures c.take-left_target.ensures)
+    (subst (λ xs. IsTaken xs c.letters.j letter c.take-right_target.result.0 c.take-right_target.result.1) c.edges_at-right.ensures c.take-right_target.ensures)
+    (sym c.pair.ensures ∙ c.in_default.is)
+
+-- or a pair
+pub letters-preserved-in_ok-push : goal.letters-preserved-in_ok-push
+letters-preserved-in_ok-push c =
+    let s = c.args.self.now in
+    let p = c.args.state.now.0 in
+    let q = c.args.state.now.1 in
+    let letter = c.least_letter-letter.result in
+    let least = subst (λ xs. IsLeastLetter xs c.letters.i (edges_at s.right.now q) c.letters.j letter) c.edges_at-left.ensures
+    (subst (λ ys. IsLeastLetter c.edges_at-left.result.now c.letters.i ys c.letters.j letter) c.edges_at-right.ensures c.least_letter-letter.ensures) in
+    subst (IsMerging s.operation s.left.now s.right.now (edges_at s.left.now p) (edges_at s.right.now q) c.take-left_target.result.1 c.take-right_target.result.1) (sym c.in_ok-push.ensures.items)
+    (merging_pair s.operation s.left.now s.right.now s.same_letters c.requires.0 c.requires.1 p q c.letters.i c.letters.j c.letters.successors.items c.letters.invariant letter least
+    c.take-left_target.result.0 c.take-right_target.result.0 c.take-left_target.result.1 c.take-right_target.result.1
+    (subst (λ xs. IsTaken xs c.letters.i letter c.take-left_target.result.0 c.take-left_target.result.1) c.edges_at-left.ensures c.take-left_target.ensures)
+    (subst (λ xs. IsTaken xs c.letters.j letter c.take-right_target.result.0 c.take-right_target.result.1) c.edges_at-right.ensures c.take-right_target.ensures)
+    c.in-Some.pair (sym c.pair.ensures ∙ c.in-Some.is))
+
+-- one of the places moves on
+pub letters-smaller : goal.letters-smaller
+letters-smaller c =
+    let x = c.take-left_target.ensures in
+    let y = c.take-right_target.ensures in
+    elim c.least_letter-letter.ensures.one [
+      | inl here ↦ omega (arith, x.moves here.0 here.1 here.2, slice_get_within c.edges_at-left.result.now c.letters.i here.0 here.1, y.forward)
+      | inr here ↦ omega (arith, y.moves here.0 here.1 here.2, slice_get_within c.edges_at-right.result.now c.letters.j here.0 here.1, x.forward)
     ]
 
--- all letters were gone through
+pub letters-smaller-in_ok-push : goal.letters-smaller-in_ok-push
+letters-smaller-in_ok-push c =
+    let x = c.take-left_target.ensures in
+    let y = c.take-right_target.ensures in
+    elim c.least_letter-letter.ensures.one [
+      | inl here ↦ omega (arith, x.moves here.0 here.1 here.2, slice_get_within c.edges_at-left.result.now c.letters.i here.0 here.1, y.forward)
+      | inr here ↦ omega (arith, y.moves here.0 here.1 here.2, slice_get_within c.edges_at-right.result.now c.letters.j here.0 here.1, x.forward)
+    ]
+
 pub returns : goal.returns
 returns c =
-    let system = c.args.self.now in
-    let state = c.args.state.now in
-    let left = system.left.now in
-    let right = system.right.now in
-    let step = pair_step system.operation left right state.0 state.1 in
-    let letters = c.in_ok-letters.letters.items in
-    let are : AreLettersOf (edges_at left state.0) (edges_at right state.1) letters =
-    subst (λ (edges : List (ℕ × ℕ)). AreLettersOf (edges_at left state.0) edges letters) c.edges_at-2.ensures
-    (subst (λ (edges : List (ℕ × ℕ)). AreLettersOf edges c.edges_at-2.result.now letters) c.edges_at.ensures c.in_ok-letters.ensures) in
-    let all : c.letters.successors.items ≡ filter_map (moved step) (map doubled letters) =
-    c.letters.invariant
-    ∙ ap (λ (l : List ℕ). filter_map (moved step) (map doubled l)) (take_all c.letters.letter-index c.deref-letter-items.result.now (omega (arith, c.letters-test.false)) ∙ c.deref-letter-items.ensures.value) in
-    subst (IsSuccessors (pair_system system.operation left right) (λ pair. IsValid left × IsValid right × IsStateOrNone left pair.0 × IsStateOrNone right pair.1) state) (sym all)
-    (product_successors system.operation left right system.same_letters c.requires.0 c.requires.1 state.0 state.1 letters are)
+    let s = c.args.self.now in
+    let p = c.args.state.now.0 in
+    let q = c.args.state.now.1 in
+    merged_all s.operation s.left.now s.right.now s.same_letters c.requires.0 c.requires.1 p q c.letters.i c.letters.j c.letters.successors.items c.letters.invariant
+    (omega (arith, ap (λ (es : List (ℕ × ℕ)). length es) c.edges_at-left.ensures, c.if-i-left.false))
+    (omega (arith, ap (λ (es : List (ℕ × ℕ)). length es) c.edges_at-right.ensures, c.if-j-right.false))

@@ -1,10 +1,11 @@
-use Rattle.std.proofs.Common.{◌≡◌, map, take}
-use Rattle.std.specs.List.{filter_map}
-use Rattle.exploration.proofs.Successors.{moved}
-use Rattle.boolean_operations.proofs.Letters.{doubled}
-use Rattle.boolean_operations.proofs.ProductLanguages.{pair_step}
+use Rattle.std.proofs.Common.{length, ◌-◌, ◌+◌}
+use Rattle.boolean_operations.specs.OptionalStates.{edges_at}
+use Rattle.boolean_operations.specs.MergedEdges.{IsMerging}
 use Rattle.boolean_operations.proofs.products.ProductTransitionSystem.successors.Given as goal
 
 abbrev pub invariant-letters : goal.invariant-letters
 invariant-letters l =
-    l.successors.items ≡ filter_map (moved (pair_step l.self.operation l.self.left.now l.self.right.now l.left l.right)) (map doubled (take l.letter-index l.letter-items))
+    IsMerging l.self.operation l.self.left.now l.self.right.now (edges_at l.self.left.now l.state.0) (edges_at l.self.right.now l.state.1) l.i l.j l.successors.items
+
+abbrev pub decreases-letters : goal.decreases-letters
+decreases-letters l = (length l.left - l.i) + (length l.right - l.j)

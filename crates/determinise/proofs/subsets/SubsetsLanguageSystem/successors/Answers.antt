@@ -1,20 +1,21 @@
-use Rattle.std.proofs.Common.{◌≡◌, ◌++◌, ◌∷◌, [], ℕ, List, map, sym, subst, ap, ◌∙◌, arith}
+use Rattle.std.proofs.Common.{◌≡◌, ◌↔◌, Contains, ◌++◌, ◌∷◌, [], ℕ, List, map, sym, subst, ap, ◌∙◌, arith}
 use Rattle.std.proofs.lemmas.List.{get_or_default}
-use Rattle.word_automata.specs.StateSets.{AreStates}
-use Rattle.determinise.specs.Subsets.{IsRun, IsSubsetFrom, letter_of}
+use Rattle.determinise.specs.Subsets.{IsRun, letter_of}
+use Rattle.determinise.proofs.Closures.{AreStates-members, subset_members}
 use Rattle.determinise.proofs.Grouping.{IsGrouped, run_of, grouped_more, grouped_all, targets_are_states}
 use Rattle.determinise.proofs.subsets.SubsetsLanguageSystem.successors.Goals as goal
 
-pub subset_from-requires : goal.subset_from-requires
-subset_from-requires c =
+pub subset_of-requires-clause-states : goal.subset_of-requires-clause-states
+subset_of-requires-clause-states c =
     let i = c.runs.invariant in
     let n = c.args.self.now.automaton.now in
     let moves = c.in_ok-moves.moves.items in
     let at = c.runs.at in
     let end = c.end_of_run-end.result in
     let run = subst (λ (xs : List (ℕ × ℕ)). IsRun xs at end) c.deref.ensures.value c.end_of_run-end.ensures in
-    let targets = c.deref-in-runs-2.ensures.value ∙ c.in_ok-targets.ensures ∙ ap (λ (xs : List (ℕ × ℕ)). map (λ move. move.1) (run_of xs at end)) c.deref-in-runs.ensures.value in
-    subst (AreStates n) (sym targets) (targets_are_states n c.args.state.now i.subset moves i.ordered at end run.within)
+    AreStates-members n (map (λ (move : ℕ × ℕ). move.1) (run_of moves at end)) c.in_ok-targets.targets.items
+    (λ q there. subst (λ (xs : List (ℕ × ℕ)). Contains (map (λ (move : ℕ × ℕ). move.1) (run_of xs at end)) q) c.deref-in-runs.ensures.value ((c.in_ok-targets.ensures q).0 there))
+    (targets_are_states n c.args.state.now i.subset moves i.ordered at end run.within)
 
 pub runs-preserved : goal.runs-preserved
 runs-preserved c =
@@ -24,10 +25,11 @@ runs-preserved c =
     let moves = c.in_ok-moves.moves.items in
     let at = c.runs.at in
     let end = c.end_of_run-end.result in
-    let subset = c.in_ok-subset_from.field-0 in
+    let subset = c.in_ok-subset.subset in
     let run = subst (λ (xs : List (ℕ × ℕ)). IsRun xs at end) c.deref.ensures.value c.end_of_run-end.ensures in
-    let targets = c.deref-in-runs-2.ensures.value ∙ c.in_ok-targets.ensures ∙ ap (λ (xs : List (ℕ × ℕ)). map (λ move. move.1) (run_of xs at end)) c.deref-in-runs.ensures.value in
-    let from = subst (λ (xs : List ℕ). IsSubsetFrom n xs subset) targets c.in_ok-subset_from.ensures in
+    let members = subst (λ (xs : List (ℕ × ℕ)). (q : ℕ) → Contains c.in_ok-targets.targets.items q ↔ Contains (map (λ (move : ℕ × ℕ). move.1) (run_of xs at end)) q)
+    c.deref-in-runs.ensures.value c.in_ok-targets.ensures in
+    let from = subset_members n c.in_ok-targets.targets.items (map (λ (move : ℕ × ℕ). move.1) (run_of moves at end)) subset members c.in_ok-subset.ensures in
     let letter : c.index.result.now.0 ≡ letter_of moves at =
     ap (λ (move : ℕ × ℕ). move.0) (c.index.ensures ∙ get_or_default moves at c.index.result.now (0, 0) (let a = run.some in let b = run.within in omega arith)) in
     let more = grouped_more n states i.subset moves i.ordered c.runs.successors.items at i.grouped end run subset from in

@@ -1,0 +1,275 @@
+-- Walks over pairs of states spell the words that one automaton accepts and the other refuses.
+use Rattle.std.proofs.Common.{◌≡◌, ◌+◌, ◌<◌, ◌≤◌, ◌⊎◌, ◌↔◌, ℕ, Bool, true, false, not, List, [], ◌∷◌, ◌++◌, Option, None, Some, All, Contains, get_or, is_some, length, slice_get, MatchOption, refl, sym, ap, subst, ◌∙◌, inl, inr, arith}
+use Rattle.std.proofs.lemmas.Bool.{false≢true, and_parts, and_from, cases_eq}
+use Rattle.std.proofs.lemmas.Option.{same_Some, slice_get-get_or}
+use Rattle.std.proofs.lemmas.List.Elements.{All-contains, All-nil, Contains-append_left, Contains-push, Contains-push_cases}
+use Rattle.sequence.specs.WordOrder.{IsLeastWord}
+use Rattle.word_automata.specs.Path.{edges_of, is_accepting, IsPath, spelled}
+use Rattle.word_automata.specs.Automaton.{Automaton, accepts, IsValid}
+use Rattle.word_automata.specs.Nondeterministic.{NondeterministicAutomaton, IsInRange}
+use Rattle.word_automata.proofs.Members.{Contains-none, All-from_contains}
+use Rattle.word_automata.proofs.Rows.{All-edges_of}
+use Rattle.boolean_operations.specs.OptionalStates.{start_of, follow, accepts_at, IsStateOrNone}
+use Rattle.boolean_operations.specs.Inclusion.{IsIncluded, IsOutside}
+use Rattle.boolean_operations.specs.Search.{Leads, letters_of, IsFound, Gathers}
+use Rattle.boolean_operations.specs.PairGraph.{IsPair, IsStartPair, advance, PairEdge, is_outside_pair, IsStartAmong, IsSilentAmong, IsStepAmong}
+use Rattle.boolean_operations.proofs.OptionalStates.{accepts_option, accepts_option-nil, accepts_option-cons, accepts_option-start, follow-within}
+use Rattle.boolean_operations.proofs.SearchCalls.{place_of, contains_at}
+
+-- what a test of an option says
+pub none_from_test : (o : Option ℕ) (b : Bool) → is_some o ≡ not b → b ≡ true → o ≡ None
+none_from_test None b e t = refl
+none_from_test (Some x) true e t = absurd (false≢true (sym e))
+none_from_test (Some x) false e t = absurd (false≢true t)
+
+pub some_from_test : (o : Option ℕ) (b : Bool) → is_some o ≡ not b → b ≡ false → o ≡ None → ⊥
+some_from_test None true e t h = false≢true (sym t)
+some_from_test None false e t h = false≢true e
+some_from_test (Some x) b e t h = cc
+
+-- an edge that is read
+pub edge_read : (edges same : List (Option ℕ × ℕ)) (k : ℕ) (l : Option ℕ) → edges ≡ same → k < length edges → (get_or edges k (None, 0)).0 ≡ l
+    → slice_get same k ≡ Some (l, (get_or edges k (None, 0)).1)
+edge_read edges same k l is within label =
+    subst (λ es. slice_get es k ≡ Some (l, (get_or edges k (None, 0)).1)) is
+    (slice_get-get_or edges k (None, 0) within ∙ ap (λ (x : Option ℕ). Some (x, (get_or edges k (None, 0)).1)) label)
+
+-- lists that gather things
+module _ {X : Type 0} (P : X → Type 0) where
+  pub gathers_none : (R : X → Type 0) (old : List X) → ((x : X) → R x → ⊥) → Gathers P R old old
+  gathers_none R old none = record {
+    kept = λ x there. there;
+    all = λ x is. absurd (none x is);
+    only = λ x there. inl there;
+  }
+
+  pub gathers_push : (R S : X → Type 0) (old new : List X) (x : X) → P x → S x → ((y : X) → R y → S y) → ((y : X) → S y → R y ⊎ (x ≡ y)) → Gathers P R old new → Gathers P S old (new ++ x ∷ [])
+  gathers_push R S old new x valid is grows cases g = record {
+    kept = λ y there. Contains-append_left new (x ∷ []) y (g.kept y there);
+    all = λ y there. elim (cases y there) [
+      | inl before ↦ Contains-append_left new (x ∷ []) y (g.all y before)
+      | inr same ↦ subst (Contains (new ++ x ∷ [])) same (Contains-push new x)
+    ];
+    only = λ y there. elim (Contains-push_cases new x y there) [
+      | inl before ↦ by y (g.only y before)
+      | inr same ↦ inr (subst (λ z. P z × S z) same (valid, is))
+    ];
+  }
+    where
+      by : (y : X) → Contains old y ⊎ (P y × R y) → Contains old y ⊎ (P y × S y)
+      by y (inl kept) = inl kept
+      by y (inr new_one) = inr (new_one.0, grows y new_one.1)
+
+  pub gathers_same : (R S : X → Type 0) (old new : List X) → ((y : X) → R y → S y) → ((y : X) → S y → R y) → Gathers P R old new → Gathers P S old new
+  gathers_same R S old new to from g = record {
+    kept = g.kept;
+    all = λ y is. g.all y (from y is);
+    only = λ y there. by y (g.only y there);
+  }
+    where
+      by : (y : X) → Contains old y ⊎ (P y × R y) → Contains old y ⊎ (P y × S y)
+      by y (inl kept) = inl kept
+      by y (inr new_one) = inr (new_one.0, to y new_one.1)
+
+  only_new : (R : X → Type 0) (x : X) → Contains [] x ⊎ (P x × R x) → P x × R x
+  only_new R x (inl none) = absurd (Contains-none x none)
+  only_new R x (inr both) = both
+
+  pub gathered_states : (R : X → Type 0) (new : List X) → Gathers P R [] new → All P new
+  gathered_states R new g = All-from_contains P new (λ x there. (only_new R x (g.only x there)).0)
+
+  pub gathered_members : (R : X → Type 0) (new : List X) → Gathers P R [] new → (x : X) → Contains new x ↔ R x
+  gathered_members R new g x = ((λ there. (only_new R x (g.only x there)).1), g.all x)
+
+not_true : (b : Bool) → not b ≡ true → b ≡ false
+not_true true turned = absurd (false≢true turned)
+not_true false turned = refl
+
+-- a walk over pairs, without the second parts
+abbrev strip : List (Option ℕ × (ℕ × Option ℕ)) → List (Option ℕ × ℕ)
+strip [] = []
+strip (move ∷ moves) = (move.0, move.1.0) ∷ strip moves
+
+module _ (n : NondeterministicAutomaton) (m : Automaton) where
+  -- a walk with them
+  abbrev lift : Option ℕ → List (Option ℕ × ℕ) → List (Option ℕ × (ℕ × Option ℕ))
+  lift q [] = []
+  lift q (move ∷ moves) = (move.0, (move.1, advance m q move.0)) ∷ lift (advance m q move.0) moves
+
+  abbrev after : Option ℕ → List (Option ℕ × ℕ) → Option ℕ
+  after q [] = q
+  after q (move ∷ moves) = after (advance m q move.0) moves
+
+  down : (moves : List (Option ℕ × (ℕ × Option ℕ))) (s t : ℕ × Option ℕ) → Leads (PairEdge n m) s moves t
+      → IsPath n.states s.0 (strip moves) t.0 × (spelled (λ l. l) (strip moves) ≡ letters_of moves) × (accepts_option m s.1 (letters_of moves) ≡ accepts_at m t.1)
+  down [] s t same = (ap (λ (x : ℕ × Option ℕ). x.0) same, refl, accepts_option-nil m s.1 ∙ ap (λ (x : ℕ × Option ℕ). accepts_at m x.1) same)
+  down ((None, r) ∷ moves) s t goes =
+      let rest = down moves r t goes.1 in
+      ((goes.0.0, rest.0), rest.1, ap (λ q. accepts_option m q (letters_of moves)) (sym goes.0.1) ∙ rest.2)
+  down ((Some a, r) ∷ moves) s t goes =
+      let rest = down moves r t goes.1 in
+      ((goes.0.0, rest.0), ap (λ w. a ∷ w) rest.1, accepts_option-cons m s.1 a (letters_of moves) ∙ ap (λ q. accepts_option m q (letters_of moves)) (sym goes.0.1) ∙ rest.2)
+
+  up : (moves : List (Option ℕ × ℕ)) (p e : ℕ) (q : Option ℕ) → IsPath n.states p moves e
+      → Leads (PairEdge n m) (p, q) (lift q moves) (e, after q moves) × (letters_of (lift q moves) ≡ spelled (λ l. l) moves)
+      × (accepts_option m q (spelled (λ l. l) moves) ≡ accepts_at m (after q moves))
+  up [] p e q same = (ap (λ x. (x, q)) same, refl, accepts_option-nil m q)
+  up ((None, r) ∷ moves) p e q goes =
+      let rest = up moves r e q goes.1 in
+      (((goes.0, refl), rest.0), rest.1, rest.2)
+  up ((Some a, r) ∷ moves) p e q goes =
+      let rest = up moves r e (follow m q a) goes.1 in
+      (((goes.0, refl), rest.0), ap (λ w. a ∷ w) rest.1, accepts_option-cons m q a (spelled (λ l. l) moves) ∙ rest.2)
+
+  outside_of_found : (w : List ℕ) → IsFound (IsStartPair n m) (PairEdge n m) (is_outside_pair n m) w → IsOutside n m w
+  outside_of_found w (t, good, (s, moves, begins, leads, says)) =
+      let parts = and_parts (is_accepting n.states t.0) (not (accepts_at m t.1)) good in
+      let d = down moves s t leads in (
+        (s.0, strip moves, t.0, begins.0, d.0, parts.0, d.1 ∙ says),
+        sym (accepts_option-start m w)
+            ∙ ap (λ q. accepts_option m q w) (sym begins.1)
+            ∙ ap (accepts_option m s.1) (sym says)
+            ∙ d.2
+            ∙ not_true (accepts_at m t.1) parts.1,
+      )
+
+  found_of_outside : (w : List ℕ) → IsOutside n m w → IsFound (IsStartPair n m) (PairEdge n m) (is_outside_pair n m) w
+  found_of_outside w ((start, moves, end, begins, path, accepting, says), refused) =
+      let q = start_of m.states in
+      let u = up moves start end q path in (
+        (end, after q moves),
+        and_from (is_accepting n.states end) (not (accepts_at m (after q moves))) accepting
+            (ap not (sym u.2 ∙ ap (accepts_option m q) says ∙ accepts_option-start m w ∙ refused)),
+        ((start, q), lift q moves, (begins, refl), u.0, u.1 ∙ says),
+      )
+
+  included_of : ((w : List ℕ) → IsFound (IsStartPair n m) (PairEdge n m) (is_outside_pair n m) w → ⊥) → IsIncluded n m
+  included_of nothing w run = by (accepts m w) refl
+    where
+      by : (b : Bool) → accepts m w ≡ b → accepts m w ≡ true
+      by true accepted = accepted
+      by false refused = absurd (nothing w (found_of_outside w (run, refused)))
+
+  pub inclusion : {X : Type 0} (items : X → List ℕ) (o : Option X)
+      → MatchOption o ((w : List ℕ) → IsFound (IsStartPair n m) (PairEdge n m) (is_outside_pair n m) w → ⊥)
+      (λ x. IsLeastWord (IsFound (IsStartPair n m) (PairEdge n m) (is_outside_pair n m)) (items x))
+      → MatchOption o (IsIncluded n m) (λ x. IsLeastWord (IsOutside n m) (items x))
+  inclusion items None nothing = included_of nothing
+  inclusion items (Some x) least =
+      (outside_of_found (items x) least.0, λ v is_outside before. least.1 v (found_of_outside v is_outside) before)
+
+  -- the target of an edge is a state
+  target_state : IsInRange n → (p : ℕ) (l : Option ℕ) (r : ℕ) → Contains (edges_of n.states p) (l, r) → r < length n.states
+  target_state in_range p l r there =
+      All-contains (λ (edge : Option ℕ × ℕ). edge.1 < length n.states) (edges_of n.states p) (l, r)
+      (All-edges_of (All (λ (edge : Option ℕ × ℕ). edge.1 < length n.states)) n.states (All-nil (λ (edge : Option ℕ × ℕ). edge.1 < length n.states)) in_range.targets_in_range p) there
+
+  -- one more start
+  pub start_more : IsInRange n → IsValid m → IsStateOrNone m (start_of m.states) → (pairs : List (ℕ × Option ℕ)) (k p : ℕ) (q : Option ℕ) → q ≡ start_of m.states → slice_get n.starts k ≡ Some p
+      → Gathers (IsPair n m) (IsStartAmong m n.starts k) [] pairs → Gathers (IsPair n m) (IsStartAmong m n.starts (k + 1)) [] (pairs ++ (p, q) ∷ [])
+  start_more in_range valid state pairs k p q same at g =
+      gathers_push (IsPair n m) (IsStartAmong m n.starts k) (IsStartAmong m n.starts (k + 1)) [] pairs (p, q)
+      (in_range, valid, All-contains (λ start. start < length n.states) n.starts p in_range.starts_in_range (contains_at n.starts p k at), subst (IsStateOrNone m) (sym same) state)
+      (k, omega arith, at, same)
+      (λ y is. (is.0, (let l = is.1 in omega arith), is.2, is.3))
+      (λ y is. by y is.0 is.1 is.2 is.3 (cases_eq is.0 k)) g
+    where
+      by : (y : ℕ × Option ℕ) (i : ℕ) → i < k + 1 → slice_get n.starts i ≡ Some y.0 → y.1 ≡ start_of m.states → (i ≡ k) ⊎ (i ≡ k → ⊥) → IsStartAmong m n.starts k y ⊎ (◌≡◌ {A = ℕ × Option ℕ} (p, q) y)
+      by y i l here starts (inr other) = inl (i, omega arith, here, starts)
+      by y i l here starts (inl is_k) =
+          let first : p ≡ y.0 = same_Some p y.0 (sym at ∙ ap (slice_get n.starts) (sym is_k) ∙ here) in
+          inr (ap (λ x. (x, q)) first ∙ ap (λ z. (y.0, z)) (same ∙ sym starts))
+
+  pub starts_all : (pairs : List (ℕ × Option ℕ)) (k : ℕ) → length n.starts ≤ k → Gathers (IsPair n m) (IsStartAmong m n.starts k) [] pairs → Gathers (IsPair n m) (IsStartPair n m) [] pairs
+  starts_all pairs k all g =
+      gathers_same (IsPair n m) (IsStartAmong m n.starts k) (IsStartPair n m) [] pairs
+      (λ y is. (contains_at n.starts y.0 is.0 is.2, is.3))
+      (λ y is. let place = place_of n.starts y.0 is.0 in (place.0, (let l = place.1 in omega arith), place.2, is.1)) g
+
+  module _ (in_range : IsInRange n) (valid : IsValid m) (p : ℕ) (q : Option ℕ) (state : IsStateOrNone m q) where
+    edges : List (Option ℕ × ℕ)
+    edges = edges_of n.states p
+
+    -- one more edge without a letter
+    pub silent_more : (targets : List (ℕ × Option ℕ)) (k r : ℕ) → slice_get (edges_of n.states p) k ≡ Some (None, r) → Gathers (IsPair n m) (IsSilentAmong q (edges_of n.states p) k) [] targets
+        → Gathers (IsPair n m) (IsSilentAmong q (edges_of n.states p) (k + 1)) [] (targets ++ (r, q) ∷ [])
+    silent_more targets k r at g =
+        gathers_push (IsPair n m) (IsSilentAmong q (edges_of n.states p) k) (IsSilentAmong q (edges_of n.states p) (k + 1)) [] targets (r, q)
+        (in_range, valid, target_state in_range p None r (contains_at (edges_of n.states p) (None, r) k at), state)
+        (k, omega arith, at, refl)
+        (λ y is. (is.0, (let l = is.1 in omega arith), is.2, is.3))
+        (λ y is. by y is.0 is.1 is.2 is.3 (cases_eq is.0 k)) g
+      where
+        by : (y : ℕ × Option ℕ) (i : ℕ) → i < k + 1 → slice_get (edges_of n.states p) i ≡ Some (None, y.0) → y.1 ≡ q → (i ≡ k) ⊎ (i ≡ k → ⊥)
+            → IsSilentAmong q (edges_of n.states p) k y ⊎ (◌≡◌ {A = ℕ × Option ℕ} (r, q) y)
+        by y i l here stays (inr other) = inl (i, omega arith, here, stays)
+        by y i l here stays (inl is_k) =
+            let whole : ◌≡◌ {A = Option ℕ × ℕ} (None, r) (None, y.0) = same_Some (None, r) (None, y.0) (sym at ∙ ap (slice_get (edges_of n.states p)) (sym is_k) ∙ here) in
+            inr (ap (λ x. (x, q)) (ap (λ (e : Option ℕ × ℕ). e.1) whole) ∙ ap (λ z. (y.0, z)) (sym stays))
+
+    -- an edge with one
+    pub silent_other : (targets : List (ℕ × Option ℕ)) (k : ℕ) (l : Option ℕ) (r : ℕ) → slice_get (edges_of n.states p) k ≡ Some (l, r) → (l ≡ None → ⊥)
+        → Gathers (IsPair n m) (IsSilentAmong q (edges_of n.states p) k) [] targets → Gathers (IsPair n m) (IsSilentAmong q (edges_of n.states p) (k + 1)) [] targets
+    silent_other targets k l r at lettered g =
+        gathers_same (IsPair n m) (IsSilentAmong q (edges_of n.states p) k) (IsSilentAmong q (edges_of n.states p) (k + 1)) [] targets
+        (λ y is. (is.0, (let l = is.1 in omega arith), is.2, is.3))
+        (λ y is. by y is.0 is.1 is.2 is.3 (cases_eq is.0 k)) g
+      where
+        by : (y : ℕ × Option ℕ) (i : ℕ) → i < k + 1 → slice_get (edges_of n.states p) i ≡ Some (None, y.0) → y.1 ≡ q → (i ≡ k) ⊎ (i ≡ k → ⊥) → IsSilentAmong q (edges_of n.states p) k y
+        by y i less here stays (inr other) = (i, omega arith, here, stays)
+        by y i less here stays (inl is_k) =
+            let whole : ◌≡◌ {A = Option ℕ × ℕ} (l, r) (None, y.0) = same_Some (l, r) (None, y.0) (sym at ∙ ap (slice_get (edges_of n.states p)) (sym is_k) ∙ here) in
+            absurd (lettered (ap (λ (e : Option ℕ × ℕ). e.0) whole))
+
+    pub silent_all : (targets : List (ℕ × Option ℕ)) (k : ℕ) → length (edges_of n.states p) ≤ k → Gathers (IsPair n m) (IsSilentAmong q (edges_of n.states p) k) [] targets
+        → Gathers (IsPair n m) (PairEdge n m (p, q) None) [] targets
+    silent_all targets k all g =
+        gathers_same (IsPair n m) (IsSilentAmong q (edges_of n.states p) k) (PairEdge n m (p, q) None) [] targets
+        (λ y is. (contains_at (edges_of n.states p) (None, y.0) is.0 is.2, is.3))
+        (λ y is. let place = place_of (edges_of n.states p) (None, y.0) is.0 in (place.0, (let l = place.1 in omega arith), place.2, is.1)) g
+
+    -- one more edge with a letter
+    pub step_more : (old steps : List (ℕ × (ℕ × Option ℕ))) (k a r : ℕ) (next : Option ℕ) → next ≡ follow m q a → slice_get (edges_of n.states p) k ≡ Some (Some a, r)
+        → Gathers {X = ℕ × (ℕ × Option ℕ)} (λ step. IsPair n m step.1) (IsStepAmong m q (edges_of n.states p) k) old steps
+        → Gathers {X = ℕ × (ℕ × Option ℕ)} (λ step. IsPair n m step.1) (IsStepAmong m q (edges_of n.states p) (k + 1)) old (steps ++ (a, (r, next)) ∷ [])
+    step_more old steps k a r next follows at g =
+        gathers_push {X = ℕ × (ℕ × Option ℕ)} (λ step. IsPair n m step.1) (IsStepAmong m q (edges_of n.states p) k) (IsStepAmong m q (edges_of n.states p) (k + 1)) old steps (a, (r, next))
+        (in_range, valid, target_state in_range p (Some a) r (contains_at (edges_of n.states p) (Some a, r) k at), subst (IsStateOrNone m) (sym follows) (follow-within m valid q a))
+        (k, omega arith, at, follows)
+        (λ y is. (is.0, (let l = is.1 in omega arith), is.2, is.3))
+        (λ y is. by y is.0 is.1 is.2 is.3 (cases_eq is.0 k)) g
+      where
+        by : (y : ℕ × (ℕ × Option ℕ)) (i : ℕ) → i < k + 1 → slice_get (edges_of n.states p) i ≡ Some (Some y.0, y.1.0) → y.1.1 ≡ follow m q y.0 → (i ≡ k) ⊎ (i ≡ k → ⊥)
+            → IsStepAmong m q (edges_of n.states p) k y ⊎ (◌≡◌ {A = ℕ × (ℕ × Option ℕ)} (a, (r, next)) y)
+        by y i l here goes (inr other) = inl (i, omega arith, here, goes)
+        by y i l here goes (inl is_k) =
+            let whole : ◌≡◌ {A = Option ℕ × ℕ} (Some a, r) (Some y.0, y.1.0) = same_Some (Some a, r) (Some y.0, y.1.0) (sym at ∙ ap (slice_get (edges_of n.states p)) (sym is_k) ∙ here) in
+            let letter : a ≡ y.0 = same_Some a y.0 (ap (λ (e : Option ℕ × ℕ). e.0) whole) in
+            let to : r ≡ y.1.0 = ap (λ (e : Option ℕ × ℕ). e.1) whole in
+            let on : next ≡ y.1.1 = follows ∙ ap (follow m q) letter ∙ sym goes in
+            inr (ap (λ x. (x, (r, next))) letter ∙ ap (λ x. (y.0, (x, next))) to ∙ ap (λ z. (y.0, (y.1.0, z))) on)
+
+    -- an edge without one
+    pub step_other : (old steps : List (ℕ × (ℕ × Option ℕ))) (k r : ℕ) → slice_get (edges_of n.states p) k ≡ Some (None, r)
+        → Gathers {X = ℕ × (ℕ × Option ℕ)} (λ step. IsPair n m step.1) (IsStepAmong m q (edges_of n.states p) k) old steps
+        → Gathers {X = ℕ × (ℕ × Option ℕ)} (λ step. IsPair n m step.1) (IsStepAmong m q (edges_of n.states p) (k + 1)) old steps
+    step_other old steps k r at g =
+        gathers_same {X = ℕ × (ℕ × Option ℕ)} (λ step. IsPair n m step.1) (IsStepAmong m q (edges_of n.states p) k) (IsStepAmong m q (edges_of n.states p) (k + 1)) old steps
+        (λ y is. (is.0, (let l = is.1 in omega arith), is.2, is.3))
+        (λ y is. by y is.0 is.1 is.2 is.3 (cases_eq is.0 k)) g
+      where
+        by : (y : ℕ × (ℕ × Option ℕ)) (i : ℕ) → i < k + 1 → slice_get (edges_of n.states p) i ≡ Some (Some y.0, y.1.0) → y.1.1 ≡ follow m q y.0 → (i ≡ k) ⊎ (i ≡ k → ⊥)
+            → IsStepAmong m q (edges_of n.states p) k y
+        by y i less here goes (inr other) = (i, omega arith, here, goes)
+        by y i less here goes (inl is_k) =
+            let whole : ◌≡◌ {A = Option ℕ × ℕ} (None, r) (Some y.0, y.1.0) = same_Some (None, r) (Some y.0, y.1.0) (sym at ∙ ap (slice_get (edges_of n.states p)) (sym is_k) ∙ here) in
+            let none : None ≡ Some y.0 = ap (λ (e : Option ℕ × ℕ). e.0) whole in
+            (cc)
+
+    pub steps_all : (old steps : List (ℕ × (ℕ × Option ℕ))) (k : ℕ) → length (edges_of n.states p) ≤ k
+        → Gathers {X = ℕ × (ℕ × Option ℕ)} (λ step. IsPair n m step.1) (IsStepAmong m q (edges_of n.states p) k) old steps
+        → Gathers {X = ℕ × (ℕ × Option ℕ)} (λ step. IsPair n m step.1) (λ step. PairEdge n m (p, q) (Some step.0) step.1) old steps
+    steps_all old steps k all g =
+        gathers_same {X = ℕ × (ℕ × Option ℕ)} (λ step. IsPair n m step.1) (IsStepAmong m q (edges_of n.states p) k) (λ step. PairEdge n m (p, q) (Some step.0) step.1) old steps
+        (λ y is. (contains_at (edges_of n.states p) (Some y.0, y.1.0) is.0 is.2, is.3))
+        (λ y is. let place = place_of (edges_of n.states p) (Some y.0, y.1.0) is.0 in (place.0, (let l = place.1 in omega arith), place.2, is.1)) g

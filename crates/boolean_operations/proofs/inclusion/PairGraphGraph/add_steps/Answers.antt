@@ -1,0 +1,41 @@
+use Rattle.std.proofs.Common.{◌+◌, ℕ, List, None, Some, get_or, length, sym, ap, subst, ◌∙◌, arith, Option}
+use Rattle.word_automata.specs.Path.{edges_of}
+use Rattle.boolean_operations.specs.Search.{Gathers}
+use Rattle.boolean_operations.specs.PairGraph.{IsPair, IsStepAmong}
+use Rattle.boolean_operations.proofs.PairWalks.{gathers_none, edge_read, step_more, step_other, steps_all}
+use Rattle.boolean_operations.proofs.inclusion.PairGraphGraph.add_steps.Goals as goal
+use Rattle.boolean_operations.proofs.inclusion.PairGraphGraph.add_steps.Goals.{in-Some+in_ok-push, in_default}
+
+pub edges-init : goal.edges-init
+edges-init c =
+    let n = c.args.self.now.left.now in
+    let m = c.args.self.now.right.now in
+    gathers_none {X = ℕ × (ℕ × Option ℕ)} (λ step. IsPair n m step.1) (IsStepAmong m c.args.state.now.1 (edges_of n.states c.args.state.now.0) 0) c.args.steps.now.items
+    (λ x is. let l = is.1 in omega arith)
+
+pub edges-preserved : goal.edges-preserved
+edges-preserved c =
+    let n = c.args.self.now.left.now in
+    let m = c.args.self.now.right.now in
+    let p = c.args.state.now.0 in
+    let q = c.args.state.now.1 in
+    let edges = c.edges_from-letter-items.result.now in
+    let k = c.edges.letter-index in
+    elim c.match-letter.branch [
+      | in-Some+in_ok-push w ↦
+          subst (Gathers {X = ℕ × (ℕ × Option ℕ)} (λ step. IsPair n m step.1) (IsStepAmong m q (edges_of n.states p) (k + 1)) c.args.steps.now.items)
+          (sym (ap (λ steps. steps.items) w.steps-is ∙ w.in_ok-push.ensures.items))
+          (step_more n m c.requires.0 c.requires.1 p q c.requires.3 c.args.steps.now.items c.edges.steps.items k w.in-Some.letter (get_or edges k (None, 0)).1 w.follow.result w.follow.ensures.value
+          (edge_read edges (edges_of n.states p) k (Some w.in-Some.letter) c.edges_from-letter-items.ensures.edges c.edges-test.true w.in-Some.is) c.edges.invariant)
+      | in_default w ↦
+          subst (Gathers {X = ℕ × (ℕ × Option ℕ)} (λ step. IsPair n m step.1) (IsStepAmong m q (edges_of n.states p) (k + 1)) c.args.steps.now.items) (sym (ap (λ steps. steps.items) w.steps-is))
+          (step_other n m c.requires.0 c.requires.1 p q c.requires.3 c.args.steps.now.items c.edges.steps.items k (get_or edges k (None, 0)).1
+          (edge_read edges (edges_of n.states p) k None c.edges_from-letter-items.ensures.edges c.edges-test.true w.in_default.is) c.edges.invariant)
+    ]
+
+pub returns : goal.returns
+returns c =
+    let n = c.args.self.now.left.now in
+    let m = c.args.self.now.right.now in
+    steps_all n m c.requires.0 c.requires.1 c.args.state.now.0 c.args.state.now.1 c.requires.3 c.args.steps.now.items c.edges.steps.items c.edges.letter-index
+    (omega (arith, ap (λ (es : List (Option ℕ × ℕ)). length es) c.edges_from-letter-items.ensures.edges, c.edges-test.false)) c.edges.invariant

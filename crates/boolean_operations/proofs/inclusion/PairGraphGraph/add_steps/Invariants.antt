@@ -1,0 +1,10 @@
+use Rattle.std.proofs.Common.{ℕ, Option}
+use Rattle.word_automata.specs.Path.{edges_of}
+use Rattle.boolean_operations.specs.Search.{Gathers}
+use Rattle.boolean_operations.specs.PairGraph.{IsPair, IsStepAmong}
+use Rattle.boolean_operations.proofs.inclusion.PairGraphGraph.add_steps.Given as goal
+
+abbrev pub invariant-edges : goal.invariant-edges
+invariant-edges l =
+    Gathers {X = ℕ × (ℕ × Option ℕ)} (λ step. IsPair l.self.left.now l.self.right.now step.1) (IsStepAmong l.self.right.now l.right (edges_of l.self.left.now.states l.left) l.letter-index)
+    l.fn.steps.items l.steps.items

@@ -1,0 +1,9 @@
+use Rattle.std.proofs.Common.{[]}
+use Rattle.word_automata.specs.Path.{edges_of}
+use Rattle.boolean_operations.specs.Search.{Gathers}
+use Rattle.boolean_operations.specs.PairGraph.{IsPair, IsSilentAmong}
+use Rattle.boolean_operations.proofs.inclusion.PairGraphGraph.silent_targets.Given as goal
+
+abbrev pub invariant-edges : goal.invariant-edges
+invariant-edges l =
+    Gathers (IsPair l.self.left.now l.self.right.now) (IsSilentAmong l.right (edges_of l.self.left.now.states l.left) l.letter-index) [] l.targets.items

@@ -1,0 +1,7 @@
+use Rattle.std.proofs.Common.{[]}
+use Rattle.boolean_operations.specs.Search.{Gathers}
+use Rattle.boolean_operations.specs.PairGraph.{IsPair, IsStartAmong}
+use Rattle.boolean_operations.proofs.inclusion.PairGraphGraph.starts.Given as goal
+
+abbrev pub invariant-starts : goal.invariant-starts
+invariant-starts l = Gathers (IsPair l.self.left.now l.self.right.now) (IsStartAmong l.self.right.now l.self.left.now.starts l.left-index) [] l.pairs.items

@@ -1,0 +1,13 @@
+use Rattle.std.proofs.Common.{length, ◌≤◌, ◌-◌, ◌^◌}
+use Rattle.boolean_operations.specs.Search.{Reached, Extends}
+use Rattle.boolean_operations.proofs.search.close.Given as goal
+
+abbrev pub invariant-states : goal.invariant-states
+invariant-states g l = record {
+  within : l.place ≤ length l.found.keys;
+  reached : Reached (g.T.Graph.is_state l.graph) (g.T.Graph.is_start l.graph) (g.T.Graph.edge l.graph) l.found.keys l.groups.items l.steps l.place;
+  extends : Extends l.fn.found.keys l.fn.groups.items l.steps l.found.keys l.groups.items l.steps (length l.steps);
+}
+
+abbrev pub decreases-states : goal.decreases-states
+decreases-states g l = 2 ^ 64 - l.place

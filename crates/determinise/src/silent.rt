@@ -1,0 +1,31 @@
+//! Which states have edges without a letter.
+
+ghost use Rattle.std.specs.Prelude.{◌≡◌, ℕ, false, None, Contains, IfOk, length};
+ghost use Rattle.determinise.specs.Subsets.{ArePlainWhereFalse};
+
+use std::alloc::{AllocError, Global};
+use word_automata::Nfa;
+
+/// For each state whether it has an edge without a letter.
+pub fn silent_flags(alloc: Global, automaton: &Nfa) -> Result<Vec<bool>, AllocError>
+    ensures count { IfOk result (λ flags. length flags.items ≡ length automaton.now.states) }
+    ensures plain { IfOk result (λ flags. ArePlainWhereFalse automaton.now flags.items) }
+{
+    let mut flags = Vec::with_capacity(alloc, automaton.states())?;
+    'states: for state in 0..automaton.states() {
+        flags.push(has_silent_edge(automaton.edges_from(state)))?;
+    }
+    Ok(flags)
+}
+
+/// Whether one of the edges has no letter.
+fn has_silent_edge(edges: &[(Option<u32>, usize)]) -> bool
+    ensures { result ≡ false → (q : ℕ) → Contains edges.now (None, q) → ⊥ }
+{
+    'edges: for (letter, _) in edges {
+        if letter.is_none() {
+            return true;
+        }
+    }
+    false
+}
