@@ -1,21 +1,26 @@
 -- A text means one certificate or has one first fault, and never both.
-use Rattle.std.proofs.Common.{◌≡◌, ◌≢◌, ◌↔◌, ℕ, ◌≤◌, List, [], ◌∷◌, ◌++◌, codes, decimal, sym, ap, subst, ◌∙◌, arith, inl, inr}
+use Rattle.std.proofs.Common.{◌≡◌, ◌≢◌, ◌↔◌, ◌⊎◌, ℕ, ◌≤◌, List, [], ◌∷◌, ◌++◌, codes, decimal, refl, sym, ap, subst, ◌∙◌, arith, inl, inr}
 use Rattle.std.specs.Str.Parse.{digits_value}
 use Rattle.std.proofs.lemmas.List.{append_cancel_left}
 use Rattle.word_automata.specs.Automaton.{Automaton}
+use Rattle.protocol_model.specs.declared.system.Run.{Run}
 use Rattle.protocol_model.specs.System.{SystemData, IsValid}
 use Rattle.protocol_model.specs.Words.{automata_letters}
 use Rattle.certificate.specs.declared.fault.CertFault.{CertFault}
-use Rattle.certificate.specs.declared.fault.CertFault.TheVariants.{Version, BadLine, NothingToVerify, TooMany}
+use Rattle.certificate.specs.declared.fault.CertFault.TheVariants.{Version, BadLine, UnknownName, OutOfRange, TwoEdges, Truncated, NothingToVerify, TooMany, Memory}
 use Rattle.certificate.specs.declared.safe.Certificate.{Certificate}
 use Rattle.certificate.specs.declared.safe.Certificate.TheVariants.{Automaton as AutomatonProof, BadRun}
 use Rattle.certificate.specs.Bytes.{Lacks}
 use Rattle.certificate.specs.SafeText.{MeansAutomaton, IsAutomatonOf}
 use Rattle.certificate.specs.Reading.{GoesOn, body_text, opening_text}
-use Rattle.certificate.specs.NextLine.{IsCertificateOf}
+use Rattle.certificate.specs.RunText.{MeansRun}
+use Rattle.certificate.specs.RunFaults.{FaultInRun}
+use Rattle.certificate.specs.Meaning.{IsCertificateOf}
 use Rattle.certificate.specs.Faults.{IsOtherVersion, IsFirstFault, IsSecondFault, FaultInFirst, FaultInSecond, FaultInBody, HasFault}
 use Rattle.certificate.proofs.TextLemmas.{cut_unique, no_cut}
 use Rattle.certificate.proofs.NumberLemmas.{IsNumber-Lacks, decimal-IsNumber, small_decimal-IsNumber}
+use Rattle.certificate.proofs.LineLemmas.{heads_differ}
+use Rattle.certificate.proofs.OneRunLemmas.{run_opening, run_lines, run_fault_unique, run_fault_excludes, run_unique}
 use Rattle.certificate.proofs.OpeningLemmas.{opening_first, safe_line_lacks, states_line-no_line_feed}
 use Rattle.certificate.proofs.SafeTextLemmas.{MeansAutomaton-opening, MeansAutomaton-goes_on}
 use Rattle.certificate.proofs.OneReadingLemmas.{same_lines, body_fault_unique, body_fault_excludes}
@@ -30,13 +35,15 @@ known_version line kind e h =
 seventh_differs : (x y : List ℕ) → codes "armc 1 safe" ++ x ≡ codes "armc 1 unknown" ++ y → ⊥
 seventh_differs x y e =
     let tails : codes "safe" ++ x ≡ codes "unknown" ++ y = append_cancel_left (codes "armc 1 ") _ _ e in
-    differ 115 117 _ _ (omega arith) tails
-  where
-    differ : (a b : ℕ) (x y : List ℕ) → a ≢ b → a ∷ x ≡ b ∷ y → ⊥
-    differ a b x y d e = d cc
+    heads_differ 115 117 _ _ (omega arith) tails
 
 safe_is_not_unknown : codes "armc 1 safe" ≡ codes "armc 1 unknown" → ⊥
 safe_is_not_unknown e = seventh_differs [] [] e
+
+unsafe_is_not_unknown : codes "armc 1 unsafe" ≡ codes "armc 1 unknown" → ⊥
+unsafe_is_not_unknown e =
+    let tails : codes "safe" ≡ codes "known" = append_cancel_left (codes "armc 1 un") _ _ e in
+    heads_differ 115 107 _ _ (omega arith) tails
 
 -- a first line has one fault
 first_unique : (line : List ℕ) (fault other : CertFault) → IsFirstFault line fault → IsFirstFault line other → fault ≡ other
@@ -127,42 +134,114 @@ opening_unique text body other count number limit limit' e f =
       parts.1,
     )
 
+-- a text whose first line is that of a run has no fault there, and is no text of an automaton
+unsafe_has_no_fault : (line : List ℕ) (fault : CertFault) → line ≡ codes "armc 1 unsafe" → IsFirstFault line fault → ⊥
+unsafe_has_no_fault line (Version n) e h = known_version line (codes "unsafe") e h.1
+unsafe_has_no_fault line (NothingToVerify n) e h = unsafe_is_not_unknown (sym e ∙ h.1)
+unsafe_has_no_fault line (BadLine n) e h = h.2 e
+unsafe_has_no_fault line _ e h = h
+
+unsafe_line_lacks : Lacks 10 (codes "armc 1 unsafe")
+unsafe_line_lacks = (
+  omega arith,
+  (
+    omega arith,
+    (
+      omega arith,
+      (
+        omega arith,
+        (omega arith, (omega arith, (omega arith, (omega arith, (omega arith, (omega arith, (omega arith, (omega arith, (omega arith, tt))))))))),
+      ),
+    ),
+  ),
+)
+
+no_fault_in_unsafe : (text rest : List ℕ) (fault : CertFault) → text ≡ codes "armc 1 unsafe" ++ 10 ∷ rest → FaultInFirst text fault → ⊥
+no_fault_in_unsafe text rest fault e (inl short) = no_cut 10 (codes "armc 1 unsafe") rest (subst (Lacks 10) e short.0)
+no_fault_in_unsafe text rest fault e (inr h) =
+    unsafe_has_no_fault h.0 fault
+    (cut_unique 10 h.0 (codes "armc 1 unsafe") h.1 rest h.2.first unsafe_line_lacks (sym h.2.joined ∙ e)).0 h.3
+
+safe_is_not_unsafe : (text x y : List ℕ) → text ≡ codes "armc 1 safe" ++ x → text ≡ codes "armc 1 unsafe" ++ y → ⊥
+safe_is_not_unsafe text x y e f =
+    let tails : codes "safe" ++ x ≡ codes "unsafe" ++ y = append_cancel_left (codes "armc 1 ") _ _ (sym e ∙ f) in
+    heads_differ 115 117 _ _ (omega arith) tails
+
+unsafe_rest : (text rest other : List ℕ) → text ≡ codes "armc 1 unsafe" ++ 10 ∷ rest → text ≡ codes "armc 1 unsafe" ++ 10 ∷ other → rest ≡ other
+unsafe_rest text rest other e f = append_cancel_left (codes "armc 1 unsafe" ++ 10 ∷ []) rest other (sym e ∙ f)
+
+is_memory : (fault : CertFault) → (fault ≡ Memory) ⊎ (fault ≢ Memory)
+is_memory Memory = inl refl
+is_memory (Version n) = inr (λ e. absurd cc)
+is_memory (BadLine n) = inr (λ e. absurd cc)
+is_memory (UnknownName n) = inr (λ e. absurd cc)
+is_memory (OutOfRange n) = inr (λ e. absurd cc)
+is_memory (TwoEdges n) = inr (λ e. absurd cc)
+is_memory (Truncated n) = inr (λ e. absurd cc)
+is_memory (NothingToVerify n) = inr (λ e. absurd cc)
+is_memory (TooMany n) = inr (λ e. absurd cc)
+
 module _ (s : SystemData) (valid : IsValid s) where
   -- a text has one first fault
   pub fault_unique : (text : List ℕ) (fault other : CertFault) → HasFault s text fault → HasFault s text other → fault ≡ other
   fault_unique text fault other (inl h) (inl k) = in_first_unique text fault other h k
   fault_unique text fault other (inl h) (inr (inl k)) = absurd (no_fault_in_first text k.0 fault k.1 h)
-  fault_unique text fault other (inl h) (inr (inr k)) = absurd (no_fault_in_first text _ fault (opening_first text k.1 k.0 k.3) h)
+  fault_unique text fault other (inl h) (inr (inr (inl k))) = absurd (no_fault_in_first text _ fault (opening_first text k.1 k.0 k.3) h)
+  fault_unique text fault other (inl h) (inr (inr (inr k))) = absurd (no_fault_in_unsafe text k.0 fault k.1 h)
   fault_unique text fault other (inr (inl h)) (inl k) = absurd (no_fault_in_first text h.0 other h.1 k)
   fault_unique text fault other (inr (inl h)) (inr (inl k)) =
       in_second_unique h.0 fault other h.2
       (subst (λ rest. FaultInSecond rest other) (rest_unique text k.0 h.0 k.1 h.1) k.2)
-  fault_unique text fault other (inr (inl h)) (inr (inr k)) =
+  fault_unique text fault other (inr (inl h)) (inr (inr (inl k))) =
       absurd (no_fault_in_second h.0 k.1 k.0 fault k.2 (rest_unique text h.0 _ h.1 (opening_first text k.1 k.0 k.3)) h.2)
-  fault_unique text fault other (inr (inr h)) (inl k) = absurd (no_fault_in_first text _ other (opening_first text h.1 h.0 h.3) k)
-  fault_unique text fault other (inr (inr h)) (inr (inl k)) =
+  fault_unique text fault other (inr (inl h)) (inr (inr (inr k))) = absurd (safe_is_not_unsafe text _ _ h.1 k.1)
+  fault_unique text fault other (inr (inr (inl h))) (inl k) = absurd (no_fault_in_first text _ other (opening_first text h.1 h.0 h.3) k)
+  fault_unique text fault other (inr (inr (inl h))) (inr (inl k)) =
       absurd (no_fault_in_second k.0 h.1 h.0 other h.2 (rest_unique text k.0 _ k.1 (opening_first text h.1 h.0 h.3)) k.2)
-  fault_unique text fault other (inr (inr h)) (inr (inr k)) =
+  fault_unique text fault other (inr (inr (inl h))) (inr (inr (inl k))) =
       let same = opening_unique text h.1 k.1 h.0 k.0 h.2 k.2 h.3 k.3 in
       body_fault_unique s valid h.0 h.2 h.1 fault other h.4
       (subst (λ count. FaultInBody s count h.1 other) (sym same.0) (subst (λ body. FaultInBody s k.0 body other) (sym same.1) k.4))
+  fault_unique text fault other (inr (inr (inl h))) (inr (inr (inr k))) =
+      absurd (safe_is_not_unsafe text _ _ (opening_first text h.1 h.0 h.3) k.1)
+  fault_unique text fault other (inr (inr (inr h))) (inl k) = absurd (no_fault_in_unsafe text h.0 other h.1 k)
+  fault_unique text fault other (inr (inr (inr h))) (inr (inl k)) = absurd (safe_is_not_unsafe text _ _ k.1 h.1)
+  fault_unique text fault other (inr (inr (inr h))) (inr (inr (inl k))) =
+      absurd (safe_is_not_unsafe text _ _ (opening_first text k.1 k.0 k.3) h.1)
+  fault_unique text fault other (inr (inr (inr h))) (inr (inr (inr k))) =
+      run_fault_unique s valid h.0 fault other h.2 (subst (λ rest. FaultInRun s rest other) (unsafe_rest text k.0 h.0 k.1 h.1) k.2)
 
-  -- a text with a fault means nothing
-  pub fault_excludes : (text : List ℕ) (fault : CertFault) (m : Automaton) → HasFault s text fault → MeansAutomaton s text m → ⊥
-  fault_excludes text fault m (inl h) means =
+  -- a text with a fault means no automaton and no run
+  automaton_excludes : (text : List ℕ) (fault : CertFault) (m : Automaton) → HasFault s text fault → MeansAutomaton s text m → ⊥
+  automaton_excludes text fault m (inl h) means =
       no_fault_in_first text _ fault (opening_first text (body_text s means.lines) means.count (MeansAutomaton-opening s text m means)) h
-  fault_excludes text fault m (inr (inl h)) means =
+  automaton_excludes text fault m (inr (inl h)) means =
       no_fault_in_second h.0 (body_text s means.lines) means.count fault means.limit
       (rest_unique text h.0 _ h.1 (opening_first text (body_text s means.lines) means.count (MeansAutomaton-opening s text m means))) h.2
-  fault_excludes text fault m (inr (inr h)) means =
+  automaton_excludes text fault m (inr (inr (inl h))) means =
       let same = opening_unique text h.1 (body_text s means.lines) h.0 means.count h.2 means.limit h.3 (MeansAutomaton-opening s text m means) in
       body_fault_excludes s valid h.0 h.2 h.1 fault m h.4
       (subst (λ count. GoesOn s count [] h.1 m) (sym same.0)
       (subst (λ body. GoesOn s means.count [] body m) (sym same.1) (MeansAutomaton-goes_on s text m means)))
+  automaton_excludes text fault m (inr (inr (inr h))) means =
+      safe_is_not_unsafe text _ _ (opening_first text (body_text s means.lines) means.count (MeansAutomaton-opening s text m means)) h.1
+
+  run_excludes : (text : List ℕ) (fault : CertFault) (run : Run) → HasFault s text fault → MeansRun s text run → ⊥
+  run_excludes text fault run (inl h) means =
+      let opened = run_opening s text run means in
+      no_fault_in_unsafe text opened.0 fault opened.1 h
+  run_excludes text fault run (inr (inl h)) means = safe_is_not_unsafe text _ _ h.1 (run_opening s text run means).1
+  run_excludes text fault run (inr (inr (inl h))) means =
+      safe_is_not_unsafe text _ _ (opening_first text h.1 h.0 h.3) (run_opening s text run means).1
+  run_excludes text fault run (inr (inr (inr h))) means = run_fault_excludes s valid h.0 fault run h.2 (run_lines s text h.0 run h.1 means)
+
+  pub fault_excludes : (text : List ℕ) (fault : CertFault) (c : Certificate) → HasFault s text fault → IsCertificateOf s text c → ⊥
+  fault_excludes text fault (AutomatonProof m) h means = automaton_excludes text fault m h means
+  fault_excludes text fault (BadRun run) h means = run_excludes text fault run h means
 
   -- a text means one automaton
-  pub means_unique : (text : List ℕ) (m n : Automaton) → MeansAutomaton s text m → MeansAutomaton s text n → m ≡ n
-  means_unique text m n h k =
+  automaton_determined : (text : List ℕ) (m n : Automaton) → MeansAutomaton s text m → MeansAutomaton s text n → m ≡ n
+  automaton_determined text m n h k =
       let same = opening_unique text (body_text s h.lines) (body_text s k.lines) h.count k.count h.limit k.limit
       (MeansAutomaton-opening s text m h) (MeansAutomaton-opening s text n k) in
       let counted = subst (λ count. GoesOn s count [] (body_text s k.lines) n) (sym same.0) (MeansAutomaton-goes_on s text n k) in
@@ -171,11 +250,32 @@ module _ (s : SystemData) (valid : IsValid s) where
       automaton_unique (automata_letters s) h.count counted.later m n
       (subst (λ all. IsAutomatonOf (automata_letters s) h.count all m) lines h.automaton) counted.automaton
 
+  -- a text means one run
+  run_determined : (text : List ℕ) (a b : Run) → MeansRun s text a → MeansRun s text b → a ≡ b
+  run_determined text a b h k =
+      let opened = run_opening s text a h in
+      run_unique s valid opened.0 a b (run_lines s text opened.0 a opened.1 h) (run_lines s text opened.0 b opened.1 k)
+
+  -- no text means an automaton and a run
+  not_both : (text : List ℕ) (m : Automaton) (run : Run) → MeansAutomaton s text m → MeansRun s text run → ⊥
+  not_both text m run h k =
+      safe_is_not_unsafe text _ _ (opening_first text (body_text s h.lines) h.count (MeansAutomaton-opening s text m h)) (run_opening s text run k).1
+
+  -- a text means one certificate
+  pub means_unique : (text : List ℕ) (c d : Certificate) → IsCertificateOf s text c → IsCertificateOf s text d → c ≡ d
+  means_unique text (AutomatonProof m) (AutomatonProof n) h k = ap AutomatonProof (automaton_determined text m n h k)
+  means_unique text (AutomatonProof m) (BadRun run) h k = absurd (not_both text m run h k)
+  means_unique text (BadRun run) (AutomatonProof m) h k = absurd (not_both text m run k h)
+  means_unique text (BadRun a) (BadRun b) h k = ap BadRun (run_determined text a b h k)
+
   -- a text with a meaning is this certificate and no other
-  pub certificate_found : (text : List ℕ) (m : Automaton) → MeansAutomaton s text m → (c : Certificate)
-      → IsCertificateOf s text c ↔ (AutomatonProof m ≡ c)
-  certificate_found text m means (AutomatonProof n) = (
-    λ is. ap AutomatonProof (means_unique text m n means is),
-    λ e. subst (IsCertificateOf s text) e means,
-  )
-  certificate_found text m means (BadRun run) = (λ is. absurd is, λ e. absurd cc)
+  pub certificate_found : (text : List ℕ) (c : Certificate) → IsCertificateOf s text c → (d : Certificate) → IsCertificateOf s text d ↔ (c ≡ d)
+  certificate_found text c means d = (means_unique text c d means, λ e. subst (IsCertificateOf s text) e means)
+
+  -- where each fault but want of memory is the text's, a text with a meaning has no other
+  pub only_memory : (text : List ℕ) (fault : CertFault) → (fault ≢ Memory → HasFault s text fault) → (c : Certificate) → IsCertificateOf s text c
+      → fault ≡ Memory
+  only_memory text fault h c means = elim (is_memory fault) [
+    | inl same ↦ same
+    | inr other ↦ absurd (fault_excludes text fault c (h other) means)
+  ]

@@ -7,11 +7,15 @@ mod LineLemmas
 mod NextLemmas
 mod NumberLemmas
 mod OneReadingLemmas
+mod OneRunLemmas
 mod OpeningLemmas
 mod ReadingLemmas
+mod RunLayoutLemmas
+mod RunLineLayoutLemmas
+mod RunLineLemmas
+mod RunWritingLemmas
 mod SafeTextLemmas
 mod SameAutomatonLemmas
-mod TestLemmas
 mod TextLemmas
 mod WritingLemmas
 mod WrittenLemmas

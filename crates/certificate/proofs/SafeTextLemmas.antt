@@ -1,5 +1,5 @@
 -- The text of an automaton, as its opening and what goes on after it.
-use Rattle.std.proofs.Common.{◌≡◌, ℕ, ◌≤◌, List, [], ◌++◌, Option, Some, None, Result, Ok, Err, IfOk, MatchOption, refl, sym, ap, ◌∙◌}
+use Rattle.std.proofs.Common.{◌≡◌, ℕ, ◌≤◌, List, [], ◌++◌, refl, sym, ap, ◌∙◌}
 use Rattle.word_automata.specs.Automaton.{Automaton}
 use Rattle.protocol_model.specs.System.{SystemData}
 use Rattle.certificate.specs.declared.lines.Line.{Line}
@@ -37,11 +37,3 @@ MeansAutomaton-from s text rest count m opening limit h = record {
   no_two_edges = h.no_two_edges;
   automaton = h.automaton;
 }
-
--- an answer that tells of one meaning tells of another that is the same
-pub same_answer : {E : Type 0} (r : Result (Option Automaton) E) (P Q : Automaton → Type 0) → ((m : Automaton) → Q m → P m)
-    → ((m : Automaton) → P m → Q m)
-    → IfOk r (λ o. MatchOption o ((m : Automaton) → P m → ⊥) P) → IfOk r (λ o. MatchOption o ((m : Automaton) → Q m → ⊥) Q)
-same_answer (Ok None) P Q back forth h = λ m q. h m (back m q)
-same_answer (Ok (Some d)) P Q back forth h = forth d h
-same_answer (Err e) P Q back forth h = tt

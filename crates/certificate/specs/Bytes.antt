@@ -1,6 +1,8 @@
 -- Parts of a text.
 use Rattle.std.specs.Prelude.{◌≡◌, ◌≢◌, ℕ, List, ◌∷◌, ◌++◌}
 use Rattle.std.specs.List.{AllByRecursion}
+use Rattle.certificate.specs.declared.fault.CertFault.{CertFault}
+use Rattle.certificate.specs.declared.fault.CertFault.TheVariants.{Truncated}
 
 -- the byte is not one of the text's
 abbrev pub Lacks : ℕ → List ℕ → Type 0
@@ -10,3 +12,7 @@ Lacks byte text = AllByRecursion (λ b. b ≢ byte) text
 pub record IsCutAt (separator : ℕ) (text before after : List ℕ) : Type 0 where
   pub joined : text ≡ before ++ separator ∷ after
   pub first : Lacks separator before
+
+-- the text that is left has no line feed: the fault of the line of this number
+abbrev pub IsCutShort : ℕ → List ℕ → CertFault → Type 0
+IsCutShort number rest fault = Lacks 10 rest × (fault ≡ Truncated number)

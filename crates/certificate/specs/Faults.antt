@@ -1,4 +1,4 @@
--- The first line with a fault, where a text is no certificate. A text that begins with the line `armc 1 unsafe` is not spoken of.
+-- The first line with a fault, where a text is no certificate.
 use Rattle.std.specs.Prelude.{◌≡◌, ◌≢◌, ◌⊎◌, ℕ, ◌+◌, ◌<◌, ◌≤◌, List, [], ◌∷◌, ◌++◌, AllPairs, Contains, length, codes}
 use Rattle.std.specs.List.{AllByRecursion}
 use Rattle.std.specs.Str.Parse.{digits_value}
@@ -7,17 +7,14 @@ use Rattle.protocol_model.specs.System.{SystemData}
 use Rattle.protocol_model.specs.Words.{automata_letters}
 use Rattle.certificate.specs.declared.fault.CertFault.{CertFault}
 use Rattle.certificate.specs.declared.fault.CertFault.TheVariants.{Version, BadLine, UnknownName, OutOfRange, TwoEdges}
-use Rattle.certificate.specs.declared.fault.CertFault.TheVariants.{Truncated, NothingToVerify, TooMany}
+use Rattle.certificate.specs.declared.fault.CertFault.TheVariants.{NothingToVerify, TooMany}
 use Rattle.certificate.specs.declared.lines.Line.{Line}
 use Rattle.certificate.specs.declared.lines.Line.TheVariants.{Final, Edge}
-use Rattle.certificate.specs.Bytes.{Lacks, IsCutAt}
+use Rattle.certificate.specs.Bytes.{IsCutAt, IsCutShort}
 use Rattle.certificate.specs.Numbers.{IsNumber}
 use Rattle.certificate.specs.SafeText.{letter_text, IsInRange, AreNoTwoEdges}
 use Rattle.certificate.specs.Reading.{IsFinalLine, IsEdgeLine, lines_text, opening_text}
-
--- the text does not begin with the line `armc 1 unsafe`
-abbrev pub IsNotUnsafe : List ℕ → Type 0
-IsNotUnsafe text = (rest : List ℕ) → text ≡ codes "armc 1 unsafe" ++ 10 ∷ rest → ⊥
+use Rattle.certificate.specs.RunFaults.{FaultInRun}
 
 -- the bytes are laid out as a letter: `|`, or two words, reserved or not, with a dot between them
 abbrev pub IsLetterField : List ℕ → Type 0
@@ -85,10 +82,6 @@ IsLaterFault s count lines number line (TwoEdges n) =
     (n ≡ number) × (x : Line) × Says s line x × IsInRange (automata_letters s) count x × IsSecondIn lines x
 IsLaterFault s count lines number line _ = ⊥
 
--- the text that is left has no line feed
-abbrev pub IsCutShort : ℕ → List ℕ → CertFault → Type 0
-IsCutShort number rest fault = Lacks 10 rest × (fault ≡ Truncated number)
-
 -- the fault stands in the first line
 abbrev pub FaultInFirst : List ℕ → CertFault → Type 0
 FaultInFirst text fault =
@@ -120,4 +113,5 @@ abbrev pub HasFault : SystemData → List ℕ → CertFault → Type 0
 HasFault s text fault =
     FaultInFirst text fault
     ⊎ (((rest : List ℕ) × (text ≡ codes "armc 1 safe" ++ 10 ∷ rest) × FaultInSecond rest fault)
-    ⊎ ((count : ℕ) × (body : List ℕ) × (count ≤ 1000000) × (text ≡ opening_text count ++ body) × FaultInBody s count body fault))
+    ⊎ (((count : ℕ) × (body : List ℕ) × (count ≤ 1000000) × (text ≡ opening_text count ++ body) × FaultInBody s count body fault)
+    ⊎ ((rest : List ℕ) × (text ≡ codes "armc 1 unsafe" ++ 10 ∷ rest) × FaultInRun s rest fault)))

@@ -4,6 +4,12 @@ pub mod Faults
 pub mod NextLine
 pub mod Numbers
 pub mod OneReading
+pub mod Meaning
+pub mod LayoutParts
+pub mod NextStep
 pub mod Reading
+pub mod RunFaults
+pub mod RunLayout
+pub mod RunText
 pub mod SafeText
 pub mod Writing

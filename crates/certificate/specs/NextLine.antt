@@ -1,4 +1,4 @@
--- What reading one line does, and what a text is a certificate of.
+-- What reading one line of an automaton does. Only private contracts speak of this.
 use Rattle.std.specs.Prelude.{◌≡◌, ℕ, List, [], ◌∷◌, ◌++◌, length, codes}
 use Rattle.word_automata.specs.Automaton.{Automaton}
 use Rattle.protocol_model.specs.System.{SystemData}
@@ -8,18 +8,15 @@ use Rattle.certificate.specs.declared.fault.CertFault.TheVariants.{BadLine, Unkn
 use Rattle.certificate.specs.declared.lines.Line.{Line}
 use Rattle.certificate.specs.declared.lines.LineFault.{LineFault}
 use Rattle.certificate.specs.declared.lines.LineFault.TheVariants.{BadLine as BadBytes, UnknownName as UnknownLetter}
-use Rattle.certificate.specs.declared.safe.Certificate.{Certificate}
-use Rattle.certificate.specs.declared.safe.Certificate.TheVariants.{Automaton as AutomatonProof, BadRun}
 use Rattle.certificate.specs.declared.safe.Next.{Next}
 use Rattle.certificate.specs.declared.safe.Next.TheVariants.{More, End, Fault}
-use Rattle.certificate.specs.SafeText.{line_text, MeansAutomaton}
+use Rattle.certificate.specs.SafeText.{line_text}
 use Rattle.certificate.specs.Reading.{AddsLine, HasLines, GoesOn}
 use Rattle.certificate.specs.Faults.{HasNoLayout, NamesNoLetter, IsLetterField, FaultInLater}
 
--- the text means the certificate; texts of runs are not spoken of
-abbrev pub IsCertificateOf : SystemData → List ℕ → Certificate → Type 0
-IsCertificateOf s text (AutomatonProof m) = MeansAutomaton s text m
-IsCertificateOf s text (BadRun run) = ⊥
+-- the text does not begin with the line `armc 1 unsafe`
+abbrev pub IsNotUnsafe : List ℕ → Type 0
+IsNotUnsafe text = (rest : List ℕ) → text ≡ codes "armc 1 unsafe" ++ 10 ∷ rest → ⊥
 
 -- what is wrong with the bytes of a line
 abbrev pub HasLineFault : SystemData → List ℕ → LineFault → Type 0

@@ -1,14 +1,14 @@
--- Laws: a text means one automaton or has one first fault, and never both.
+-- Laws: a text means one certificate or has one first fault, and never both.
 use Rattle.std.specs.Prelude.{◌≡◌, ℕ, List}
-use Rattle.word_automata.specs.Automaton.{Automaton}
 use Rattle.protocol_model.specs.System.{SystemData, IsValid}
 use Rattle.certificate.specs.declared.fault.CertFault.{CertFault}
-use Rattle.certificate.specs.SafeText.{MeansAutomaton}
+use Rattle.certificate.specs.declared.safe.Certificate.{Certificate}
+use Rattle.certificate.specs.Meaning.{IsCertificateOf}
 use Rattle.certificate.specs.Faults.{HasFault}
 
 abbrev pub MeaningIsDetermined : Type 0
 MeaningIsDetermined =
-    (s : SystemData) → IsValid s → (text : List ℕ) (m n : Automaton) → MeansAutomaton s text m → MeansAutomaton s text n → m ≡ n
+    (s : SystemData) → IsValid s → (text : List ℕ) (c d : Certificate) → IsCertificateOf s text c → IsCertificateOf s text d → c ≡ d
 
 abbrev pub FaultIsDetermined : Type 0
 FaultIsDetermined =
@@ -16,4 +16,4 @@ FaultIsDetermined =
 
 abbrev pub FaultExcludesMeaning : Type 0
 FaultExcludesMeaning =
-    (s : SystemData) → IsValid s → (text : List ℕ) (fault : CertFault) (m : Automaton) → HasFault s text fault → MeansAutomaton s text m → ⊥
+    (s : SystemData) → IsValid s → (text : List ℕ) (fault : CertFault) (c : Certificate) → HasFault s text fault → IsCertificateOf s text c → ⊥

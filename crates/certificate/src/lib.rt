@@ -4,16 +4,17 @@
 mod alphabet;
 mod bytes;
 mod fault;
+mod layout;
 mod lines;
 mod names;
 mod numbers;
 mod opening;
+mod run;
+mod run_writing;
 mod safe;
 mod writing;
 
 pub use fault::CertFault;
-pub use safe::{Certificate, one_reading, read, read_safe};
+pub use run_writing::write_unsafe;
+pub use safe::{Certificate, one_reading, read};
 pub use writing::{write_safe, write_unknown};
-
-#[cfg(test)]
-mod tests;

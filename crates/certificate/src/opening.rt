@@ -1,7 +1,8 @@
 //! The first two lines of a text.
 
 ghost use Rattle.std.specs.Prelude.{◌≡◌, ◌≢◌, ◌↔◌, ◌++◌, ◌∷◌, ◌≤◌, ℕ, List, IfOk, IfErr, IsOkAnd, IsTrue, OnErr, MatchOption, codes, decimal};
-ghost use Rattle.certificate.specs.Faults.{IsNotUnsafe, FaultInFirst, FaultInSecond, IsFirstFault, IsOtherVersion, IsKind};
+ghost use Rattle.certificate.specs.NextLine.{IsNotUnsafe};
+ghost use Rattle.certificate.specs.Faults.{FaultInFirst, FaultInSecond, IsFirstFault, IsOtherVersion, IsKind};
 
 use crate::bytes::{after_prefix, cut_at};
 use crate::fault::CertFault;

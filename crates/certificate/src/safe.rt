@@ -1,4 +1,5 @@
-//! The text of a certificate that is an automaton.
+//! Certificates from their texts. The text of an automaton is read line by line, in one pass over its bytes, and each edge is added
+//! as it is read.
 
 ghost use Rattle.std.specs.Prelude.{◌≡◌, ◌≢◌, ◌↔◌, ◌+◌, ◌^◌, ◌<◌, ◌≤◌, ℕ, [], IfOk, IfErr, OnOk, Err, MatchOption, length};
 ghost use Rattle.word_automata.specs.Automaton.{Automaton, IsValid};
@@ -8,8 +9,9 @@ ghost use Rattle.certificate.specs.declared.fault.CertFault.TheVariants.{Memory}
 ghost use Rattle.certificate.specs.declared.safe.Certificate.{Certificate};
 ghost use Rattle.certificate.specs.SafeText.{MeansAutomaton, IsInRange};
 ghost use Rattle.certificate.specs.Reading.{GoesOn, HasLines, AddsLine, IsSecondEdge};
-ghost use Rattle.certificate.specs.Faults.{IsNotUnsafe, HasFault, FaultInBody};
-ghost use Rattle.certificate.specs.NextLine.{IsNext, IsCertificateOf, IsLocated};
+ghost use Rattle.certificate.specs.Faults.{HasFault, FaultInBody};
+ghost use Rattle.certificate.specs.Meaning.{IsCertificateOf};
+ghost use Rattle.certificate.specs.NextLine.{IsNotUnsafe, IsNext, IsLocated};
 ghost use Rattle.certificate.specs.OneReading.{MeaningIsDetermined, FaultIsDetermined, FaultExcludesMeaning};
 
 use crate::alphabet::Alphabet;
@@ -17,6 +19,7 @@ use crate::bytes::{after_prefix, cut_at};
 use crate::fault::CertFault;
 use crate::lines::{Line, LineFault, read_line};
 use crate::opening::{read_first_line, read_states_line};
+use crate::run::read_run;
 use protocol_model::{Run, System};
 use std::alloc::{AllocError, Global};
 use word_automata::{BuildFault, Dfa, DfaBuilder};
@@ -30,13 +33,28 @@ pub enum Certificate {
     BadRun(Run),
 }
 
-/// The certificate that a text is, or the fault of the first line that has one. The text does not begin with the line
-/// `armc 1 unsafe`. Its bytes are counted so that the number of lines is known to fit.
+/// The certificate that a text means for the system, or the fault of the first line that has one, with the line's number. Within a
+/// line the faults come in this order: it is cut short, it has another version or nothing to verify, its layout is none that may stand
+/// there, it says too many states, it names what the system does not have, a state is out of range, an edge is a second one. `Memory`:
+/// there is not enough memory. The rules are counted so that the system is known to be valid.
 pub fn read(alloc: Global, text: &[u8], system: &System) -> Result<Certificate, CertFault>
-    requires { IsNotUnsafe text.now }
     ensures found { IfOk result (λ found. (c : Certificate) → IsCertificateOf system.now text.now c ↔ (found ≡ c)) }
     ensures fault { IfErr result (λ fault. fault ≢ Memory → HasFault system.now text.now fault) }
-    ensures refused { (m : Automaton) → MeansAutomaton system.now text.now m → IfErr result (λ fault. fault ≡ Memory) }
+    ensures refused { (c : Certificate) → IsCertificateOf system.now text.now c → IfErr result (λ fault. fault ≡ Memory) }
+{
+    let _rules = system.rules.len();
+    match after_prefix(text, b"armc 1 unsafe\n") {
+        Some(lines) => Ok(Certificate::BadRun(read_run(alloc, lines, system)?)),
+        None => Ok(Certificate::Automaton(read_automaton(alloc, text, system)?)),
+    }
+}
+
+/// The automaton that a text means, or the fault of the first line that has one. The text is not that of a run. Its bytes are
+/// counted so that the number of lines is known to fit.
+fn read_automaton(alloc: Global, text: &[u8], system: &System) -> Result<Dfa, CertFault>
+    requires { IsNotUnsafe text.now }
+    ensures found { IfOk result (MeansAutomaton system.now text.now) }
+    ensures fault { IfErr result (λ fault. fault ≢ Memory → HasFault system.now text.now fault) }
 {
     let _bytes = text.len();
     let rest = read_first_line(text)?;
@@ -44,34 +62,15 @@ pub fn read(alloc: Global, text: &[u8], system: &System) -> Result<Certificate, 
     let alphabet = Alphabet::new(alloc, system)?;
     let builder = with_states(alloc, alphabet.size(), count)?;
     let automaton = read_lines(&alphabet, builder, lines)?;
-    Ok(Certificate::Automaton(automaton))
+    Ok(automaton)
 }
 
-/// A text means one automaton or has one first fault, and never both.
+/// A text means one certificate or has one first fault, and never both.
 pub fn one_reading()
     ensures meaning { MeaningIsDetermined }
     ensures fault { FaultIsDetermined }
     ensures either { FaultExcludesMeaning }
 {}
-
-/// The automaton that a text means, or `None` where the text is no certificate of an automaton or has a fault.
-pub fn read_safe(alloc: Global, text: &[u8], system: &System) -> Result<Option<Dfa>, AllocError>
-    ensures { IfOk result (λ r. MatchOption r
-        ((m : Automaton) → MeansAutomaton system.now text.now m → ⊥)
-        (MeansAutomaton system.now text.now)) }
-{
-    if let Some(_) = after_prefix(text, b"armc 1 unsafe\n") {
-        return Ok(None);
-    }
-    match read(alloc, text, system) {
-        Ok(Certificate::Automaton(automaton)) => Ok(Some(automaton)),
-        Ok(Certificate::BadRun(_)) => Ok(None),
-        Err(fault) => match fault {
-            CertFault::Memory => Err(AllocError),
-            _ => Ok(None),
-        },
-    }
-}
 
 /// An automaton with so many letters and states, and no edge.
 fn with_states(alloc: Global, letters: u32, count: usize) -> Result<DfaBuilder, AllocError>

@@ -3,3 +3,4 @@ pub mod WordFacts
 pub mod Least
 pub mod Parts
 pub mod SingleWords
+pub mod OneAnswerLemmas

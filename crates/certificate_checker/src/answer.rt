@@ -1,3 +1,5 @@
+//! What the judgement of a certificate answers.
+
 use protocol_model::Configuration;
 
 /// What the judgement of a certificate finds.

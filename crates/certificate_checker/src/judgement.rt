@@ -1,3 +1,7 @@
+//! The judgement of a certificate. For an automaton the parts of a proof by an inductive invariant are tested one after the other: the
+//! words that speak against a part are those of an intersection or of the image under one rule, and the least of them is shown. A run
+//! is checked step by step, in one pass and without memory.
+
 ghost use Rattle.std.specs.Prelude.{◌≡◌, ◌↔◌, ◌<◌, ℕ, List, All, IfOk, IsOk, MatchOption, length};
 ghost use Rattle.transducers.specs.Transducer.{Relates};
 ghost use Rattle.protocol_model.specs.Words.{automata_letters};

@@ -9,4 +9,4 @@ mod single_word;
 
 pub use answer::Answer;
 pub use judgement::check_certificate;
-pub use law::proofs_are_sound;
+pub use law::{one_answer, proofs_are_sound};
