@@ -14,6 +14,3 @@ pub use memory_library::MemoryLibrary;
 pub use memory_sink::MemorySink;
 pub use stream_sink::StreamSink;
 pub use traits::{Gate, Library, NoGate, ReadFail, Sink, SinkFail};
-
-#[cfg(test)]
-mod tests;

@@ -5,4 +5,3 @@ mod GuardLemmas
 mod RunLemmas
 mod MachineLemmas
 mod TrimLemmas
-mod ValidityLemmas

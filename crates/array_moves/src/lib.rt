@@ -4,8 +4,6 @@
 mod fixed;
 mod guarded;
 mod plan;
-#[cfg(test)]
-mod tests;
 
 ghost use Rattle.std.specs.Prelude.{◌≡◌, ◌↔◌, ◌+◌, ◌≤◌, ℕ, List, IfOk, length};
 ghost use Rattle.protocol_model.specs.System.{IsValidMove, kind_of_move};

@@ -8,3 +8,4 @@ pub mod ReaderLemmas
 pub mod RunLemmas
 pub mod WrongLemmas
 pub mod TokenLemmas
+pub mod ReadingLaws

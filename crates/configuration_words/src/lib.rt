@@ -5,13 +5,13 @@ mod alphabet;
 mod decoding;
 mod encoding;
 mod fault;
+mod law;
 mod reading;
-#[cfg(test)]
-mod tests;
 mod texts;
 
 pub use decoding::decode;
 pub use encoding::encode;
 pub use fault::ConfigFault;
+pub use law::one_reading;
 pub use reading::read_configuration;
 pub use texts::configuration_text;

@@ -2,8 +2,6 @@
 #![tactic(auto)]
 
 mod machine;
-#[cfg(test)]
-mod tests;
 
 ghost use Rattle.std.specs.Prelude.{◌≡◌, ◌↔◌, ◌+◌, ◌<◌, ◌≤◌, ◌^◌, ℕ, List, All, IfOk, IfSome};
 ghost use Rattle.protocol_model.specs.System.{IsValidMove, kind_of_move};

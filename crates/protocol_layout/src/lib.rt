@@ -432,8 +432,3 @@ pub fn print(alloc: Global, protocol: &Protocol) -> Result<Vec<u8>, AllocError>
     write_items(&mut text, protocol)?;
     Ok(text)
 }
-
-#[cfg(test)]
-mod language_tests;
-#[cfg(test)]
-mod tests;

@@ -4,3 +4,4 @@ pub mod Known
 pub mod Distinct
 pub mod InRange
 pub mod Validity
+pub mod AllowedTexts

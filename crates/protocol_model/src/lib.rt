@@ -3,6 +3,7 @@
 
 mod copies;
 mod fault;
+mod law;
 mod letters;
 mod names;
 mod resolution;
@@ -12,6 +13,7 @@ mod sections;
 mod system;
 
 pub use fault::ModelFault;
+pub use law::texts_say_allowed_protocols;
 pub use names::{is_name, is_word};
 pub use resolution::resolve;
 pub use system::{Atom, Configuration, Guard, Move, Pattern, Row, Rule, Run, Section, System};

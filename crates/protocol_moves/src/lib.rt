@@ -6,11 +6,7 @@ mod extent;
 mod letter_list;
 mod moves;
 mod patterns;
-#[cfg(test)]
-mod plain;
 mod results;
-#[cfg(test)]
-mod tests;
 
 pub use enabled::is_enabled;
 pub use letter_list::LetterList;

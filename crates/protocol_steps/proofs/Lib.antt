@@ -6,4 +6,5 @@ pub mod Combined
 pub mod Words
 pub mod FitsAfter
 pub mod Rules
-pub mod SmallSystem
+pub mod OrderedLists
+pub mod OneRunAnswer

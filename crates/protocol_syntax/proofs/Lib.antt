@@ -10,3 +10,4 @@ pub mod GrammarLaws
 pub mod ParseLaws
 pub mod Letters
 pub mod Lexing
+pub mod ReadingLaws

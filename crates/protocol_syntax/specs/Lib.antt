@@ -4,3 +4,4 @@ pub mod Reading
 pub mod Grammar
 pub mod GrammarReading
 pub mod Spacing
+pub mod OneReading

@@ -1,4 +1,3 @@
 mod RuleLemmas
 mod SectionLemmas
-mod TestLemmas
 mod WordLemmas

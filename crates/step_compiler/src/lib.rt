@@ -4,8 +4,6 @@
 mod laws;
 mod rules;
 mod sections;
-#[cfg(test)]
-mod tests;
 
 pub use laws::word_steps_are_rule_steps;
 pub use rules::compile;

@@ -6,8 +6,6 @@ mod combination;
 mod copies;
 mod joining;
 mod search;
-#[cfg(test)]
-mod tests;
 
 ghost use Rattle.std.specs.Prelude.{◌≡◌, ◌<◌, ◌^◌, IfOk, length};
 ghost use Rattle.word_automata.specs.Path.{edges_of, is_accepting};

@@ -17,6 +17,3 @@ pub fn automata_are_shared() {
     is_shared::<Dfa>();
     is_shared::<Nfa>();
 }
-
-#[cfg(test)]
-mod tests;
