@@ -1,0 +1,66 @@
+-- The first states of classes, state by state.
+use Rattle.std.proofs.Common.{◌≡◌, ◌<◌, ◌+◌, ◌⊎◌, ℕ, List, [], ◌∷◌, ◌++◌, Option, None, Some, length, get_or, sym, ap, subst, ◌∙◌, inl, inr, arith, length-append}
+use Rattle.std.proofs.lemmas.Bool.{cases_eq}
+use Rattle.std.proofs.lemmas.List.{get_or_append_left, get_or_push}
+use Rattle.std.proofs.lemmas.Option.{slice_get-get_or, same_Some}
+use Rattle.abstraction.specs.ClassAutomata.{IsKnownFirst, IsNewFirst, AreFirsts}
+
+-- the states before i have the first states of their classes, which are known
+pub record HasFirsts (known : ℕ → Option ℕ) (classes firsts : List ℕ) (i : ℕ) : Type 0 where
+  pub count : length firsts ≡ i
+  pub found : (class first : ℕ) → known class ≡ Some first → (first < i) × (get_or classes first 0 ≡ class)
+  pub done : (p : ℕ) → p < i → known (get_or classes p 0) ≡ Some (get_or firsts p 0)
+
+pub has_firsts_none : (known : ℕ → Option ℕ) (classes firsts : List ℕ) → ((c : ℕ) → known c ≡ None) → firsts ≡ [] → HasFirsts known classes firsts 0
+has_firsts_none known classes firsts none empty = record {
+  count = ap length empty;
+  found = λ class first h. let n = none class in cc;
+  done = λ p l. absurd (omega arith);
+}
+
+module _ (known more : ℕ → Option ℕ) (classes firsts : List ℕ) (i first : ℕ) (before : HasFirsts known classes firsts i) where
+  keep : ((c x : ℕ) → known c ≡ Some x → more c ≡ Some x) → more (get_or classes i 0) ≡ Some first → (p : ℕ) → p < i + 1 → more (get_or classes p 0) ≡ Some (get_or (firsts ++ first ∷ []) p 0)
+  keep keeps here p below = elim (cases_eq p i) [
+    | inl same ↦ subst (λ r. more (get_or classes r 0) ≡ Some (get_or (firsts ++ first ∷ []) r 0)) (sym same) (here ∙ ap (λ (x : ℕ). Some x) (sym (get_or_push firsts first 0 i before.count)))
+    | inr other ↦
+        let earlier : p < i = omega arith in
+        keeps (get_or classes p 0) (get_or firsts p 0) (before.done p earlier)
+        ∙ ap (λ (x : ℕ). Some x) (sym (get_or_append_left firsts (first ∷ []) 0 p (let e = before.count in omega arith)))
+  ]
+
+  longer : length (firsts ++ first ∷ []) ≡ i + 1
+  longer = let e = before.count in let a = length-append firsts (first ∷ []) in omega arith
+
+  pub has_firsts_more : IsKnownFirst known more (get_or classes i 0) first ⊎ IsNewFirst known more (get_or classes i 0) i first → HasFirsts more classes (firsts ++ first ∷ []) (i + 1)
+  has_firsts_more (inl f) = record {
+    count = longer;
+    found = λ class x h. let y = before.found class x (sym (f.same class) ∙ h) in (let l = y.0 in omega arith, y.1);
+    done = keep (λ c x h. f.same c ∙ h) (f.same (get_or classes i 0) ∙ f.known);
+  }
+  has_firsts_more (inr f) = record {
+    count = longer;
+    found = λ class x h. elim (cases_eq (get_or classes i 0) class) [
+      | inl same ↦
+          let last : i ≡ x = same_Some i x (sym (subst (λ c. more c ≡ Some i) same f.added) ∙ h) in
+          (omega arith, subst (λ r. get_or classes r 0 ≡ class) last same)
+      | inr other ↦ let y = before.found class x (sym (f.same class other) ∙ h) in (let l = y.0 in omega arith, y.1)
+    ];
+    done = keep (λ c x h. f.same c (λ same. let u = subst (λ d. known d ≡ None) same f.unknown in cc) ∙ h) (f.added ∙ ap (λ (x : ℕ). Some x) (sym f.first_is));
+  }
+
+pub has_firsts_all : (known : ℕ → Option ℕ) (classes firsts : List ℕ) → HasFirsts known classes firsts (length classes) → AreFirsts classes firsts
+has_firsts_all known classes firsts all = record {
+  count = all.count;
+  within = λ p there. (all.found (get_or classes p 0) (get_or firsts p 0) (all.done p there)).0;
+  same = λ p q lp lq. (
+    λ e. slice_get-get_or classes p 0 lp
+        ∙ ap (λ (x : ℕ). Some x) (sym (class_of p lp) ∙ ap (λ r. get_or classes r 0) e ∙ class_of q lq)
+        ∙ sym (slice_get-get_or classes q 0 lq),
+    λ e.
+        let same : get_or classes p 0 ≡ get_or classes q 0 = same_Some (get_or classes p 0) (get_or classes q 0) (sym (slice_get-get_or classes p 0 lp) ∙ e ∙ slice_get-get_or classes q 0 lq) in
+        same_Some (get_or firsts p 0) (get_or firsts q 0) (sym (all.done p lp) ∙ ap known same ∙ all.done q lq),
+  );
+}
+  where
+    class_of : (p : ℕ) → p < length classes → get_or classes (get_or firsts p 0) 0 ≡ get_or classes p 0
+    class_of p there = (all.found (get_or classes p 0) (get_or firsts p 0) (all.done p there)).1

@@ -1,0 +1,4 @@
+pub mod ClassMoves
+pub mod ClassWords
+pub mod Firsts
+pub mod MergedWords

@@ -1,0 +1,3 @@
+pub mod ClassAutomata
+pub mod Excluding
+pub mod Merging

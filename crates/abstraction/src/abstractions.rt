@@ -1,0 +1,61 @@
+//! What the search asks of an abstraction.
+
+ghost use Rattle.std.specs.Prelude.{◌≡◌, ℕ, List, IfOk, OnOk, OnErr, length};
+ghost use Rattle.word_automata.specs.Automaton.{Automaton};
+ghost use Rattle.abstraction.specs.Merging.{Key, IsOver, IsEquivalence, AreClasses};
+ghost use Rattle.abstraction.specs.Excluding.{refined_by, Excludes};
+
+use minimise::Canon;
+use std::alloc::{AllocError, Global};
+
+/// A relation on the states of each automaton, which a key and the automaton determine.
+pub trait Abstraction {
+    ghost key: { Self → Key };
+
+    ghost related: { Key → Automaton → ℕ → ℕ → Type 0 };
+
+    /// A number for each state of the automaton; two are equal exactly where their states are related. The automaton has the letters
+    /// of the key's automata.
+    fn classes(&self, alloc: Global, a: &Canon) -> Result<Vec<usize>, AllocError>
+        requires { IsOver a.now.letters (key self.now) }
+        ensures { IfOk result (λ classes. AreClasses (related (key self.now) a.now) (length a.now.states) classes.items) };
+
+    // The relation is an equivalence.
+    ghost equivalence: { (k : Key) (a : Automaton) → IsEquivalence (related k a) };
+}
+
+/// An abstraction that a refuted set refines: the next key, which the old one and the set determine, relates no more states.
+pub trait Refinable: Abstraction {
+    ghost next: { Key → Automaton → Key };
+
+    /// Refines the abstraction by a refuted set, which has the letters of the key's automata. After want of memory it is as before.
+    fn refine(&mut self, alloc: Global, refuted: &Canon) -> Result<(), AllocError>
+        requires { IsOver refuted.now.letters (Self.key self.old) }
+        ensures ok { OnOk result (Self.key self.new ≡ next (Self.key self.old) refuted.now) }
+        ensures err { OnErr result (Self.key self.new ≡ Self.key self.old) };
+
+    // What the next key relates, the key relates too.
+    ghost finer: { (k : Key) (x a : Automaton) (p q : ℕ) → Self.related (next k x) a p q → Self.related k a p q };
+
+    // The next key's automata have the letters of the key's and of the refuted set.
+    ghost stays_over: { (k : Key) (x : Automaton) (letters : ℕ) → IsOver letters k → x.letters ≡ letters → IsOver letters (next k x) };
+}
+
+/// An abstraction that keeps out the sets by which it was refined: an automaton that misses such a set misses it when it is merged.
+///
+/// Contracts see the sets as `refuted`, in the order in which they came, and the key that was there before them as `first`.
+pub trait Excluding: Refinable {
+    ghost first: { Self → Key };
+
+    ghost refuted: { Self → List Automaton };
+
+    /// The number of refuted sets by which the abstraction was refined.
+    fn refuted_count(&self) -> usize
+        ensures { result ≡ length (refuted self.now) };
+
+    // The key is the first one, refined by the refuted sets.
+    ghost refined: { (s : Self) → Self.key s ≡ refined_by Self.next (first s) (refuted s) };
+
+    // Merged automata miss the refuted sets that the automata miss.
+    ghost excludes: { Excludes Self.related Self.next };
+}

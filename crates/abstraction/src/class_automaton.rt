@@ -1,0 +1,109 @@
+//! The nondeterministic automaton over the classes of states. A class has the number of its first state, and the edges that its
+//! states have, each once. It takes time linear in the edges, on average.
+
+ghost use Rattle.std.specs.Prelude.{◌≡◌, ◌↔◌, ◌<◌, ◌+◌, ℕ, List, [], true, false, Some, IfOk, OnOk, length, slice_index};
+ghost use Rattle.std.specs.List.{slice_index_or};
+ghost use Rattle.word_automata.specs.Nondeterministic.{Accepts, IsMoveInRange};
+ghost use Rattle.abstraction.specs.Merging.{HaveEqualClasses, IsMerged};
+ghost use Rattle.abstraction.specs.ClassAutomata.{AreFirsts, AreTargetsOf, IsAcceptingClass, HasClassStates, HasClassMoves, AddsMoveOnce};
+
+use crate::first_states::first_states;
+use indexmap::IndexSet;
+use std::alloc::{AllocError, Global};
+use word_automata::{Dfa, Nfa, NfaBuilder};
+
+/// An edge that leads from class to class.
+#[derive(Clone, Copy, PartialEq, Eq, Hash, Debug)]
+pub(crate) struct Move {
+    pub(crate) from: usize,
+    pub(crate) letter: u32,
+    pub(crate) to: usize,
+}
+
+/// The automaton over the classes of the states of `a`. There is one class for each state.
+pub fn class_automaton(alloc: Global, a: &Dfa, classes: &[usize]) -> Result<Nfa, AllocError>
+    requires { length classes.now ≡ length a.now.states }
+    ensures language { IfOk result (λ nfa. (w : List ℕ) → Accepts nfa w ↔ IsMerged (HaveEqualClasses classes.now) a.now w) }
+    ensures letters { IfOk result (λ nfa. nfa.letters ≡ a.now.letters) }
+{
+    let firsts = first_states(alloc, classes)?;
+    let mut builder = class_states(alloc, a, &firsts)?;
+    let mut seen = IndexSet::new(alloc);
+    'states: for state in 0..a.states() {
+        add_moves(a, &firsts, &mut seen, &mut builder, state)?;
+    }
+    Ok(builder.finish())
+}
+
+/// The classes without their edges. The first one is the start.
+fn class_states(alloc: Global, a: &Dfa, firsts: &[usize]) -> Result<NfaBuilder, AllocError>
+    requires { AreTargetsOf a.now firsts.now }
+    ensures { IfOk result (λ builder. HasClassMoves a.now firsts.now [] builder 0 0) }
+{
+    let accepting = accepting_classes(alloc, a, firsts)?;
+    let mut builder = NfaBuilder::new(alloc, a.letters());
+    'classes: for accepts in &accepting {
+        builder.state(*accepts)?;
+    }
+    if a.states() > 0 {
+        builder.start(firsts[0])?;
+    }
+    Ok(builder)
+}
+
+/// For each number whether it is one of a class of which some state accepts.
+fn accepting_classes(alloc: Global, a: &Dfa, firsts: &[usize]) -> Result<Vec<bool>, AllocError>
+    requires { AreTargetsOf a.now firsts.now }
+    ensures count { IfOk result (λ accepting. length accepting.items ≡ length a.now.states) }
+    ensures accepting { IfOk result (λ accepting. (k : ℕ) → (slice_index_or accepting.items k false ≡ true)
+        ↔ IsAcceptingClass a.now firsts.now k) }
+{
+    let mut accepting = vec![in alloc; false; a.states()]?;
+    'states: for state in 0..a.states() {
+        if a.accepting(state) {
+            accepting[firsts[state]] = true;
+        }
+    }
+    Ok(accepting)
+}
+
+/// Adds the edges of the state to those of its class.
+fn add_moves(
+    a: &Dfa,
+    firsts: &[usize],
+    seen: &mut IndexSet<Move>,
+    builder: &mut NfaBuilder,
+    state: usize,
+) -> Result<(), AllocError>
+    requires within { state < length a.now.states }
+    requires firsts { AreTargetsOf a.now firsts.now }
+    requires before { HasClassMoves a.now firsts.now seen.old.keys builder.old state 0 }
+    ensures { OnOk result (HasClassMoves a.now firsts.now seen.new.keys builder.new (state + 1) 0) }
+{
+    let from = firsts[state];
+    'edges: for &(letter, to) in a.edges_from(state) {
+        let step = Move {
+            from,
+            letter,
+            to: firsts[to],
+        };
+        add_move(seen, builder, step)?;
+    }
+    Ok(())
+}
+
+/// Adds the edge, unless it was seen before.
+fn add_move(
+    seen: &mut IndexSet<Move>,
+    builder: &mut NfaBuilder,
+    step: Move,
+) -> Result<(), AllocError>
+    requires { IsMoveInRange builder.old step.from (Some step.letter) step.to }
+    ensures { OnOk result (AddsMoveOnce seen.old.keys seen.new.keys builder.old builder.new step) }
+{
+    let is_new = seen.insert(step)?;
+    if is_new {
+        builder.edge(step.from, Some(step.letter), step.to)?;
+    }
+    Ok(())
+}

@@ -1,0 +1,11 @@
+//! Abstractions of automata: related states are merged, so that the merged automaton accepts at least the words of the old one
+//! (Bouajjani, Habermehl and Vojnar, CAV 2004). What relates states, and how it is refined, is left to implementations.
+#![tactic(auto)]
+
+mod abstractions;
+mod class_automaton;
+mod first_states;
+mod merging;
+
+pub use abstractions::{Abstraction, Excluding, Refinable};
+pub use merging::{merge, merge_related};

@@ -1,0 +1,9 @@
+//! One round of the search: from the automaton of the initial words on, each automaton is merged, and the words to which a step leads
+//! from there are added, until no step leads out, a bad word is met, or the budget is spent
+//! (Bouajjani, Habermehl and Vojnar, Abstract Regular Model Checking, CAV 2004).
+#![tactic(auto)]
+
+mod rounds;
+mod turn;
+
+pub use rounds::round;

@@ -1,0 +1,3 @@
+pub mod SystemTask
+pub mod Compilation
+pub mod Laws

@@ -1,0 +1,7 @@
+pub mod Adding
+pub mod Edges
+pub mod Marks
+pub mod Parts
+pub mod Reverses
+pub mod Sharing
+pub mod SourceLists

@@ -1,0 +1,6 @@
+use Rattle.predicate_abstraction.specs.Pairs.{AddsPairs}
+use Rattle.predicate_abstraction.specs.SharedWords.{IsAcceptingIn}
+use Rattle.predicate_abstraction.proofs.shared_words.add_accepting.Given as goal
+
+abbrev pub invariant-states : goal.invariant-states
+invariant-states l = AddsPairs (IsAcceptingIn l.b l.row l.column) l.fn.shared l.shared

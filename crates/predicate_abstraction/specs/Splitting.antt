@@ -1,0 +1,35 @@
+-- Cited by private functions alone: classes of states that are split.
+use Rattle.std.specs.Prelude.{◌≡◌, ◌↔◌, ◌<◌, ℕ, List, Contains, length, slice_index, slice_set}
+use Rattle.word_automata.specs.Automaton.{Automaton}
+use Rattle.predicate_abstraction.specs.Predicates.{SharesWord}
+
+-- a number below the number of states for each state
+pub record AreNumbers (states : ℕ) (classes : List ℕ) : Type 0 where
+  pub count : length classes ≡ states
+  pub below : (p : ℕ) → p < states → slice_index classes p < states
+
+-- states stay in one class where both their pairs with the column are there, or neither
+pub record IsSplitByColumn (states : ℕ) (pairs : List (ℕ × ℕ)) (column : ℕ) (classes finer : List ℕ) : Type 0 where
+  pub numbers : AreNumbers states finer
+  pub apart : (p q : ℕ) → p < states → q < states
+      → (slice_index finer p ≡ slice_index finer q)
+      ↔ ((slice_index classes p ≡ slice_index classes q) × (Contains pairs (p, column) ↔ Contains pairs (q, column)))
+
+-- states stay in one class where they share words with the same states of b before i
+pub record IsSplitBefore (a b : Automaton) (i : ℕ) (classes finer : List ℕ) : Type 0 where
+  pub numbers : AreNumbers (length a.states) finer
+  pub apart : (p q : ℕ) → p < length a.states → q < length a.states
+      → (slice_index finer p ≡ slice_index finer q)
+      ↔ ((slice_index classes p ≡ slice_index classes q) × ((s : ℕ) → s < i → SharesWord a p b s ↔ SharesWord a q b s))
+
+-- the part has a first state
+pub record IsKnownFirst (old new : List ℕ) (part none first : ℕ) : Type 0 where
+  pub first_is : first ≡ slice_index old part
+  pub known : first ≡ none → ⊥
+  pub same : new ≡ old
+
+-- the state is the first one of the part
+pub record IsNewFirst (old new : List ℕ) (part state none first : ℕ) : Type 0 where
+  pub unknown : slice_index old part ≡ none
+  pub first_is : first ≡ state
+  pub added : new ≡ slice_set old part state

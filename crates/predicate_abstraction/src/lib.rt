@@ -1,0 +1,13 @@
+//! Abstraction by predicates: states are related where their languages meet the same languages of states of some automata
+//! (Bouajjani, Habermehl and Vojnar, CAV 2004). A refuted set is one more of these automata.
+#![tactic(auto)]
+
+mod pair_set;
+mod place;
+mod predicates;
+mod reversal;
+mod shared_words;
+mod sources;
+mod splitting;
+
+pub use predicates::Predicates;

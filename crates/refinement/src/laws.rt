@@ -1,0 +1,27 @@
+//! Laws of searches, for every problem and every abstraction that can be refined. They have no code: each is the contract of a function
+//! that does nothing.
+
+ghost use Rattle.refinement.specs.Laws.{HasOneHistory, HasOneVerdict, KeepsWithBudget, IsBoundedByRuns};
+
+use abstraction::Refinable;
+use safety_problem::Problem;
+
+/// A problem, an abstraction, a first key and a budget have one history.
+pub fn one_history<P: Problem, A: Refinable>(problem: &P, _abstraction: &A)
+    ensures { HasOneHistory (P.task problem.now) (record { related = A.Abstraction.related; next = A.next }) }
+{}
+
+/// They have one verdict, with one log.
+pub fn one_verdict<P: Problem, A: Refinable>(problem: &P, _abstraction: &A)
+    ensures { HasOneVerdict (P.task problem.now) (record { related = A.Abstraction.related; next = A.next }) }
+{}
+
+/// A history that decides the problem is the history for every larger budget.
+pub fn larger_budget_keeps_history<P: Problem, A: Refinable>(problem: &P, _abstraction: &A)
+    ensures { KeepsWithBudget (P.task problem.now) (record { related = A.Abstraction.related; next = A.next }) }
+{}
+
+/// A run of `n` steps from an initial to a bad word bounds the indices of every round by `n`, and rules out that one ends closed.
+pub fn runs_bound_rounds<P: Problem, A: Refinable>(problem: &P, _abstraction: &A)
+    ensures { IsBoundedByRuns (P.task problem.now) (record { related = A.Abstraction.related; next = A.next }) }
+{}

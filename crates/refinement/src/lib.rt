@@ -1,0 +1,12 @@
+//! The search: rounds, each refined by what the replay of its suspected trace refuted, until one ends otherwise
+//! (Bouajjani, Habermehl and Vojnar, Abstract Regular Model Checking, CAV 2004).
+#![tactic(auto)]
+
+mod decision;
+mod laws;
+mod rounds;
+mod verdict;
+
+pub use laws::{larger_budget_keeps_history, one_history, one_verdict, runs_bound_rounds};
+pub use rounds::search;
+pub use verdict::Verdict;

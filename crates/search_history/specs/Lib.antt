@@ -1,0 +1,4 @@
+pub mod Rounds
+pub mod Replays
+pub mod Histories
+pub mod Counting

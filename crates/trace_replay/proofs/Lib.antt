@@ -1,0 +1,4 @@
+mod Spelling
+mod Levels
+mod RunLemmas
+pub mod Climbs
