@@ -1,23 +1,8 @@
 //! The program: it answers the words after its name by one text on standard output and one on standard error.
 #![tactic(auto)]
 
-mod cause;
-mod command;
-mod delivery;
-mod judgement;
-mod listing;
-mod reading;
-mod refusal;
-mod reply;
-mod run;
-mod status;
-#[cfg(test)]
-mod tests;
-mod verdict;
-
+use armc_commands::{Status, run};
 use armc_io::{FileLibrary, NoGate, StreamSink};
-use run::run;
-use status::Status;
 use std::env;
 use std::process::ExitCode;
 
@@ -39,6 +24,7 @@ fn main(rt: HostRuntime) -> ExitCode {
     let mut err = StreamSink::new(rt.stderr());
     let status = run(
         rt.alloc(),
+        &rt,
         words.as_slice(),
         &mut library,
         &mut out,

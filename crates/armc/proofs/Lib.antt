@@ -1,6 +1,0 @@
-pub mod FailedRead
-pub mod Answered
-pub mod Allowed
-pub mod AnswerCauses
-pub mod Refused
-pub mod Successors

@@ -1,9 +1,0 @@
--- How one text reaches its sink.
-use Rattle.std.specs.Prelude.{ℕ, List, Result, Ok, Err}
-use Rattle.std.specs.Io.KnownBytes.{Appends}
-use Rattle.armc_io.specs.Sink.{SinkState, FailsToPut}
-
--- at `Ok` the text was appended; at `Err` a prefix of it was, and the count of faults rose
-abbrev pub PutsText : {T E : Type 0} → SinkState → SinkState → List ℕ → Result T E → Type 0
-PutsText old new text (Ok _) = Appends old.written new.written text
-PutsText old new text (Err _) = FailsToPut old new text

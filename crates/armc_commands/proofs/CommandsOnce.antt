@@ -1,0 +1,103 @@
+-- Each command has one reply for what it read.
+use Rattle.std.proofs.Common.{◌≡◌, ◌⊎◌, inl, inr, ℕ, List, None, refl, sym, ap, subst, ◌∙◌}
+use Rattle.protocol_syntax.specs.declared.protocol.Protocol.{Protocol}
+use Rattle.protocol_syntax.specs.Grammar.{IsProtocol}
+use Rattle.protocol_model.specs.System.{SystemData, IsValid}
+use Rattle.protocol_model.specs.Allowed.{IsAllowed}
+use Rattle.protocol_model.specs.Faults.{first_fault}
+use Rattle.protocol_model.specs.Numbering.{system_of}
+use Rattle.protocol_steps.specs.OneAnswer.{SuccessorsAreDetermined}
+use Rattle.protocol_steps.specs.Successors.{AreSuccessors}
+use Rattle.configuration_words.specs.OneReading as configuration
+use Rattle.certificate.specs.OneReading as certificate
+use Rattle.certificate.specs.Meaning.{IsCertificateOf}
+use Rattle.certificate.specs.declared.safe.Certificate.{Certificate}
+use Rattle.certificate_checker.specs.OneAnswer.{AnswerIsDetermined}
+use Rattle.certificate_checker.specs.Answers.{IsAnswer}
+use Rattle.command_words.specs.Words.{Command, verify, steps, show, check}
+use Rattle.armc_commands.specs.declared.status.Status.TheVariants as status
+use Rattle.armc_commands.specs.declared.reply.Reply.{Reply}
+use Rattle.armc_commands.specs.Line.{line}
+use Rattle.armc_commands.specs.Reply.{on_out, on_err}
+use Rattle.armc_commands.specs.Refusal.{configuration_refusal_text}
+use Rattle.armc_commands.specs.Reading.{IsFaultless}
+use Rattle.armc_commands.specs.Commands.{CommandReply}
+use Rattle.protocol_search.specs.OneCheck.{CheckIsDetermined}
+use Rattle.armc_commands.specs.Commands.Check.{IsCheckReply, check_status}
+use Rattle.armc_commands.specs.Commands.Steps.{IsStepsReply, ListsSuccessors, RefusesConfiguration, successors_text}
+use Rattle.armc_commands.specs.Commands.Verify.{IsVerifyReply, RefusesCertificate, Judges, answer_status, answer_text, fault_text}
+
+-- `steps`
+module _ (configuration_once : configuration.ConfigurationIsDetermined) (fault_once : configuration.FaultIsDetermined)
+    (either : configuration.FaultExcludesConfiguration) (successors_once : SuccessorsAreDetermined) (s : SystemData) (valid : IsValid s) (text : List ℕ) where
+  lists_once : (r q : Reply) → ListsSuccessors s text r → ListsSuccessors s text q → r ≡ q
+  lists_once r q h k =
+      let same = configuration_once s valid text h.configuration k.configuration h.means k.means in
+      let pairs = successors_once s k.configuration h.pairs k.pairs (subst (λ c. AreSuccessors s c h.pairs) same h.are_successors) k.are_successors in
+      h.reply_is ∙ ap (λ x. on_out status.Done (successors_text s x)) pairs ∙ sym k.reply_is
+
+  refuses_configuration_once : (r q : Reply) → RefusesConfiguration s text r → RefusesConfiguration s text q → r ≡ q
+  refuses_configuration_once r q h k =
+      h.reply_is
+      ∙ ap (λ fault. on_err status.CertificateRefused (line (configuration_refusal_text fault))) (fault_once s text h.fault k.fault h.is_first k.is_first)
+      ∙ sym k.reply_is
+
+  pub steps_once : (r q : Reply) → IsStepsReply s text r → IsStepsReply s text q → r ≡ q
+  steps_once r q h k = elim h [
+    | inl lists ↦ elim k [
+      | inl lists_too ↦ lists_once r q lists lists_too
+      | inr refuses ↦ absurd (either s text refuses.fault lists.configuration refuses.is_first lists.means)
+    ]
+    | inr refuses ↦ elim k [
+      | inl lists ↦ absurd (either s text refuses.fault lists.configuration refuses.is_first lists.means)
+      | inr refuses_too ↦ refuses_configuration_once r q refuses refuses_too
+    ]
+  ]
+
+-- `verify`
+module _ (meaning : certificate.MeaningIsDetermined) (fault_once : certificate.FaultIsDetermined) (either : certificate.FaultExcludesMeaning)
+    (answer_once : AnswerIsDetermined) (s : SystemData) (valid : IsValid s) (text : List ℕ) where
+  judges_once : (r q : Reply) → Judges s text r → Judges s text q → r ≡ q
+  judges_once r q h k =
+      let same = meaning s valid text h.certificate k.certificate h.means k.means in
+      let answers = answer_once s k.certificate h.answer k.answer (subst (λ c. IsAnswer s c h.answer) same h.is_answer) k.is_answer in
+      h.reply_is ∙ ap (λ a. on_out (answer_status a) (line (answer_text s a))) answers ∙ sym k.reply_is
+
+  refuses_certificate_once : (r q : Reply) → RefusesCertificate s text r → RefusesCertificate s text q → r ≡ q
+  refuses_certificate_once r q h k =
+      h.reply_is
+      ∙ ap (λ fault. on_err status.CertificateRefused (line (fault_text fault))) (fault_once s valid text h.fault k.fault h.is_first k.is_first)
+      ∙ sym k.reply_is
+
+  pub verify_once : (r q : Reply) → IsVerifyReply s text r → IsVerifyReply s text q → r ≡ q
+  verify_once r q h k = elim h [
+    | inl refuses ↦ elim k [
+      | inl refuses_too ↦ refuses_certificate_once r q refuses refuses_too
+      | inr judges ↦ absurd (either s valid text refuses.fault judges.certificate refuses.is_first judges.means)
+    ]
+    | inr judges ↦ elim k [
+      | inl refuses ↦ absurd (either s valid text refuses.fault judges.certificate refuses.is_first judges.means)
+      | inr judges_too ↦ judges_once r q judges judges_too
+    ]
+  ]
+
+-- `check`
+pub check_once : CheckIsDetermined → (s : SystemData) (budget : ℕ) (r q : Reply) → IsCheckReply s budget r → IsCheckReply s budget q → r ≡ q
+check_once once s budget r q h k =
+    h.reply_is ∙ ap (λ c. on_out (check_status c.end) c.text) (once s budget h.checked k.checked h.is_check k.is_check) ∙ sym k.reply_is
+
+-- each command
+module _ (allowed : (text : List ℕ) (p : Protocol) → IsProtocol text p → IsAllowed p)
+    (valid : (p : Protocol) → IsAllowed p → first_fault p ≡ None → IsValid (system_of p))
+    (verify_reply_once : (s : SystemData) → IsValid s → (text : List ℕ) (r q : Reply) → IsVerifyReply s text r → IsVerifyReply s text q → r ≡ q)
+    (steps_reply_once : (s : SystemData) → IsValid s → (text : List ℕ) (r q : Reply) → IsStepsReply s text r → IsStepsReply s text q → r ≡ q)
+    (check_reply_once : (s : SystemData) (budget : ℕ) (r q : Reply) → IsCheckReply s budget r → IsCheckReply s budget q → r ≡ q) where
+  system_is_valid : (source : List ℕ) (p : Protocol) → IsFaultless source p → IsValid (system_of p)
+  system_is_valid source p says = valid p (allowed source p says.is_protocol) says.no_fault
+
+  pub command_once : (command : Command) (source : List ℕ) (p : Protocol) (text : List ℕ) (r q : Reply) → IsFaultless source p
+      → CommandReply command p text r → CommandReply command p text q → r ≡ q
+  command_once (verify file certificate) source p text r q says h k = verify_reply_once (system_of p) (system_is_valid source p says) text r q h k
+  command_once (steps file configuration) source p text r q says h k = steps_reply_once (system_of p) (system_is_valid source p says) text r q h k
+  command_once (show file) source p text r q says h k = h ∙ sym k
+  command_once (check file budget) source p text r q says h k = check_reply_once (system_of p) budget r q h k

@@ -1,0 +1,12 @@
+use Rattle.armc_commands.proofs.CommandsOnce.{command_once, steps_once, verify_once, check_once}
+use Rattle.armc_commands.proofs.OneReplyLemmas.{outcome_once}
+use Rattle.armc_commands.proofs.law.one_reply.Goals as goal
+
+pub returns : goal.returns
+returns c = λ words told one other tells.
+    outcome_once c.one_reading.ensures.protocol c.one_reading.ensures.fault c.one_reading.ensures.either
+    (command_once c.texts_say_allowed_protocols.ensures.allowed c.texts_say_allowed_protocols.ensures.valid
+    (verify_once c.one_reading-3.ensures.meaning c.one_reading-3.ensures.fault c.one_reading-3.ensures.either c.one_answer-2.ensures)
+    (steps_once c.one_reading-2.ensures.configuration c.one_reading-2.ensures.fault c.one_reading-2.ensures.either c.one_answer.ensures.successors)
+    (check_once c.one_check.ensures))
+    words told tells one other

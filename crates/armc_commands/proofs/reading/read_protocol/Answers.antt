@@ -1,0 +1,25 @@
+use Rattle.std.proofs.Common.{refl}
+use Rattle.armc_commands.proofs.Refused.{by_grammar, by_names}
+use Rattle.armc_commands.proofs.reading.read_protocol.Goals as goal
+
+pub returns-in-Err : goal.returns-in-Err
+returns-in-Err c =
+    by_grammar c.args.text.now c.in-Err.fault c.refused_by_grammar.result c.refused_by_grammar.ensures.refused c.refused_by_grammar.ensures.fault
+    (λ other. (c.in-Err.ensures.fault other c.in-Err.fault).1 refl)
+
+pub resolve-requires : goal.resolve-requires
+resolve-requires c = c.texts_say_allowed_protocols.ensures.allowed c.args.text.now c.in-Ok.protocol ((c.in-Ok.ensures.protocol c.in-Ok.protocol).1 refl)
+
+pub returns-in-Ok-resolve : goal.returns-in-Ok-resolve
+returns-in-Ok-resolve c = (
+  record {
+    is_protocol = (c.in-Ok.ensures.protocol c.in-Ok.protocol).1 refl;
+    no_fault = c.in-Ok-resolve.ensures.system.0;
+  },
+  c.in-Ok-resolve.ensures.system.1,
+)
+
+pub returns-in-Err-resolve : goal.returns-in-Err-resolve
+returns-in-Err-resolve c =
+    by_names c.args.text.now c.in-Ok.protocol c.in-Err-resolve.fault c.refused_by_names.result c.refused_by_names.ensures.refused
+    c.refused_by_names.ensures.fault ((c.in-Ok.ensures.protocol c.in-Ok.protocol).1 refl) c.in-Err-resolve.ensures.refused

@@ -1,0 +1,11 @@
+-- The reply of `show`.
+use Rattle.std.specs.Prelude.{◌≡◌}
+use Rattle.protocol_syntax.specs.declared.protocol.Protocol.{Protocol}
+use Rattle.protocol_layout.specs.Layout.{layout}
+use Rattle.armc_commands.specs.declared.status.Status.TheVariants.{Done}
+use Rattle.armc_commands.specs.declared.reply.Reply.{Reply}
+use Rattle.armc_commands.specs.Reply.{on_out}
+
+-- the canonical layout of the protocol
+abbrev pub IsShowReply : Protocol → Reply → Type 0
+IsShowReply p reply = reply ≡ on_out Done (layout p)

@@ -1,0 +1,12 @@
+pub mod Line
+pub mod Origin
+pub mod Refusal
+pub mod Reading
+pub mod Reply
+pub mod Commands
+pub mod Outcome
+pub mod Reads
+pub mod Delivery
+pub mod Text
+pub mod Answer
+pub mod OneReply

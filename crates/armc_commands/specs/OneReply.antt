@@ -1,0 +1,13 @@
+-- Law: the words and the told texts decide one reply.
+use Rattle.std.specs.Prelude.{◌≡◌, ◌≢◌, ℕ, List, Result, Err}
+use Rattle.armc_commands.specs.declared.reply.Reply.{Reply}
+use Rattle.armc_commands.specs.declared.failure.Failure.{Failure}
+use Rattle.armc_commands.specs.declared.failure.Failure.TheVariants.{Memory}
+use Rattle.armc_commands.specs.Origin.{Told}
+use Rattle.armc_commands.specs.Outcome.{TellsTexts, IsDecidedBy}
+
+-- where every text that the words read is told, what they decide other than want of memory is one
+abbrev pub OutcomeIsDetermined : Type 0
+OutcomeIsDetermined =
+    (words : List (List ℕ)) (told : Told) (outcome other : Result Reply Failure) → TellsTexts words told → IsDecidedBy words told outcome
+    → IsDecidedBy words told other → outcome ≢ Err Memory → other ≢ Err Memory → outcome ≡ other

@@ -1,0 +1,36 @@
+-- Replies that do not depend on the command.
+use Rattle.std.specs.Prelude.{ℕ, List, [], ◌++◌, codes, Result, Ok, Err}
+use Rattle.armc_commands.specs.declared.status.Status.{Status}
+use Rattle.armc_commands.specs.declared.status.Status.TheVariants as status
+use Rattle.armc_commands.specs.declared.reply.Reply.{Reply}
+use Rattle.armc_commands.specs.declared.failure.Failure.{Failure}
+use Rattle.armc_commands.specs.declared.failure.Failure.TheVariants.{ReadFault, TooLong, Memory}
+use Rattle.armc_commands.specs.declared.refusal.Refusal.{Refusal}
+use Rattle.armc_commands.specs.Line.{line}
+use Rattle.armc_commands.specs.Refusal.{refusal_text}
+
+-- a reply with one text, on standard output or on standard error
+abbrev pub on_out : Status → List ℕ → Reply
+on_out status text = record { status = status; out = text; err = [] }
+
+abbrev pub on_err : Status → List ℕ → Reply
+on_err status text = record { status = status; out = []; err = text }
+
+-- the reply to what is not built: other words, and certificates that are runs
+abbrev pub not_built : Reply
+not_built = on_err status.NotBuilt (line (codes "armc: not built"))
+
+-- the reply to a protocol with this first fault
+abbrev pub refusal_reply : Refusal → Reply
+refusal_reply refusal = on_err status.ProtocolRefused (line (refusal_text refusal))
+
+-- what is replied where a call failed
+abbrev pub failure_reply : Failure → Reply
+failure_reply (ReadFault name) = on_err status.ReadFault (line (codes "armc: read fault: " ++ name))
+failure_reply (TooLong name) = on_err status.ReadFault (line (codes "armc: too long: " ++ name))
+failure_reply Memory = on_err status.Memory (line (codes "armc: out of memory"))
+
+-- the status and the texts of an answer
+abbrev pub reply_of : Result Reply Failure → Reply
+reply_of (Ok reply) = reply
+reply_of (Err failure) = failure_reply failure

@@ -1,0 +1,85 @@
+// The top call: the reply to the words is made, and then its two texts are put, the one on standard output first.
+ghost use Rattle.std.specs.Prelude.{◌≡◌, ◌⊎◌, IfOk, Err, None, map, string_bytes};
+ghost use Rattle.command_words.specs.Words.{command_of};
+ghost use Rattle.armc_commands.specs.Reply.{reply_of};
+ghost use Rattle.armc_commands.specs.Answer.{Answers, DeliversCounted, IsSound, IsQuiet, IsDecided, AreQuietEnds, KeepsCounts};
+
+use crate::commands::keep_promises;
+use crate::delivery::deliver;
+use crate::failure::Failure;
+use crate::outcome::reply_to;
+use crate::reply::{Reply, failure_reply};
+use crate::status::Status;
+use armc_io::{Gate, Library, Sink};
+use std::alloc::{AllocError, Global};
+use std::thread::Threads;
+
+// The status and the texts of an answer.
+fn told(alloc: Global, outcome: Result<Reply, Failure>) -> Result<Reply, AllocError>
+    ensures { IfOk result (λ reply. reply ≡ reply_of outcome) }
+{
+    match outcome {
+        Ok(reply) => Ok(reply),
+        Err(failure) => failure_reply(alloc, &failure),
+    }
+}
+
+// Puts the texts of the answer, or those of want of memory where they cannot be made.
+fn answer<O: Sink, E: Sink>(
+    alloc: Global,
+    outcome: Result<Reply, Failure>,
+    out: &mut O,
+    err: &mut E,
+) -> Status
+    ensures { DeliversCounted (reply_of outcome) (O.state out.old) (O.state out.new) (E.state err.old) (E.state err.new) result
+        ⊎ DeliversCounted (reply_of (Err Failure.Memory)) (O.state out.old) (O.state out.new) (E.state err.old) (E.state err.new) result }
+{
+    match told(alloc, outcome) {
+        Ok(reply) => deliver(
+            reply.status,
+            reply.out.as_slice(),
+            reply.err.as_slice(),
+            out,
+            err,
+        ),
+        Err(_) => deliver(Status::Memory, b"", b"armc: out of memory\n", out, err),
+    }
+}
+
+/// Answers the words after the program's name: reads the texts that they name, puts one text on `out` and one on `err`,
+/// and gives the exit status.
+///
+/// `check FILE` answers `Done` with an automaton that proves the protocol, `Unsafe` with a bad run, or `Unknown` where the counted states
+/// reached the budget. `show FILE` answers `Done` with the protocol in its canonical layout. `steps FILE CONFIGURATION` answers `Done` with a line for
+/// each successor of the configuration, by rule and then by word. `verify FILE CERT` answers `Done` where the
+/// certificate proves the protocol or is a bad run of it, and else `NotValid` with the first part of a proof or a run that fails. `ReadFault` comes where a read
+/// failed or a text is longer than its limit, `ProtocolRefused` where the text of the protocol has a fault, and `CertificateRefused`
+/// where that of the certificate or the configuration has one, each with the place of the first one. `NotBuilt` comes for other
+/// words, `WriteFault` where a sink failed, and `Memory` for want of memory.
+pub fn run<L: Library, O: Sink, E: Sink, G: Gate, R: Threads + Sync>(
+    alloc: Global,
+    runtime: &R,
+    words: &[String],
+    library: &mut L,
+    out: &mut O,
+    err: &mut E,
+    gate: &G,
+) -> Status
+    ensures answer { Answers (map string_bytes words.now) (L.state library.old) (L.state library.new)
+        (O.state out.old) (O.state out.new) (E.state err.old) (E.state err.new) result }
+    ensures sound { IsSound (map string_bytes words.now) (L.state library.old).told
+        (O.state out.old) (O.state out.new) (E.state err.old) (E.state err.new) result }
+    ensures decided { IsQuiet (L.state library.old) (L.state library.new) (O.state out.old) (O.state out.new)
+        (E.state err.old) (E.state err.new)
+        → IsDecided (map string_bytes words.now) (L.state library.old).told (O.state out.old) (O.state out.new)
+        (E.state err.old) (E.state err.new) result }
+    ensures quiet { AreQuietEnds (map string_bytes words.now) (L.state library.old) (O.state out.old) (E.state err.old)
+        → IsQuiet (L.state library.old) (L.state library.new) (O.state out.old) (O.state out.new) (E.state err.old) (E.state err.new) }
+    ensures untouched { command_of (map string_bytes words.now) ≡ None → L.state library.new ≡ L.state library.old }
+    ensures counts { KeepsCounts (L.state library.old) (L.state library.new) (O.state out.old) (O.state out.new)
+        (E.state err.old) (E.state err.new) }
+{
+    keep_promises();
+    let outcome = reply_to(alloc, runtime, gate, words, library);
+    answer(alloc, outcome, out, err)
+}

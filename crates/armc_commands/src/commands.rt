@@ -1,0 +1,95 @@
+// Each command in a line of each function: where its two texts come from, and its reply.
+ghost use Rattle.std.specs.Prelude.{◌≡◌, ℕ, List, IfOk};
+ghost use Rattle.protocol_syntax.specs.declared.protocol.Protocol.{Protocol as ProtocolData};
+ghost use Rattle.protocol_model.specs.Numbering.{system_of};
+ghost use Rattle.command_words.specs.Words.{Command as CommandData, IsInRange, said};
+ghost use Rattle.armc_commands.specs.declared.reply.Reply.{Reply as ReplyData};
+ghost use Rattle.armc_commands.specs.Origin.{IsReadable, origin_of};
+ghost use Rattle.armc_commands.specs.Commands.{protocol_origin as protocol_origin_of, second_origin as second_origin_of, CommandReply, Promise};
+
+mod check;
+mod show;
+mod steps;
+mod verify;
+
+use crate::origin::Origin;
+use crate::reply::Reply;
+use armc_io::Gate;
+use check::{check_reply, keeps_check_promise};
+use command_words::Command;
+use protocol_model::System;
+use protocol_syntax::Protocol;
+use show::show_reply;
+use std::alloc::{AllocError, Global};
+use std::thread::Threads;
+use steps::steps_reply;
+use verify::{keeps_verify_promise, verify_reply};
+
+/// The most bytes of a protocol text.
+const PROTOCOL_LIMIT: u64 = 1_048_576;
+
+/// The most bytes of a certificate text.
+const CERTIFICATE_LIMIT: u64 = 67_108_864;
+
+/// Where the text of the command's protocol comes from.
+pub fn protocol_origin(command: Command<'_>) -> Origin<'_>
+    ensures origin { origin_of result ≡ protocol_origin_of (said command.entry) }
+    ensures readable { IsReadable (origin_of result) }
+{
+    let limit = PROTOCOL_LIMIT;
+    match command {
+        Command::Verify { file, .. } => Origin::Named { name: file, limit },
+        Command::Steps { file, .. } => Origin::Named { name: file, limit },
+        Command::Show { file } => Origin::Named { name: file, limit },
+        Command::Check { file, .. } => Origin::Named { name: file, limit },
+    }
+}
+
+/// Where the command's second text comes from: the certificate, the configuration, or no text.
+pub fn second_origin(command: Command<'_>) -> Origin<'_>
+    ensures origin { origin_of result ≡ second_origin_of (said command.entry) }
+    ensures readable { IsReadable (origin_of result) }
+{
+    match command {
+        Command::Verify { certificate, .. } => Origin::Named {
+            name: certificate,
+            limit: CERTIFICATE_LIMIT,
+        },
+        Command::Steps { configuration, .. } => Origin::Given {
+            text: configuration,
+        },
+        Command::Show { .. } => Origin::Given { text: "" },
+        Command::Check { .. } => Origin::Given { text: "" },
+    }
+}
+
+/// The reply of the command for this protocol, which has no fault, its system and the second text. The only error is want of memory.
+pub fn command_reply<G: Gate, R: Threads + Sync>(
+    alloc: Global,
+    runtime: &R,
+    gate: &G,
+    command: Command,
+    protocol: &Protocol,
+    system: &System,
+    text: &[u8],
+) -> Result<Reply, AllocError>
+    requires system { system.now ≡ system_of protocol.now }
+    requires in_range { IsInRange (said command) }
+    ensures { IfOk result (CommandReply (said command.entry) protocol.now text.now) }
+{
+    match command {
+        Command::Verify { .. } => verify_reply(alloc, system, text),
+        Command::Steps { .. } => steps_reply(alloc, system, text),
+        Command::Show { .. } => show_reply(alloc, protocol),
+        Command::Check { budget, .. } => check_reply(alloc, runtime, gate, system, budget),
+    }
+}
+
+/// The law of replies: each keeps what its command promises. The function does nothing.
+pub fn keep_promises()
+    ensures { (command : CommandData) (p : ProtocolData) (text : List ℕ) (reply : ReplyData)
+        → CommandReply command p text reply → Promise command p text reply }
+{
+    keeps_verify_promise();
+    keeps_check_promise();
+}

@@ -1,0 +1,17 @@
+// The command that lays out a protocol. It costs the length of the layout.
+ghost use Rattle.std.specs.Prelude.{IfOk};
+ghost use Rattle.armc_commands.specs.Commands.Show.{IsShowReply};
+
+use crate::reply::{Reply, on_out};
+use crate::status::Status;
+use protocol_layout::print;
+use protocol_syntax::Protocol;
+use std::alloc::{AllocError, Global};
+
+/// The canonical layout of the protocol. The only error is want of memory.
+pub fn show_reply(alloc: Global, protocol: &Protocol) -> Result<Reply, AllocError>
+    ensures { IfOk result (IsShowReply protocol.now) }
+{
+    let text = print(alloc, protocol)?;
+    Ok(on_out(alloc, Status::Done, text))
+}

@@ -1,0 +1,165 @@
+// The command that judges a certificate: its text is read, the judgement is made, and its answer is told in a line.
+// It costs what the judgement costs.
+ghost use Rattle.std.specs.Prelude.{◌≡◌, ◌≢◌, ◌↔◌, ◌++◌, ℕ, List, IsTrue, IfOk, OnOk, MatchOption, decimal};
+ghost use Rattle.protocol_model.specs.Patterns.{fits};
+ghost use Rattle.configuration_words.specs.Texts.{configuration_text as text_of};
+ghost use Rattle.protocol_model.specs.System.{SystemData};
+ghost use Rattle.armc_commands.specs.declared.reply.Reply.{Reply as ReplyData};
+ghost use Rattle.armc_commands.specs.Line.{line};
+ghost use Rattle.armc_commands.specs.Reply.{on_out as on_out_of, on_err as on_err_of};
+ghost use Rattle.armc_commands.specs.Commands.Verify.{ShowsFitting, IsVerifyReply, VerifyPromise, answer_text, answer_status as answer_status_of, in_certificate, fault_text};
+
+use crate::line::{line_of, rule_name};
+use crate::reply::{Reply, on_err, on_out};
+use crate::status::Status;
+use certificate::{CertFault, read};
+use certificate_checker::{Answer, check_certificate, proofs_are_sound};
+use configuration_words::configuration_text;
+use itoa::Buffer;
+use protocol_model::{Configuration, System};
+use std::alloc::{AllocError, Global};
+
+// A line with a configuration at its end.
+fn line_with_configuration(
+    alloc: Global,
+    start: &[u8],
+    system: &System,
+    configuration: &Configuration,
+) -> Result<Vec<u8>, AllocError>
+    requires { IsTrue (fits system.now configuration.now) }
+    ensures { IfOk result (λ made. made.items ≡ line (start.now ++ text_of system.now configuration.now)) }
+{
+    let words = configuration_text(alloc, system, configuration)?;
+    line_of(alloc, start, words.as_slice())
+}
+
+// The line of a step that leaves the automaton.
+fn line_of_exit(
+    alloc: Global,
+    system: &System,
+    rule: u32,
+    before: &Configuration,
+    after: &Configuration,
+) -> Result<Vec<u8>, AllocError>
+    requires before { IsTrue (fits system.now before.now) }
+    requires after { IsTrue (fits system.now after.now) }
+    ensures { IfOk result (λ made. made.items ≡ line (answer_text system.now (Answer.Leaves rule before.now after.now))) }
+{
+    let first = configuration_text(alloc, system, before)?;
+    let last = configuration_text(alloc, system, after)?;
+    let mut made = Vec::from_slice(alloc, b"not valid: leaves by ")?;
+    made.extend_from_slice(rule_name(system, rule))?;
+    made.extend_from_slice(b": ")?;
+    made.extend_from_slice(first.as_slice())?;
+    made.extend_from_slice(b" -> ")?;
+    made.extend_from_slice(last.as_slice())?;
+    made.push(b'\n')?;
+    Ok(made)
+}
+
+// A line with a number at its end.
+fn line_with_number(alloc: Global, start: &[u8], number: u64) -> Result<Vec<u8>, AllocError>
+    ensures { IfOk result (λ made. made.items ≡ line (start.now ++ decimal number)) }
+{
+    let mut buffer = Buffer::new();
+    line_of(alloc, start, buffer.format(number).as_bytes())
+}
+
+// The line that tells an answer.
+fn answer_line(alloc: Global, system: &System, answer: &Answer) -> Result<Vec<u8>, AllocError>
+    requires { ShowsFitting system.now answer.now }
+    ensures { IfOk result (λ made. made.items ≡ line (answer_text system.now answer.now)) }
+{
+    match answer {
+        Answer::Valid => b"valid\n".to_vec(alloc),
+        Answer::InitialMissing(configuration) => {
+            line_with_configuration(
+                alloc,
+                b"not valid: initial missing: ",
+                system,
+                configuration,
+            )
+        }
+        Answer::BadHeld(configuration) => {
+            line_with_configuration(alloc, b"not valid: bad held: ", system, configuration)
+        }
+        Answer::Leaves {
+            rule,
+            before,
+            after,
+        } => line_of_exit(alloc, system, *rule, before, after),
+        Answer::NotInitial => b"not valid: not initial\n".to_vec(alloc),
+        Answer::NotStep(step) => line_with_number(alloc, b"not valid: not step: ", *step),
+        Answer::NotBad => b"not valid: not bad\n".to_vec(alloc),
+    }
+}
+
+// The line of a fault of a certificate at the line of this number.
+fn fault_at(alloc: Global, number: u64, words: &[u8]) -> Result<Vec<u8>, AllocError>
+    ensures { IfOk result (λ made. made.items ≡ line (in_certificate number words.now)) }
+{
+    let mut buffer = Buffer::new();
+    let mut made = Vec::from_slice(alloc, b"armc: certificate: line ")?;
+    made.extend_from_slice(buffer.format(number).as_bytes())?;
+    made.extend_from_slice(b": ")?;
+    made.extend_from_slice(words)?;
+    made.push(b'\n')?;
+    Ok(made)
+}
+
+// The line that tells the first fault of a certificate.
+fn fault_line(alloc: Global, fault: &CertFault) -> Result<Vec<u8>, AllocError>
+    ensures fault { OnOk result (fault.now ≢ CertFault.Memory) }
+    ensures line { IfOk result (λ made. made.items ≡ line (fault_text fault.now)) }
+{
+    match fault {
+        CertFault::Version { line } => fault_at(alloc, *line, b"version"),
+        CertFault::BadLine { line } => fault_at(alloc, *line, b"bad line"),
+        CertFault::UnknownName { line } => fault_at(alloc, *line, b"unknown name"),
+        CertFault::OutOfRange { line } => fault_at(alloc, *line, b"out of range"),
+        CertFault::TwoEdges { line } => fault_at(alloc, *line, b"two edges"),
+        CertFault::Truncated { line } => fault_at(alloc, *line, b"truncated"),
+        CertFault::NothingToVerify { line } => fault_at(alloc, *line, b"nothing to verify"),
+        CertFault::TooMany { line } => fault_at(alloc, *line, b"too many states"),
+        CertFault::Memory => Err(AllocError),
+    }
+}
+
+// The reply to a certificate with this first fault.
+fn refused(alloc: Global, fault: &CertFault) -> Result<Reply, AllocError>
+    ensures reply { IfOk result (λ reply. reply ≡ on_err_of Status.CertificateRefused (line (fault_text fault.now))) }
+    ensures fault { OnOk result (fault.now ≢ CertFault.Memory) }
+{
+    let text = fault_line(alloc, fault)?;
+    Ok(on_err(alloc, Status::CertificateRefused, text))
+}
+
+// The status of an answer.
+fn answer_status(answer: &Answer) -> Status
+    ensures { result ≡ answer_status_of answer.now }
+{
+    match answer {
+        Answer::Valid => Status::Done,
+        _ => Status::NotValid,
+    }
+}
+
+/// The line that tells the judgement of the certificate that the text means, or that of its first fault. The only error is want of memory.
+pub fn verify_reply(alloc: Global, system: &System, text: &[u8]) -> Result<Reply, AllocError>
+    ensures { IfOk result (IsVerifyReply system.now text.now) }
+{
+    let certificate = match read(alloc, text, system) {
+        Ok(certificate) => certificate,
+        Err(fault) => return refused(alloc, &fault),
+    };
+    let answer = check_certificate(alloc, system, &certificate)?;
+    let line = answer_line(alloc, system, &answer)?;
+    Ok(on_out(alloc, answer_status(&answer), line))
+}
+
+/// What `verify` promises: at status 0 the text shows a proof. The function does nothing.
+pub fn keeps_verify_promise()
+    ensures { (s : SystemData) (text : List ℕ) (reply : ReplyData) → IsVerifyReply s text reply → VerifyPromise s text reply }
+{
+    proofs_are_sound();
+}

@@ -1,0 +1,103 @@
+// What a call comes to: the words, the protocol and the second text are read in this order, each text once, and the first that has a
+// fault or cannot be read ends the call. It costs what the command costs.
+ghost use Rattle.std.specs.Prelude.{◌≡◌, ◌≤◌, ℕ, List, None, Some, IsTrue, map, string_bytes};
+ghost use Rattle.armc_io.specs.Library.{LibraryState};
+ghost use Rattle.protocol_model.specs.Numbering.{system_of};
+ghost use Rattle.command_words.specs.Words.{command_of as command_of_words, IsInRange, said};
+ghost use Rattle.armc_commands.specs.Commands.{second_origin as second_origin_of};
+ghost use Rattle.armc_commands.specs.Reads.{IsEarlier, IsToldOrigin};
+ghost use Rattle.armc_commands.specs.Outcome.{HasProtocol, IsOutcome, IsReliableFor};
+
+use crate::commands::{command_reply, protocol_origin, second_origin};
+use crate::failure::Failure;
+use crate::origin::text_from;
+use crate::reading::{Reading, read_protocol};
+use crate::reply::{Reply, not_built, refusal_reply};
+use armc_io::{Gate, Library};
+use command_words::{Command, command_of};
+use protocol_model::System;
+use protocol_syntax::Protocol;
+use std::alloc::Global;
+use std::thread::Threads;
+
+// Reads the second text of the command, and carries it out for this protocol, which has no fault, and its system.
+fn carry_out<L: Library, G: Gate, R: Threads + Sync>(
+    alloc: Global,
+    runtime: &R,
+    gate: &G,
+    command: Command,
+    protocol: &Protocol,
+    system: &System,
+    library: &mut L,
+) -> Result<Reply, Failure>
+    requires system { system.now ≡ system_of protocol.now }
+    requires in_range { IsInRange (said command) }
+    ensures outcome { (words : List (List ℕ)) (before : LibraryState) → IsEarlier before (L.state library.old)
+        → command_of_words words ≡ Some (said command.entry) → HasProtocol before.told (said command.entry) protocol.now
+        → IsOutcome words before (L.state library.new) result }
+    ensures no_fall { (L.state library.old).faults ≤ (L.state library.new).faults }
+    ensures quiet { IsTrue (L.state library.old).is_reliable
+        → IsToldOrigin (L.state library.old).told (second_origin_of (said command.entry))
+        → (L.state library.new).faults ≡ (L.state library.old).faults }
+{
+    let text = match text_from(alloc, second_origin(command), library) {
+        Ok(text) => text,
+        Err(failure) => return Err(failure),
+    };
+    Ok(command_reply(
+        alloc,
+        runtime,
+        gate,
+        command,
+        protocol,
+        system,
+        text.as_slice(),
+    )?)
+}
+
+// Reads the protocol of the command, and carries it out where the protocol has no fault.
+fn reply_to_command<L: Library, G: Gate, R: Threads + Sync>(
+    alloc: Global,
+    runtime: &R,
+    gate: &G,
+    command: Command,
+    library: &mut L,
+) -> Result<Reply, Failure>
+    requires { IsInRange (said command) }
+    ensures outcome { (words : List (List ℕ)) → command_of_words words ≡ Some (said command.entry)
+        → IsOutcome words (L.state library.old) (L.state library.new) result }
+    ensures no_fall { (L.state library.old).faults ≤ (L.state library.new).faults }
+    ensures quiet { (words : List (List ℕ)) → command_of_words words ≡ Some (said command.entry)
+        → IsReliableFor words (L.state library.old) → (L.state library.new).faults ≡ (L.state library.old).faults }
+{
+    let text = match text_from(alloc, protocol_origin(command), library) {
+        Ok(text) => text,
+        Err(failure) => return Err(failure),
+    };
+    match read_protocol(alloc, text.as_slice())? {
+        Reading::Refused(refusal) => Ok(refusal_reply(alloc, &refusal)?),
+        Reading::Protocol(protocol, system) => {
+            carry_out(alloc, runtime, gate, command, &protocol, &system, library)
+        }
+    }
+}
+
+/// Reads the texts that the words name in their order, each once, and makes the reply; or says why there is none.
+pub fn reply_to<L: Library, G: Gate, R: Threads + Sync>(
+    alloc: Global,
+    runtime: &R,
+    gate: &G,
+    words: &[String],
+    library: &mut L,
+) -> Result<Reply, Failure>
+    ensures outcome { IsOutcome (map string_bytes words.now) (L.state library.old) (L.state library.new) result }
+    ensures no_fall { (L.state library.old).faults ≤ (L.state library.new).faults }
+    ensures quiet { IsReliableFor (map string_bytes words.now) (L.state library.old)
+        → (L.state library.new).faults ≡ (L.state library.old).faults }
+    ensures untouched { command_of_words (map string_bytes words.now) ≡ None → L.state library.new ≡ L.state library.old }
+{
+    match command_of(words) {
+        None => Ok(not_built(alloc)?),
+        Some(command) => reply_to_command(alloc, runtime, gate, command, library),
+    }
+}

@@ -1,0 +1,79 @@
+// Replies, and those that do not depend on the command.
+ghost use Rattle.std.specs.Prelude.{◌≡◌, IfOk};
+ghost use Rattle.armc_commands.specs.Reply.{on_out as on_out_of, on_err as on_err_of, not_built as not_built_reply, refusal_reply as refusal_reply_of, failure_reply as failure_reply_of};
+
+use crate::failure::Failure;
+use crate::line::line_of;
+use crate::refusal::{Refusal, refusal_line};
+use crate::status::Status;
+use sequence::Sequence;
+use std::alloc::{AllocError, Global};
+
+/// A reply before it is written: the exit status, and the whole texts of standard output and standard error.
+#[derive(Drop, Debug)]
+pub struct Reply {
+    /// The exit status.
+    pub status: Status,
+    /// What standard output gets.
+    pub out: Sequence<u8>,
+    /// What standard error gets.
+    pub err: Sequence<u8>,
+}
+
+/// A reply with this text on standard output.
+pub fn on_out(alloc: Global, status: Status, text: Vec<u8>) -> Reply
+    ensures { result ≡ on_out_of status text.items }
+{
+    Reply {
+        status,
+        out: Sequence::from_vec(text),
+        err: Sequence::from_vec(Vec::new(alloc)),
+    }
+}
+
+/// A reply with this text on standard error.
+pub fn on_err(alloc: Global, status: Status, text: Vec<u8>) -> Reply
+    ensures { result ≡ on_err_of status text.items }
+{
+    Reply {
+        status,
+        out: Sequence::from_vec(Vec::new(alloc)),
+        err: Sequence::from_vec(text),
+    }
+}
+
+/// The reply to what is not built. The only error is want of memory.
+pub fn not_built(alloc: Global) -> Result<Reply, AllocError>
+    ensures { IfOk result (λ reply. reply ≡ not_built_reply) }
+{
+    let text = b"armc: not built\n".to_vec(alloc)?;
+    Ok(on_err(alloc, Status::NotBuilt, text))
+}
+
+/// The reply to a protocol with this first fault. The only error is want of memory.
+pub fn refusal_reply(alloc: Global, refusal: &Refusal) -> Result<Reply, AllocError>
+    ensures { IfOk result (λ reply. reply ≡ refusal_reply_of refusal.now) }
+{
+    let text = refusal_line(alloc, refusal)?;
+    Ok(on_err(alloc, Status::ProtocolRefused, text))
+}
+
+/// What is replied where a call failed. The only error is want of memory.
+pub fn failure_reply(alloc: Global, failure: &Failure) -> Result<Reply, AllocError>
+    ensures { IfOk result (λ reply. reply ≡ failure_reply_of failure.now) }
+{
+    match failure {
+        Failure::ReadFault(name) => {
+            let text = line_of(alloc, b"armc: read fault: ", name.as_str().as_bytes())?;
+            Ok(on_err(alloc, Status::ReadFault, text))
+        }
+        Failure::TooLong(name) => {
+            let text = line_of(alloc, b"armc: too long: ", name.as_str().as_bytes())?;
+            Ok(on_err(alloc, Status::ReadFault, text))
+        }
+        Failure::Memory => {
+            let text = b"armc: out of memory\n".to_vec(alloc)?;
+            Ok(on_err(alloc, Status::Memory, text))
+        }
+    }
+}

@@ -1,0 +1,24 @@
+/// The exit status of the program.
+#[derive(Clone, Copy, Debug, PartialEq, Eq)]
+pub enum Status {
+    /// The command did its work: a certificate is valid, a protocol was shown, successors were listed, or a search found a proof.
+    Done = 0,
+    /// A search found a bad run.
+    Unsafe = 1,
+    /// A search counted as many states as its budget.
+    Unknown = 2,
+    /// A read failed, or a text is longer than its limit.
+    ReadFault = 4,
+    /// The text of a protocol has a fault.
+    ProtocolRefused = 5,
+    /// The text of a certificate or of a configuration has a fault.
+    CertificateRefused = 6,
+    /// A certificate is not valid.
+    NotValid = 7,
+    /// Standard output or standard error did not take its text.
+    WriteFault = 8,
+    /// There was no memory.
+    Memory = 9,
+    /// The command, or a form of its texts, is not built yet.
+    NotBuilt = 10,
+}

@@ -1,0 +1,27 @@
+//! Tests of the public calls that the program does not make, and of reads and writes that fail.
+//!
+//! What the program does is shown by whole runs of it, in the folder `tests` at the top. Each function here is proved before it is
+//! run, so they are short, and a text is read rather than a system built.
+#![tactic(auto)]
+
+#[cfg(test)]
+mod automata;
+#[cfg(test)]
+mod canonical_automata;
+#[cfg(test)]
+mod commands;
+#[cfg(test)]
+mod configurations;
+#[cfg(test)]
+mod copies;
+#[cfg(test)]
+mod images;
+#[cfg(test)]
+mod moves;
+#[cfg(test)]
+mod outside;
+#[cfg(test)]
+mod relations;
+mod systems;
+
+pub use systems::read_system;
