@@ -1,0 +1,2 @@
+pub mod FutureLaws
+pub mod Futures

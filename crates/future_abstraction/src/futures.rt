@@ -1,0 +1,58 @@
+//! The abstraction by words of bounded length. Classes are split in rounds, each of which tells states apart by words of one letter
+//! more, until a round changes nothing: each takes time linear in the states and edges, and there are at most as many as states.
+
+ghost use Rattle.std.specs.Prelude.{◌≡◌, IsOk, OnOk};
+ghost use Rattle.future_abstraction.specs.Futures.{up_to, is_related, next_key};
+ghost use Rattle.future_abstraction.specs.FutureLaws.{related-equivalence, related-finer, next_key-over};
+
+use crate::splitting::split;
+use abstraction::{Abstraction, Refinable};
+use minimise::Canon;
+use std::alloc::{AllocError, Global};
+
+/// An abstraction by words of bounded length: states are related where each word of at most so many letters is accepted from both or
+/// from neither.
+#[derive(Clone, Copy, Debug)]
+pub struct Futures {
+    /// The bound on the number of letters.
+    pub bound: u64,
+}
+
+impl Abstraction for Futures {
+    ghost key = { λ f. up_to f.bound };
+
+    ghost related = { is_related };
+
+    fn classes(&self, alloc: Global, a: &Canon) -> Result<Vec<usize>, AllocError> {
+        let automaton = a.as_dfa();
+        let none = vec![in alloc; 0; automaton.states()]?;
+        let mut classes = split(alloc, automaton, &none)?;
+        'rounds: for _ in 0..self.bound {
+            let finer = split(alloc, automaton, &classes)?;
+            if finer == classes {
+                return Ok(classes);
+            }
+            classes = finer;
+        }
+        Ok(classes)
+    }
+
+    ghost equivalence = { related-equivalence };
+}
+
+impl Refinable for Futures {
+    ghost next = { next_key };
+
+    /// Makes the bound one more, unless it is the greatest number of 64 bits. It takes no memory.
+    fn refine(&mut self, _alloc: Global, _refuted: &Canon) -> Result<(), AllocError>
+        ensures done { IsOk result }
+        ensures key { OnOk result (up_to self.new.bound ≡ next_key (up_to self.old.bound) _refuted.now) }
+    {
+        self.bound = self.bound.saturating_add(1);
+        Ok(())
+    }
+
+    ghost finer = { related-finer };
+
+    ghost stays_over = { next_key-over };
+}

@@ -1,0 +1,100 @@
+//! A round of refinement (E. F. Moore, 1956): states stay in one class where they have one signature by the classes so far. It takes
+//! time linear in the states and edges, on average.
+
+ghost use Rattle.std.specs.Prelude.{◌≡◌, ◌<◌, ◌^◌, IfOk, OnOk, length};
+ghost use Rattle.std.specs.HashMap.{get};
+ghost use Rattle.std.specs.List.{filter_map};
+ghost use Rattle.word_automata.specs.Path.{edges_of};
+ghost use Rattle.minimise.specs.Signatures.{same_signature};
+ghost use Rattle.minimise.specs.Refinement.{live_edge, signature_of, no_word, FindsClass, IsSplit};
+
+use crate::signature::Signature;
+use std::alloc::{AllocError, Global};
+use std::collections::HashMap;
+use word_automata::Dfa;
+
+/// The classes of states that have the same signature by the coarser classes. Class 0 is that of the signature of no word, and any
+/// other class is one more than its least state.
+pub fn split(alloc: Global, automaton: &Dfa, classes: &[usize]) -> Result<Vec<usize>, AllocError>
+    requires { length classes.now ≡ length automaton.now.states }
+    ensures { IfOk result (λ finer. IsSplit automaton.now classes.now finer.items) }
+{
+    let mut finer = Vec::with_capacity(alloc, automaton.states())?;
+    let mut firsts = HashMap::new(alloc);
+    'states: for state in 0..automaton.states() {
+        let signature = signature_of(alloc, automaton, classes, state)?;
+        finer.push(class_of(&mut firsts, signature, state)?)?;
+    }
+    Ok(finer)
+}
+
+/// The signature of the state by the classes.
+fn signature_of(
+    alloc: Global,
+    automaton: &Dfa,
+    classes: &[usize],
+    state: usize,
+) -> Result<Signature, AllocError>
+    requires count { length classes.now ≡ length automaton.now.states }
+    requires state { state < length automaton.now.states }
+    ensures { IfOk result (λ signature. signature ≡ signature_of automaton.now classes.now state) }
+{
+    let edges = live_edges(alloc, automaton, classes, state)?;
+    Ok(Signature::new(classes[state], automaton.accepting(state), edges))
+}
+
+/// The letters of the state that lead to classes other than 0, each with the class.
+fn live_edges(
+    alloc: Global,
+    automaton: &Dfa,
+    classes: &[usize],
+    state: usize,
+) -> Result<Vec<(u32, usize)>, AllocError>
+    requires count { length classes.now ≡ length automaton.now.states }
+    requires state { state < length automaton.now.states }
+    ensures { IfOk result (λ live. live.items ≡ filter_map (live_edge classes.now) (edges_of automaton.now.states state)) }
+{
+    let mut live = Vec::with_capacity(alloc, automaton.edges_from(state).len())?;
+    put_live_edges(&mut live, automaton, classes, state)?;
+    Ok(live)
+}
+
+/// Puts the letters of the state that lead to classes other than 0, each with the class, in the place of what the list has.
+fn put_live_edges(
+    live: &mut Vec<(u32, usize)>,
+    automaton: &Dfa,
+    classes: &[usize],
+    state: usize,
+) -> Result<(), AllocError>
+    requires count { length classes.now ≡ length automaton.now.states }
+    requires state { state < length automaton.now.states }
+    ensures { OnOk result (live.new.items ≡ filter_map (live_edge classes.now) (edges_of automaton.now.states state)) }
+{
+    live.clear();
+    let edges = automaton.edges_from(state);
+    'edges: for &(letter, to) in edges {
+        if classes[to] != 0 {
+            live.push((letter, classes[to]))?;
+        }
+    }
+    Ok(())
+}
+
+/// The class of the state with the signature. A signature that is new gets the class of the state.
+fn class_of(
+    firsts: &mut HashMap<Signature, usize>,
+    signature: Signature,
+    state: usize,
+) -> Result<usize, AllocError>
+    requires { state < 2 ^ 63 }
+    ensures { IfOk result (FindsClass no_word (get same_signature firsts.old) (get same_signature firsts.new) signature state) }
+{
+    if signature.is_of_no_word() {
+        return Ok(0);
+    }
+    if let Some(class) = firsts.get(&signature) {
+        return Ok(*class);
+    }
+    firsts.insert(signature, state + 1)?;
+    Ok(state + 1)
+}

@@ -1,0 +1,8 @@
+//! The report of a search: the sizes that it counted and how each round ended, as one line of JSON (RFC 8259).
+#![tactic(auto)]
+
+mod method;
+mod writing;
+
+pub use method::Method;
+pub use writing::report;

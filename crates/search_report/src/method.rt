@@ -1,0 +1,10 @@
+//! The abstractions that a search can use.
+
+/// What a search relates states by.
+#[derive(Clone, Copy, Debug, PartialEq, Eq)]
+pub enum Method {
+    /// The states of predicate automata with which states share words.
+    Predicates,
+    /// The accepted words of bounded length.
+    Length,
+}
