@@ -1,3 +1,5 @@
+// The library of the operating system: files by their names, and standard input for `-`. A read takes at most the limit and one byte
+// more, whatever the system does, in one call for each piece that it gives.
 ghost use Rattle.std.specs.Prelude.{◌≡◌, ◌≢◌, ◌^◌, ◌<◌, ◌≤◌, [], Err, None, OnOk, vec_len};
 ghost use Rattle.std.specs.Io.KnownBytes.{Consumes, IsAtEnd};
 

@@ -1,3 +1,5 @@
+// A library in memory: a list of names with their texts, searched from the front, whose calls fail as a list says. A read costs the
+// names before the one that is asked for, and a copy of its text.
 ghost use Rattle.std.specs.Prelude.{◌≡◌, ◌^◌, ◌<◌, None, string_bytes, bytes_eq, find, option_copied, option_map};
 
 use crate::last_read::LastRead;

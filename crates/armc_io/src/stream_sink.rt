@@ -1,3 +1,5 @@
+// A sink over a writer: one loop over `write`, which appends all bytes or, after a fault, a prefix. It costs one call for each piece
+// that the writer takes.
 ghost use Rattle.std.specs.Prelude.{◌≡◌};
 ghost use Rattle.armc_io.specs.Sink.{WritesPrefix};
 
