@@ -1,5 +1,5 @@
 -- Least configurations, and the languages that show them.
-use Rattle.std.proofs.Common.{◌≡◌, ℕ, Bool, true, false, not, ◌&&◌, List, IsTrue, ◌↔◌, refl, sym, ap, subst, ◌∙◌}
+use Rattle.std.proofs.Common.{◌≡◌, ℕ, Bool, true, false, not, ◌&&◌, List, IsTrue, ◌↔◌, refl, sym, subst, ◌∙◌}
 use Rattle.std.proofs.lemmas.Bool.{false≢true, and_parts, and_from}
 use Rattle.sequence.specs.WordOrder.{is_before}
 use Rattle.word_automata.specs.Automaton.{Automaton, accepts}
@@ -8,7 +8,7 @@ use Rattle.protocol_model.specs.System.{SystemData}
 use Rattle.protocol_model.specs.Patterns.{fits}
 use Rattle.protocol_model.specs.Words.{word_of}
 use Rattle.boolean_operations.specs.LeastWords.{AcceptsNothing, IsLeastAccepted}
-use Rattle.certificate_checker.specs.Answers.{IsLeastConfiguration, HasNone}
+use Rattle.certificate_checker.specs.Answers.{IsLeastConfiguration}
 use Rattle.certificate_checker.specs.Parts.{AcceptsConfigurations, IsAcceptedWord}
 use Rattle.certificate_checker.proofs.WordFacts.{word_of-injective}
 

@@ -1,5 +1,5 @@
 -- A certificate has one answer.
-use Rattle.std.proofs.Common.{◌≡◌, ◌<◌, ◌⊎◌, ℕ, true, false, IsTrue, refl, sym, ap, subst, ◌∙◌, inl, inr}
+use Rattle.std.proofs.Common.{◌≡◌, ℕ, IsTrue, refl, sym, ap, subst, ◌∙◌, inl, inr}
 use Rattle.std.proofs.lemmas.Bool.{and_parts, cases_order}
 use Rattle.exploration.proofs.Words.{is_before-total}
 use Rattle.word_automata.specs.Automaton.{Automaton}

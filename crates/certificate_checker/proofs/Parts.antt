@@ -1,6 +1,6 @@
 -- The parts of the judgement: missing initial configurations, bad ones that are held, and steps that lead out.
-use Rattle.std.proofs.Common.{◌≡◌, ◌<◌, ℕ, Bool, true, false, not, ◌&&◌, List, Option, None, Some, MatchOption, IsTrue, ◌↔◌, refl, sym, ap, subst, ◌∙◌}
-use Rattle.std.proofs.lemmas.Bool.{false≢true, and_parts, and_from}
+use Rattle.std.proofs.Common.{◌≡◌, ℕ, Bool, true, false, not, ◌&&◌, List, Option, None, Some, MatchOption, IsTrue, ◌↔◌, refl, sym, ap, subst, ◌∙◌}
+use Rattle.std.proofs.lemmas.Bool.{and_parts, and_from}
 use Rattle.sequence.specs.WordOrder.{is_before, IsLeastWord}
 use Rattle.word_automata.specs.Automaton.{Automaton, accepts}
 use Rattle.word_automata.specs.Nondeterministic.{NondeterministicAutomaton, Accepts}
@@ -16,8 +16,8 @@ use Rattle.image_preimage.specs.Images.{IsImage, IsPreimage}
 use Rattle.boolean_operations.specs.LeastWords.{AcceptsNothing}
 use Rattle.boolean_operations.specs.Inclusion.{IsOutside, IsIncluded}
 use Rattle.certificate_checker.specs.Proof.{Proves}
-use Rattle.certificate_checker.specs.Answers.{IsAccepted, IsRefused, IsLeastConfiguration, IsMissing, IsHeld, IsLeft, IsAcceptedBefore, HasNone}
-use Rattle.certificate_checker.specs.Parts.{AcceptsConfigurations, IsAcceptedWord, IsBefore, IsLeastExitBy}
+use Rattle.certificate_checker.specs.Answers.{IsLeastConfiguration, IsMissing, IsHeld, IsLeft, IsAcceptedBefore, HasNone}
+use Rattle.certificate_checker.specs.Parts.{AcceptsConfigurations, IsAcceptedWord, IsBefore}
 use Rattle.certificate_checker.proofs.WordFacts.{word_of-injective}
 use Rattle.certificate_checker.proofs.Least.{not_true, never_both, least-same, chosen-configurations, chosen-to, chosen-from, chosen-none}
 

@@ -1,11 +1,11 @@
 -- The system of one word accepts this word alone.
-use Rattle.std.proofs.Common.{◌≡◌, ◌==◌, ◌<◌, ◌≤◌, ◌+◌, ◌⊎◌, ℕ, zero, suc, Bool, true, false, List, [], ◌∷◌, Option, None, Some, All, length, drop, slice_get, refl, sym, ap, subst, ◌∙◌, inl, inr, IsTrue, ◌↔◌, arith, add-one, eqb, if◌then◌else◌}
+use Rattle.std.proofs.Common.{◌≡◌, ◌==◌, ◌<◌, ◌≤◌, ◌+◌, ◌⊎◌, ℕ, zero, suc, Bool, true, false, List, [], ◌∷◌, None, Some, length, drop, slice_get, refl, sym, ap, subst, ◌∙◌, inl, inr, arith, add-one, if◌then◌else◌}
 use Rattle.std.proofs.Math.Seq.{drop-cons}
 use Rattle.std.proofs.lemmas.Bool.{eq-eqb, eqb-true, false≢true, cases_Bool}
 use Rattle.std.proofs.lemmas.List.{drop_all}
 use Rattle.std.proofs.lemmas.List.Elements.{All-nil, All-cons}
 use Rattle.std.proofs.lemmas.Option.{slice_get_within, get_or_from_slice_get}
-use Rattle.exploration.specs.System.{System, accepts_by, accepts_by_from, look_up, IsSuccessors}
+use Rattle.exploration.specs.System.{System, accepts_by, accepts_by_from, IsSuccessors}
 use Rattle.transducers.proofs.ListLemmas.{slice_get-cases, slice_get-within}
 use Rattle.certificate_checker.specs.SingleWord.{step_along, single_word}
 

@@ -1,6 +1,6 @@
 //! The judgement of a certificate. For an automaton the parts of a proof by an inductive invariant are tested one after the other: the
-//! words that speak against a part are those of an intersection or of the image under one rule, and the least of them is shown. A run
-//! is checked step by step, in one pass and without memory.
+//! words that speak against a part are those of an intersection or of the image under one rule, and the least of them is shown. The
+//! automaton is made canonical first. A run is checked step by step, in one pass and without memory.
 
 ghost use Rattle.std.specs.Prelude.{◌≡◌, ◌↔◌, ◌<◌, ℕ, List, All, IfOk, IsOk, MatchOption, length};
 ghost use Rattle.transducers.specs.Transducer.{Relates};
@@ -18,6 +18,7 @@ use certificate::Certificate;
 use configuration_words::decode;
 use determinise::determinise;
 use image_preimage::{image_automaton, preimage_automaton};
+use minimise::canonical;
 use protocol_model::{Configuration, Run, System};
 use protocol_steps::{RunAnswer, check_run};
 use section_patterns::{bad_words, initial_words};
@@ -50,7 +51,7 @@ pub fn check_certificate(
     ensures run { (run : _) → certificate.now ≡ Certificate.BadRun run → IsOk result }
 {
     match certificate {
-        Certificate::Automaton(automaton) => judge_automaton(alloc, system, automaton),
+        Certificate::Automaton(automaton) => judge_language(alloc, system, automaton),
         Certificate::BadRun(run) => Ok(judge_run(system, run)),
     }
 }
@@ -65,6 +66,15 @@ fn judge_run(system: &System, run: &Run) -> Answer
         RunAnswer::NotStep(step) => Answer::NotStep(step),
         RunAnswer::NotBad => Answer::NotBad,
     }
+}
+
+/// Judges an automaton by the canonical one of its language, so that states of a certificate that accept the same words cost one pass.
+fn judge_language(alloc: Global, system: &System, automaton: &Dfa) -> Result<Answer, AllocError>
+    requires { automaton.now.letters ≡ automata_letters system.now }
+    ensures { IfOk result (IsAutomatonAnswer system.now automaton.now) }
+{
+    let canon = canonical(alloc, automaton)?;
+    Ok(judge_automaton(alloc, system, canon.as_dfa())?)
 }
 
 /// Judges an automaton: the parts of a proof in their order.

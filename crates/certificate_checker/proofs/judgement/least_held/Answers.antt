@@ -1,4 +1,4 @@
-use Rattle.std.proofs.Common.{◌≡◌, ◌↔◌, IsTrue, sym, subst}
+use Rattle.std.proofs.Common.{◌↔◌, IsTrue, sym, subst}
 use Rattle.word_automata.specs.Automaton.{Automaton, accepts}
 use Rattle.protocol_model.specs.Words.{IsBadWord}
 use Rattle.certificate_checker.proofs.Parts.{held-found}
