@@ -1,4 +1,5 @@
 pub mod Adding
+pub mod ClassPairs
 pub mod Edges
 pub mod Marks
 pub mod Parts

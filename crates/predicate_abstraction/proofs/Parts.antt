@@ -10,7 +10,7 @@ use Rattle.abstraction.specs.Merging.{AreClasses}
 use Rattle.predicate_abstraction.specs.Predicates.{SharesWord, MeetSame}
 use Rattle.predicate_abstraction.specs.Pairs.{Pairs}
 use Rattle.predicate_abstraction.specs.SharedWords.{AreShared}
-use Rattle.predicate_abstraction.specs.Splitting.{AreNumbers, IsSplitByColumn, IsSplitBefore, IsKnownFirst, IsNewFirst}
+use Rattle.predicate_abstraction.specs.Splitting.{AreNumbers, AreClassesBy, IsSplitByColumn, IsSplitBefore, IsKnownFirst, IsNewFirst}
 use Rattle.predicate_abstraction.proofs.Edges.{take_cases}
 
 -- 1 for true
@@ -202,13 +202,9 @@ split_more a b set are classes finer finest i before split = record {
       );
 }
 
--- classes by predicate automata
-pub record HasClasses (predicates : List Automaton) (a : Automaton) (classes : List ℕ) : Type 0 where
-  pub numbers : AreNumbers (length a.states) classes
-  pub apart : (p q : ℕ) → p < length a.states → q < length a.states → (get_or classes p 0 ≡ get_or classes q 0) ↔ MeetSame predicates a p q
-
-pub has_classes_none : (a : Automaton) (classes : List ℕ) (predicates : List Automaton) → classes ≡ replicate (length a.states) 0 → predicates ≡ [] → HasClasses predicates a classes
-has_classes_none a classes predicates is empty = record {
+-- no predicate automaton
+pub classes_by_none : (a : Automaton) (classes : List ℕ) (predicates : List Automaton) → classes ≡ replicate (length a.states) 0 → predicates ≡ [] → AreClassesBy predicates a classes
+classes_by_none a classes predicates is empty = record {
   numbers = record { count = ap length is ∙ length-replicate (length a.states) 0; below = λ p there. (let e = zero_at p there in omega arith) };
   apart = λ p q lp lq. (
     λ e b there. absurd (none b there),
@@ -222,9 +218,9 @@ has_classes_none a classes predicates is empty = record {
     none : (b : Automaton) → Contains predicates b → ⊥
     none b there = let x = subst (λ ps. Contains ps b) empty there in (let l = x.1 in omega arith)
 
-pub has_classes_more : (a : Automaton) (predicates : List Automaton) (i : ℕ) (b : Automaton) (classes finer : List ℕ) → i < length predicates → b ≡ get_or predicates i b
-    → IsSplitBefore a b (length b.states) classes finer → HasClasses (take i predicates) a classes → HasClasses (take (i + 1) predicates) a finer
-has_classes_more a predicates i b classes finer within read split before = record {
+pub classes_by_more : (a : Automaton) (predicates : List Automaton) (i : ℕ) (b : Automaton) (classes finer : List ℕ) → i < length predicates → b ≡ get_or predicates i b
+    → IsSplitBefore a b (length b.states) classes finer → AreClassesBy (take i predicates) a classes → AreClassesBy (take (i + 1) predicates) a finer
+classes_by_more a predicates i b classes finer within read split before = record {
   numbers = split.numbers;
   apart = λ p q lp lq.
       let now = split.apart p q lp lq in
@@ -243,8 +239,8 @@ has_classes_more a predicates i b classes finer within read split before = recor
     more : take (i + 1) predicates ≡ take i predicates ++ get_or predicates i b ∷ []
     more = take_more predicates i b within
 
-pub has_classes_all : (predicates : List Automaton) (a : Automaton) (classes : List ℕ) → HasClasses predicates a classes → AreClasses (MeetSame predicates a) (length a.states) classes
-has_classes_all predicates a classes has = record {
+pub classes_by_all : (predicates : List Automaton) (a : Automaton) (classes : List ℕ) → AreClassesBy predicates a classes → AreClasses (MeetSame predicates a) (length a.states) classes
+classes_by_all predicates a classes has = record {
   count = has.numbers.count;
   related = λ p q lp lq.
       let same = has.apart p q lp lq in

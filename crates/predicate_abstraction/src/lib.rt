@@ -2,11 +2,13 @@
 //! (Bouajjani, Habermehl and Vojnar, CAV 2004). A refuted set is one more of these automata.
 #![tactic(auto)]
 
+mod common_classes;
 mod pair_set;
 mod place;
 mod predicates;
 mod reversal;
 mod shared_words;
+mod shares;
 mod sources;
 mod splitting;
 
