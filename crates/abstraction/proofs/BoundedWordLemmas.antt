@@ -1,5 +1,6 @@
 -- The words of bounded length are those over the alphabet that have so many letters at most.
-use Rattle.std.proofs.Common.{◌≡◌, ◌<◌, ◌≤◌, ℕ, zero, suc, Bool, false, nat_eq, if◌then◌else◌, Option, None, Some, IsTrue, List, [], ◌∷◌, All, Contains, map, length, refl, sym, ap, subst, ◌∙◌, inl, inr, arith}
+use Rattle.std.proofs.Common.{◌≡◌, ◌<◌, ◌≤◌, ℕ, zero, suc, Bool, false, nat_eq, if◌then◌else◌, Option, None, Some, IsTrue, List}
+use Rattle.std.proofs.Common.{[], ◌∷◌, All, Contains, map, length, refl, sym, ap, subst, ◌∙◌, inl, inr, arith}
 use Rattle.std.specs.List.{range_with_len}
 use Rattle.std.proofs.lemmas.Bool.{cases_lt, cases_Bool, eqb-true, false≢true}
 use Rattle.std.proofs.lemmas.List.Elements.{All-cons, All-nil, All-tail, Contains-append_left, Contains-append_right, Contains-append_cases}
@@ -13,7 +14,8 @@ use Rattle.abstraction.proofs.ListMembers.{contains_number, contains_joined, con
 contains_word_of : (letters : ℕ) (w : List ℕ) → All (λ a. a < letters) w → Contains (words_of letters (length w)) w
 contains_word_of letters [] over = (0, omega arith, refl)
 contains_word_of letters (a ∷ w) over =
-    contains_joined (λ b. map (λ v. b ∷ v) (words_of letters (length w))) (range_with_len 0 letters) a (a ∷ w) (contains_number letters a (over 0 a (omega arith)))
+    contains_joined (λ b. map (λ v. b ∷ v) (words_of letters (length w))) (range_with_len 0 letters) a (a ∷ w)
+    (contains_number letters a (over 0 a (omega arith)))
     (Contains-map (λ v. a ∷ v) (words_of letters (length w)) w (contains_word_of letters w (All-tail (λ b. b < letters) a w over)))
 
 contains_word : (letters n : ℕ) (w : List ℕ) → All (λ a. a < letters) w → length w ≤ n → Contains (words_up_to letters n) w
@@ -65,5 +67,6 @@ accepted_over a valid (letter ∷ w) p accepted = by (target a p letter) refl ac
     by None is at rest = absurd (false≢true at)
     by (Some r) is at rest = All-cons (λ l. l < a.letters) letter w (leads_by_letter a valid p letter r is) (rest r at)
 
-pub contains_accepted : (a : Automaton) → IsValid a → (n : ℕ) (w : List ℕ) (p : ℕ) → length w ≤ n → IsTrue (accepts_from a p w) → Contains (words_up_to a.letters n) w
+pub contains_accepted : (a : Automaton) → IsValid a → (n : ℕ) (w : List ℕ) (p : ℕ) → length w ≤ n
+    → IsTrue (accepts_from a p w) → Contains (words_up_to a.letters n) w
 contains_accepted a valid n w p short accepted = contains_word a.letters n w (accepted_over a valid w p accepted) short

@@ -1,5 +1,6 @@
 -- The facts of an automaton as a number: one bit for each possible fact.
-use Rattle.std.proofs.Common.{◌≡◌, ◌<◌, ◌+◌, ◌*◌, ◌^◌, ◌↔◌, ◌&&◌, ◌++◌, ℕ, zero, suc, Bool, true, false, nat_lt, if◌then◌else◌, List, [], ◌∷◌, Option, None, Some, Contains, map, length, refl, sym, ap, subst, ◌∙◌, arith}
+use Rattle.std.proofs.Common.{◌≡◌, ◌<◌, ◌+◌, ◌*◌, ◌^◌, ◌↔◌, ◌&&◌, ◌++◌, ℕ, zero, suc, Bool, true, false, nat_lt, if◌then◌else◌}
+use Rattle.std.proofs.Common.{List, [], ◌∷◌, Option, None, Some, Contains, map, length, refl, sym, ap, subst, ◌∙◌, arith}
 use Rattle.std.proofs.Math.Nat.{pow-succ', mul_comm, mul_assoc}
 use Rattle.std.specs.Bool.{beq}
 use Rattle.std.specs.Cmp.Lexicographic.{pointwise, pointwise_decides}
@@ -74,7 +75,9 @@ possible_facts letters signatures = map starts signatures ++ (map accepts signat
 
 length-joined : {X Y : Type 0} (f : X → List Y) (k : ℕ) → ((x : X) → length (f x) ≡ k) → (xs : List X) → length (flat_map f xs) ≡ length xs * k
 length-joined f k each [] = omega arith
-length-joined f k each (x ∷ xs) = length-append (f x) (flat_map f xs) ∙ ap (λ n. n + length (flat_map f xs)) (each x) ∙ ap (λ n. k + n) (length-joined f k each xs) ∙ step (length xs)
+length-joined f k each (x ∷ xs) =
+    length-append (f x) (flat_map f xs) ∙ ap (λ n. n + length (flat_map f xs)) (each x)
+    ∙ ap (λ n. k + n) (length-joined f k each xs) ∙ step (length xs)
   where
     step : (n : ℕ) → k + n * k ≡ suc n * k
     step n = grind (arith)
@@ -83,7 +86,8 @@ length-possible_facts : (letters : ℕ) (signatures : List (List Bool)) → leng
 length-possible_facts letters signatures =
     let c = length signatures in
     let one = λ (s : List Bool) (letter : ℕ). length-map signatures (λ t. leads s letter t) in
-    let row = λ (s : List Bool). length-joined (λ letter. map (λ t. leads s letter t) signatures) c (one s) (range_with_len 0 letters) ∙ ap (λ n. n * c) (length-range_with_len 0 letters) in
+    let row = λ (s : List Bool). length-joined (λ letter. map (λ t. leads s letter t) signatures) c (one s) (range_with_len 0 letters)
+    ∙ ap (λ n. n * c) (length-range_with_len 0 letters) in
     let all = length-joined (leading_facts letters signatures) (letters * c) row signatures in
     let turned : c * (letters * c) ≡ c * c * letters = ap (λ n. c * n) (mul_comm letters c) ∙ sym (mul_assoc c c letters) in
     let first = length-append (map starts signatures) (map accepts signatures ++ flat_map (leading_facts letters signatures) signatures) in
@@ -108,7 +112,8 @@ contains_fact letters tests signature a valid over long (leads s letter t) has =
     let within : letter < letters = subst (λ n. letter < n) over (leads_by_letter a valid has.0 letter has.1 has.2) in
     let target_is = contains_truth_list tests t (ap length (sym has.4) ∙ long has.1) in
     let source_is = contains_truth_list tests s (ap length (sym has.3) ∙ long has.0) in
-    let row = contains_joined (λ l. map (λ u. leads s l u) signatures) (range_with_len 0 letters) letter (leads s letter t) (contains_number letters letter within)
+    let row = contains_joined (λ l. map (λ u. leads s l u) signatures) (range_with_len 0 letters) letter (leads s letter t)
+    (contains_number letters letter within)
     (Contains-map (λ u. leads s letter u) signatures t target_is) in
     Contains-append_right (map starts signatures) (map accepts signatures ++ flat_map (leading_facts letters signatures) signatures) (leads s letter t)
     (Contains-append_right (map accepts signatures) (flat_map (leading_facts letters signatures) signatures) (leads s letter t)
@@ -157,17 +162,21 @@ module _ (signature : ℕ → List Bool) (a : Automaton) where
   leads_whole : (s t : List Bool) (p r : ℕ) (to : Option ℕ) → to ≡ Some r → signature p ≡ s → signature r ≡ t → leads_to_as s t p to ≡ true
   unfolding leads_to_as
   leads_whole s t p r to is source end =
-      ap (leads_to_as s t p) is ∙ and_from (same_values (signature p) s) (same_values (signature r) t) (same_values-of (signature p) s source) (same_values-of (signature r) t end)
+      ap (leads_to_as s t p) is
+      ∙ and_from (same_values (signature p) s) (same_values (signature r) t) (same_values-of (signature p) s source) (same_values-of (signature r) t end)
 
   has_fact-tells : (fact : Fact) → (has_fact fact ≡ true) ↔ HasFact signature a fact
   unfolding has_fact accepts_as leads_as
   has_fact-tells (starts s) = (
-    λ h. let both = and_parts (nat_lt 0 (length a.states)) (same_values (signature 0) s) h in (grind (arith, nat_tests), same_values-are (signature 0) s both.1),
-    λ has. and_from (nat_lt 0 (length a.states)) (same_values (signature 0) s) (let some = has.0 in grind (arith, nat_tests)) (same_values-of (signature 0) s has.1),
+    λ h. let both = and_parts (nat_lt 0 (length a.states)) (same_values (signature 0) s) h in
+        (grind (arith, nat_tests), same_values-are (signature 0) s both.1),
+    λ has. and_from (nat_lt 0 (length a.states)) (same_values (signature 0) s) (let some = has.0 in grind (arith, nat_tests))
+        (same_values-of (signature 0) s has.1),
   )
   has_fact-tells (accepts s) = (
     λ h. let found = some_passes (accepts_as s) (range_with_len 0 (length a.states)) h in
-        let both = and_parts (is_accepting a.states found.0) (same_values (signature found.0) s) found.1 in (found.0, both.0, same_values-are (signature found.0) s both.1),
+        let both = and_parts (is_accepting a.states found.0) (same_values (signature found.0) s) found.1 in
+        (found.0, both.0, same_values-are (signature found.0) s both.1),
     λ has. some_state (accepts_as s) (length a.states) has.0 (accepting_within a.states has.0 has.1)
         (and_from (is_accepting a.states has.0) (same_values (signature has.0) s) has.1 (same_values-of (signature has.0) s has.2)),
   )
@@ -186,7 +195,8 @@ pub code-below : (letters tests : ℕ) (signature : ℕ → List Bool) (a : Auto
 unfolding code
 code-below letters tests signature a =
     let facts = possible_facts letters (truth_lists tests) in
-    let count = length-map facts (has_fact signature a) ∙ length-possible_facts letters (truth_lists tests) ∙ ap (fact_count letters) (length-truth_lists tests) in
+    let count = length-map facts (has_fact signature a) ∙ length-possible_facts letters (truth_lists tests)
+    ∙ ap (fact_count letters) (length-truth_lists tests) in
     subst (λ n. number (map (has_fact signature a) facts) < 2 ^ n) count (number-below (map (has_fact signature a) facts))
 
 module _ (letters tests : ℕ) (signature other : ℕ → List Bool) (a b : Automaton) (same : code letters tests signature a ≡ code letters tests other b) where
@@ -194,7 +204,8 @@ module _ (letters tests : ℕ) (signature other : ℕ → List Bool) (a b : Auto
   unfolding code
   same_tests =
       let facts = possible_facts letters (truth_lists tests) in
-      number-injective (map (has_fact signature a) facts) (map (has_fact other b) facts) (length-map facts (has_fact signature a) ∙ sym (length-map facts (has_fact other b))) same
+      number-injective (map (has_fact signature a) facts) (map (has_fact other b) facts)
+      (length-map facts (has_fact signature a) ∙ sym (length-map facts (has_fact other b))) same
 
   pub has_also : IsValid a → a.letters ≡ letters → ((p : ℕ) → length (signature p) ≡ tests) → (fact : Fact) → HasFact signature a fact → HasFact other b fact
   has_also valid over long fact has =
@@ -203,7 +214,8 @@ module _ (letters tests : ℕ) (signature other : ℕ → List Bool) (a b : Auto
       (has_fact-tells other b fact).0 (sym test ∙ (has_fact-tells signature a fact).1 has)
 
 -- automata with one number have the same facts
-pub same_facts : (letters tests : ℕ) (signature other : ℕ → List Bool) (a b : Automaton) → IsValid a → a.letters ≡ letters → ((p : ℕ) → length (signature p) ≡ tests)
+pub same_facts : (letters tests : ℕ) (signature other : ℕ → List Bool) (a b : Automaton) → IsValid a → a.letters ≡ letters
+    → ((p : ℕ) → length (signature p) ≡ tests)
     → IsValid b → b.letters ≡ letters → ((p : ℕ) → length (other p) ≡ tests) → code letters tests signature a ≡ code letters tests other b
     → HaveSameFacts signature a other b
 same_facts letters tests signature other a b valid over long valid_b over_b long_b same fact = (
