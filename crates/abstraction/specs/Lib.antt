@@ -1,3 +1,5 @@
+pub mod BoundedWords
 pub mod ClassAutomata
 pub mod Excluding
 pub mod Merging
+pub mod Signatures

@@ -5,7 +5,9 @@
 mod abstractions;
 mod class_automaton;
 mod first_states;
+mod laws;
 mod merging;
 
 pub use abstractions::{Abstraction, Excluding, Refinable};
+pub use laws::one_merged_language;
 pub use merging::{merge, merge_related};

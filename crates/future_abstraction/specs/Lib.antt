@@ -1,2 +1,3 @@
 pub mod FutureLaws
 pub mod Futures
+pub mod Signatures

@@ -3,7 +3,9 @@
 #![tactic(auto)]
 
 mod futures;
+mod laws;
 mod signature;
 mod splitting;
 
 pub use futures::Futures;
+pub use laws::related_by_signature;

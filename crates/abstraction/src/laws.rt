@@ -1,0 +1,8 @@
+//! A law of merged automata. It has no code: it is the contract of a function that does nothing.
+
+ghost use Rattle.abstraction.specs.Signatures.{FactsDetermineWords};
+
+/// Automata with the same facts have the same words once their states of one signature are merged.
+pub fn one_merged_language()
+    ensures { FactsDetermineWords }
+{}
