@@ -60,7 +60,7 @@ fn begin<T: LanguageSystem>(
 {
     match system.start(alloc)? {
         Some(start) => {
-            number(system, found, builder, start)?;
+            number(system, found, builder, start, 0)?;
             Ok(())
         }
         None => Ok(()),
@@ -82,15 +82,35 @@ fn expand<T: LanguageSystem>(
         (T.language system.now) (T.is_state system.now) found.new.keys builder.new (from + 1) []) }
 {
     let successors = system.successors(alloc, &found.as_slice()[from])?;
+    let mut last = from;
     'successors: for (letter, state) in successors {
-        let to = number(system, found, builder, state)?;
+        let to = number(system, found, builder, state, last)?;
         builder.add_edge(from, letter, to)?;
+        last = to;
     }
     Ok(())
 }
 
-/// The number of the state, which is a new one where it was not found before.
+/// The number of the state, which is a new one where it was not found before. The state with the number `last` is looked at first:
+/// neighbouring letters often lead to one state, and then nothing is hashed.
 fn number<T: LanguageSystem>(
+    system: &T,
+    found: &mut IndexSet<T::State>,
+    builder: &mut DfaBuilder,
+    state: T::State,
+    last: usize,
+) -> Result<usize, AllocError>
+    requires { T.is_state system.now state }
+    ensures { IfOk result (Numbers (T.language system.now) found.old.keys found.new.keys builder.old builder.new state) }
+{
+    if last < found.len() && found.as_slice()[last] == state {
+        return Ok(last);
+    }
+    Ok(find(system, found, builder, state)?)
+}
+
+/// The number of the state, which is a new one where it was not found before.
+fn find<T: LanguageSystem>(
     system: &T,
     found: &mut IndexSet<T::State>,
     builder: &mut DfaBuilder,

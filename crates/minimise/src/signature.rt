@@ -1,10 +1,10 @@
 //! What a round of refinement compares states by.
 
-ghost use Rattle.std.specs.Prelude.{◌≡◌, ◌++◌, ◌↔◌, IsTrue};
+ghost use Rattle.std.specs.Prelude.{◌≡◌, ◌↔◌, IsTrue};
 ghost use Rattle.std.specs.Cmp.{partial_equiv_from_equiv};
 ghost use Rattle.std.specs.Hash as fed;
 ghost use Rattle.std.specs.Hash.{same_Alike};
-ghost use Rattle.minimise.specs.Signatures.{same_signature};
+ghost use Rattle.minimise.specs.Signatures.{same_signature, mixed, digest};
 ghost use Rattle.minimise.specs.Refinement.{no_word};
 ghost use Rattle.minimise.specs.SignatureLaws.{same_signature-decides, same_signature-equivalence};
 
@@ -46,6 +46,28 @@ impl Signature {
     {
         self.class == 0 && !self.accepting && self.edges.is_empty()
     }
+
+    /// A number that few other signatures have.
+    fn digest(&self) -> u64
+        ensures { result ≡ digest self.now }
+    {
+        let edges = self.edges.as_slice();
+        let mut value = mixed(self.class as u64, if self.accepting { 1 } else { 0 });
+        'edges: for &(letter, class) in edges {
+            let with_letter = mixed(value, letter as u64);
+            value = mixed(with_letter, class as u64);
+        }
+        value
+    }
+}
+
+/// The value of a polynomial with one part more.
+fn mixed(value: u64, part: u64) -> u64
+    ensures { result ≡ mixed value part }
+{
+    value
+        .wrapping_mul(11_400_714_819_323_198_485)
+        .wrapping_add(part)
 }
 
 impl PartialEq for Signature {
@@ -63,15 +85,11 @@ impl Eq for Signature {
 }
 
 impl Hash for Signature {
-    ghost hash_input = { λ s. fed.usize s.class ++ fed.bool s.accepting ++ fed.slice (λ e. fed.u32 e.0 ++ fed.usize e.1) s.edges };
+    ghost hash_input = { λ s. fed.u64 (digest s) };
 
-    ghost respects_eq = { (same_Alike
-        (λ s. fed.usize s.class ++ fed.bool s.accepting ++ fed.slice (λ e. fed.u32 e.0 ++ fed.usize e.1) s.edges)
-        same_signature-decides).fed };
+    ghost respects_eq = { (same_Alike (λ s. fed.u64 (digest s)) same_signature-decides).fed };
 
     fn hash<H: Hasher>(&self, state: &mut H) {
-        self.class.hash(state);
-        self.accepting.hash(state);
-        self.edges.hash(state);
+        self.digest().hash(state);
     }
 }

@@ -40,6 +40,9 @@ fn is_like_least(
         return Ok(!automaton.accepting(state) && own.is_empty());
     }
     let least = class - 1;
+    if least == state {
+        return Ok(true);
+    }
     if least >= automaton.states() {
         return Ok(false);
     }
