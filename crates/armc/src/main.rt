@@ -1,27 +1,36 @@
-//! The program: it answers the words after its name by one text on standard output and one on standard error.
+//! The program: it answers the words after its name by one text on standard output and one on standard error. Words that are no text,
+//! or do not fit into memory, are answered as want of memory is.
 #![tactic(auto)]
 
 use armc_commands::{Status, run};
-use armc_io::{FileLibrary, NoGate, StreamSink};
+use armc_io::{FileLibrary, NoGate, Sink, StreamSink};
 use std::env;
 use std::process::ExitCode;
 
+/// Tells of want of memory, as the commands do.
+fn out_of_memory<E: Sink>(err: &mut E) -> ExitCode {
+    match err.put(b"armc: out of memory\n") {
+        Ok(()) => ExitCode::from(Status::Memory as u8),
+        Err(_) => ExitCode::from(Status::WriteFault as u8),
+    }
+}
+
 fn main(rt: HostRuntime) -> ExitCode {
+    let mut out = StreamSink::new(rt.stdout());
+    let mut err = StreamSink::new(rt.stderr());
     let mut words = Vec::new(rt.alloc());
     let Ok(arguments) = env::args(&rt) else {
-        return ExitCode::from(Status::Memory as u8);
+        return out_of_memory(&mut err);
     };
     for word in arguments.skip(1) {
         if words.push(word).is_err() {
-            return ExitCode::from(Status::Memory as u8);
+            return out_of_memory(&mut err);
         }
     }
     let Ok(runtime) = rt.clone() else {
-        return ExitCode::from(Status::Memory as u8);
+        return out_of_memory(&mut err);
     };
     let mut library = FileLibrary::new(runtime);
-    let mut out = StreamSink::new(rt.stdout());
-    let mut err = StreamSink::new(rt.stderr());
     let status = run(
         rt.alloc(),
         &rt,
