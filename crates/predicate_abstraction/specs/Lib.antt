@@ -3,5 +3,7 @@ pub mod PredicateLaws
 pub mod Predicates
 pub mod Reversal
 pub mod SharedWords
+pub mod SignatureLaws
+pub mod Signatures
 pub mod Sources
 pub mod Splitting

@@ -56,14 +56,14 @@ leads_within a p letter r leads = elim (cases_lt p (length a.states)) [
 ]
 
 -- a letter leads to a state from which the rest of the word is accepted
-accepts_first : (a : Automaton) (p letter : ℕ) (w : List ℕ) → IsTrue (accepts_from a p (letter ∷ w)) → (r : ℕ) × (target a p letter ≡ Some r) × IsTrue (accepts_from a r w)
+pub accepts_first : (a : Automaton) (p letter : ℕ) (w : List ℕ) → IsTrue (accepts_from a p (letter ∷ w)) → (r : ℕ) × (target a p letter ≡ Some r) × IsTrue (accepts_from a r w)
 accepts_first a p letter w accepts = by (target a p letter) refl
   where
     by : (o : Option ℕ) → target a p letter ≡ o → (r : ℕ) × (target a p letter ≡ Some r) × IsTrue (accepts_from a r w)
     by None e = absurd (false≢true (sym (ap (λ o. elim o as (λ o. Bool) [ None ↦ false | Some q ↦ accepts_from a q w ]) e) ∙ accepts))
     by (Some r) e = (r, e, sym (ap (λ o. elim o as (λ o. Bool) [ None ↦ false | Some q ↦ accepts_from a q w ]) e) ∙ accepts)
 
-accepts_along : (a : Automaton) (p letter r : ℕ) (w : List ℕ) → target a p letter ≡ Some r → IsTrue (accepts_from a r w) → IsTrue (accepts_from a p (letter ∷ w))
+pub accepts_along : (a : Automaton) (p letter r : ℕ) (w : List ℕ) → target a p letter ≡ Some r → IsTrue (accepts_from a r w) → IsTrue (accepts_from a p (letter ∷ w))
 accepts_along a p letter r w leads accepts = ap (λ o. elim o as (λ o. Bool) [ None ↦ false | Some q ↦ accepts_from a q w ]) leads ∙ accepts
 
 -- where a predicate automaton accepts a merged word from a state, it shares a word with the state that was merged, by induction from

@@ -13,8 +13,9 @@ use Rattle.search_history.specs.declared.round.RoundEnd.{RoundEnd}
 use Rattle.search_history.specs.declared.round.RoundEnd.TheVariants.{Closed, MeetsBad, Spent}
 use Rattle.search_history.specs.declared.log.LogEnd.{LogEnd}
 use Rattle.search_history.specs.declared.log.LogEnd.TheVariants as log_end
+use Rattle.fixpoint.proofs.Growth.{merged_keeps}
 use Rattle.refinement.specs.Laws.{LeadsToBad}
-use Rattle.refinement.proofs.RoundLemmas.{merged-keeps, closed-proof}
+use Rattle.refinement.proofs.RoundLemmas.{closed-proof}
 use Rattle.refinement.proofs.DecisionLemmas.{closed-round}
 
 module _ (t : Task) (budget larger : ℕ) (more : budget ≤ larger) where
@@ -87,9 +88,9 @@ module _ (t : Task) (R : Relation) (own : (a : Automaton) (p : ℕ) → R a p p)
   forward-bounded n w in_first bad (spent_before_merging a h) = omega arith
   forward-bounded n w in_first bad (stops a h merged f end) = omega arith
   forward-bounded zero w in_first bad (goes_on {n = first} a h merged f on next rest) =
-      absurd (on.misses w ((merged.language w).1 (merged-keeps t R budget first (own first) 0 w in_first)) bad)
+      absurd (on.misses w ((merged.language w).1 (merged_keeps (R first) first (own first) 0 w in_first)) bad)
   forward-bounded (suc n) w in_first bad (goes_on {n = first} a h merged f on next rest) =
-      let kept = (merged.language w).1 (merged-keeps t R budget first (own first) 0 w in_first) in
+      let kept = (merged.language w).1 (merged_keeps (R first) first (own first) 0 w in_first) in
       let later = forward-bounded n bad.0 ((next.language bad.0).1 (inr (w, kept, bad.1))) bad.2 rest in
       omega (arith, later)
 

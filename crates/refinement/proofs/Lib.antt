@@ -4,4 +4,6 @@ pub mod DecisionLemmas
 pub mod Uniqueness
 pub mod OneVerdict
 pub mod Bounds
+pub mod KeyBounds
+pub mod Exclusion
 pub mod RealRuns

@@ -1,3 +1,5 @@
 pub mod Verdicts
 pub mod Decisions
 pub mod Laws
+pub mod Bounds
+pub mod Exclusion

@@ -7,6 +7,9 @@ mod laws;
 mod rounds;
 mod verdict;
 
-pub use laws::{larger_budget_keeps_history, one_history, one_verdict, runs_bound_rounds};
+pub use laws::{
+    keys_bound_rounds, larger_budget_keeps_history, no_language_is_refuted_twice, one_history,
+    one_verdict, runs_bound_rounds,
+};
 pub use rounds::search;
 pub use verdict::Verdict;
