@@ -1,3 +1,4 @@
 mod GraphLemmas
 mod PairLemmas
 mod ImageLemmas
+mod SamePairs

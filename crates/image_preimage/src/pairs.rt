@@ -32,13 +32,15 @@ pub(crate) fn expand(
     ensures { OnOk result (Expands t.now a.now found.old.keys found.new.keys builder.old builder.new from) }
 {
     let pair = pair_at(found, from);
+    let mut last = from;
     'edges: for edge in t.edges(pair.left) {
-        follow(t, a, found, builder, from, pair, *edge)?;
+        follow(t, a, found, builder, from, pair, *edge, &mut last)?;
     }
     Ok(())
 }
 
 /// Adds the edge of the pair to which an edge of its left state leads, where its right state goes on with the letter that is read.
+/// `last` is the number of the pair to which the last edge led, which is looked at first.
 fn follow(
     t: &Transducer,
     a: &Dfa,
@@ -47,6 +49,7 @@ fn follow(
     from: usize,
     pair: Pair,
     edge: (Label, usize),
+    last: &mut usize,
 ) -> Result<(), AllocError>
     requires in_range { IsEdge t.now.letters (length t.now.states) edge }
     requires is_edge { Contains (edges_of t.now.states pair.left) edge }
@@ -59,14 +62,35 @@ fn follow(
             left: edge.1,
             right,
         };
-        let to = number(t, a, found, builder, next)?;
+        let to = number(t, a, found, builder, next, *last)?;
         builder.edge(from, edge.0.write, to)?;
+        *last = to;
     }
     Ok(())
 }
 
-/// The number of the pair, which is a new one where it was not found before.
+/// The number of the pair, which is a new one where it was not found before. The pair with the number `last` is looked at first:
+/// neighbouring edges often lead to one pair, and then nothing is hashed.
 pub(crate) fn number(
+    t: &Transducer,
+    a: &Dfa,
+    found: &mut IndexSet<Pair>,
+    builder: &mut NfaBuilder,
+    pair: Pair,
+    last: usize,
+) -> Result<usize, AllocError>
+    requires in_range { pair.right < length a.now.states }
+    requires reached { IsReached t.now a.now found.old.keys builder.old }
+    ensures { IfOk result (Numbers t.now a.now found.old.keys found.new.keys builder.old builder.new pair) }
+{
+    if last < found.len() && pair_at(found, last) == pair {
+        return Ok(last);
+    }
+    Ok(find(t, a, found, builder, pair)?)
+}
+
+/// The number of the pair, which is a new one where it was not found before.
+fn find(
     t: &Transducer,
     a: &Dfa,
     found: &mut IndexSet<Pair>,

@@ -1,25 +1,10 @@
-use Rattle.std.proofs.Common.{rules, ◌≡◌, ◌&&◌, true, sym, ◌∙◌}
-use Rattle.word_automata.specs.Path.{is_accepting}
-use Rattle.image_preimage.specs.declared.pairs.Pair.{Pair}
-use Rattle.image_preimage.specs.contracts.pairs.PairPartialEq.TheImpl.{eq-value}
-use Rattle.image_preimage.proofs.PairLemmas.{and-true, and-false, Numbers-new}
+use Rattle.std.proofs.Common.{◌≡◌, refl, sym, subst, ◌∙◌, slice_get, Some}
+use Rattle.image_preimage.proofs.SamePairs.{same_pair}
 use Rattle.image_preimage.proofs.pairs.number.Goals as goal
-use Rattle.image_preimage.proofs.pairs.number.Goals.{then-is_accepting, else-is_accepting}
 
-same : (x y : Pair) → eq-value.it x y ≡ true → x ≡ y
-same x y e = search rules
-
-pub returns-in_ok-state : goal.returns-in_ok-state
-returns-in_ok-state c =
-    let left = is_accepting c.args.t.now.states c.args.pair.left in
-    let right = is_accepting c.args.a.now.states c.args.pair.right in
-    let flag = c.if-is_accepting.accepting in
-    let flag_is : flag ≡ (left && right) = elim c.if-is_accepting.branch [
-      | then-is_accepting w ↦ and-true left right flag (sym c.is_accepting.ensures ∙ w.if-is_accepting.true)
-          (w.accepting-is ∙ w.accepting-accepting.ensures)
-      | else-is_accepting w ↦ and-false left right flag (sym c.is_accepting.ensures ∙ w.if-is_accepting.false)
-          (w.accepting-is ∙ w.if-is_accepting.false)
-    ] in
-    Numbers-new c.args.t.now c.args.a.now c.args.found.now.keys c.args.builder.now c.requires.reached c.args.pair eq-value.it same
-    c.insert_full.new.self.keys c.in_ok-number.number c.in_ok-number.ensures.keys c.in_ok-number.ensures.stored flag c.state.new.self
-    (sym c.if-is_new.true ∙ c.in_ok-number.ensures.added) flag_is c.requires.in_range c.in_ok-state.ensures.ok
+pub returns-then-eq : goal.returns-then-eq
+returns-then-eq c = record {
+  reached = c.requires.reached;
+  grows = record { pairs = λ i pair at. at; moves = λ i move is. is; same_starts = refl };
+  at = subst (λ pair. slice_get c.args.found.now.keys c.args.last ≡ Some pair) (same_pair c.pair_at.result c.args.pair (sym c.eq.ensures ∙ c.if-eq.true)) c.pair_at.ensures;
+}
