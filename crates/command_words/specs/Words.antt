@@ -1,5 +1,5 @@
 -- Which words mean which command, and with which settings.
-use Rattle.std.specs.Prelude.{◌<◌, ◌≤◌, ◌+◌, ◌-◌, ◌*◌, ◌==◌, ◌&&◌, ℕ, Bool, true, false, not, List, [], ◌∷◌, map, length, codes, bytes_eq, nat_lt, nat_le, Option, Some, None, option_map, option_and_then, if◌then◌else◌}
+use Rattle.std.specs.Prelude.{◌<◌, ◌≤◌, ◌+◌, ◌-◌, ◌*◌, ◌==◌, ◌&&◌, ℕ, Bool, true, false, not, List, [], ◌∷◌, map, length, codes, bytes_eq, nat_lt, nat_le, Option, Some, None, option_map, option_and_then, is_some, find, if◌then◌else◌}
 use Rattle.std.specs.List.{list_any, before_first, after_first}
 use Rattle.std.specs.Str.{all_ascii_digits}
 use Rattle.command_words.specs.declared.Command.{Command as CommandWords}
@@ -22,6 +22,9 @@ pub data Command : Type 0 where
 
 abbrev pub most_bound : ℕ
 most_bound = 64
+
+abbrev pub default_budget : ℕ
+default_budget = 100000
 
 abbrev pub most_budget : ℕ
 most_budget = 1000000
@@ -79,72 +82,80 @@ kind_of [] = plain
 kind_of (a ∷ []) = plain
 kind_of (a ∷ (b ∷ rest)) = if a == 45 then (if b == 45 then kind_of_long rest else short) else plain
 
--- ---- what the words after the command's name say, in order
+-- ---- what the words after the command's name bind
 
-pub data Item : Type 0 where
-  positional : List ℕ → Item
-  valued : List ℕ → List ℕ → Item
-  flag : List ℕ → Item
+-- the form of a command: the full names of its options with a value and without, and the names of its positional words in order
+pub record Form : Type 0 where
+  pub valued : List (List ℕ)
+  pub flags : List (List ℕ)
+  pub positionals : List (List ℕ)
 
--- the full names of a command's options: those with a value, and those without
-pub record Options : Type 0 where
-  pub valued_names : List (List ℕ)
-  pub flag_names : List (List ℕ)
+-- a name of the form with what the words give it
+pub record Binding : Type 0 where
+  pub name : List ℕ
+  pub value : List ℕ
 
 abbrev pub is_among : List ℕ → List (List ℕ) → Bool
 is_among name names = list_any (λ n. bytes_eq n name) names
 
-abbrev pub then_items : Item → Option (List Item) → Option (List Item)
-then_items item items = option_map (λ rest. item ∷ rest) items
+abbrev pub then_bound : List ℕ → List ℕ → Option (List Binding) → Option (List Binding)
+then_bound name value bindings = option_map (λ rest. record { name = name; value = value } ∷ rest) bindings
 
--- an option with a value has it after `=`, or it is the next word; one without has none
-abbrev pub items_of_long : Options → List ℕ → Option (List ℕ) → (Option (List ℕ) → Option (List Item)) → Option (List Item)
-items_of_long options name (Some value) rest = if is_among name options.valued_names then then_items (valued name value) (rest None) else None
-items_of_long options name None rest =
-    if is_among name options.valued_names then rest (Some name)
-    else (if is_among name options.flag_names then then_items (flag name) (rest None) else None)
+-- a positional word has the first name that is left
+abbrev pub next_bound : List (List ℕ) → List ℕ → (List (List ℕ) → Option (List Binding)) → Option (List Binding)
+next_bound [] word rest = None
+next_bound (place ∷ places) word rest = then_bound place word (rest places)
 
--- a word where no option waits for its value, or this one does
-abbrev pub items_of_word : Options → Option (List ℕ) → Kind → List ℕ → List (List ℕ) → (Option (List ℕ) → Option (List Item)) → Option (List Item)
-items_of_word options (Some name) plain word words rest = then_items (valued name word) (rest None)
-items_of_word options (Some name) _ word words rest = None
-items_of_word options None ends word words rest = Some (map positional words)
-items_of_word options None (long name value) word words rest = items_of_long options name value rest
-items_of_word options None short word words rest = None
-items_of_word options None plain word words rest = then_items (positional word) (rest None)
+-- after `--` each word is positional
+abbrev pub bindings_of_positionals : List (List ℕ) → List (List ℕ) → Option (List Binding)
+bindings_of_positionals places [] = Some []
+bindings_of_positionals places (word ∷ words) = next_bound places word (λ left. bindings_of_positionals left words)
 
--- the items of the words, where no option waits for its value, or this one does; None where a word is refused
-abbrev pub items_of : Options → Option (List ℕ) → List (List ℕ) → Option (List Item)
-items_of options None [] = Some []
-items_of options (Some name) [] = None
-items_of options waiting (word ∷ words) = items_of_word options waiting (kind_of word) word words (λ next. items_of options next words)
+-- an option with a value has it after `=`, or it is the next word; one without has none, and stands for the value `true`
+abbrev pub bindings_of_long : Form → List ℕ → Option (List ℕ) → (Option (List ℕ) → Option (List Binding)) → Option (List Binding)
+bindings_of_long form name (Some value) rest = if is_among name form.valued then then_bound name value (rest None) else None
+bindings_of_long form name None rest =
+    if is_among name form.valued then rest (Some name)
+    else (if is_among name form.flags then then_bound name (codes "true") (rest None) else None)
 
--- ---- what the items give
+-- one word, where no option waits for its value, or this one does; then the words after it
+abbrev pub bindings_of_word :
+    Form → List (List ℕ) → Option (List ℕ) → Kind → List ℕ → List (List ℕ) → (List (List ℕ) → Option (List ℕ) → Option (List Binding)) → Option (List Binding)
+bindings_of_word form places (Some name) plain word words rest = then_bound name word (rest places None)
+bindings_of_word form places (Some name) _ word words rest = None
+bindings_of_word form places None ends word words rest = bindings_of_positionals places words
+bindings_of_word form places None (long name value) word words rest = bindings_of_long form name value (rest places)
+bindings_of_word form places None short word words rest = None
+bindings_of_word form places None plain word words rest = next_bound places word (λ left. rest left None)
 
-abbrev pub positional_of : Item → List (List ℕ) → List (List ℕ)
-positional_of (positional word) rest = word ∷ rest
-positional_of _ rest = rest
+-- what the words bind, in order, where these names of positional words are left; None where a word is refused
+abbrev pub bindings_of : Form → List (List ℕ) → Option (List ℕ) → List (List ℕ) → Option (List Binding)
+bindings_of form places None [] = Some []
+bindings_of form places (Some name) [] = None
+bindings_of form places waiting (word ∷ words) =
+    bindings_of_word form places waiting (kind_of word) word words (λ left next. bindings_of form left next words)
 
--- the positional words
-abbrev pub positionals : List Item → List (List ℕ)
-positionals [] = []
-positionals (item ∷ items) = positional_of item (positionals items)
+-- no name is bound twice, and none of these is bound
+abbrev pub is_once : List (List ℕ) → List Binding → Bool
+is_once bound [] = true
+is_once bound (binding ∷ bindings) = not (is_among binding.name bound) && is_once (binding.name ∷ bound) bindings
 
-abbrev pub value_of : List ℕ → Item → List (List ℕ) → List (List ℕ)
-value_of name (valued n value) rest = if bytes_eq n name then value ∷ rest else rest
-value_of name (flag n) rest = if bytes_eq n name then [] ∷ rest else rest
-value_of name (positional word) rest = rest
+-- what the words bind, where each option stands at most once
+abbrev pub bound_once : Option (List Binding) → Option (List Binding)
+bound_once None = None
+bound_once (Some bindings) = if is_once [] bindings then Some bindings else None
 
--- the values that stand for the option, in order; a use of an option without a value has the empty one
-abbrev pub values_of : List ℕ → List Item → List (List ℕ)
-values_of name [] = []
-values_of name (item ∷ items) = value_of name item (values_of name items)
+abbrev pub bindings : Form → List (List ℕ) → Option (List Binding)
+bindings form words = bound_once (bindings_of form form.positionals None words)
 
--- what an option that stands at most once gives: its default, or what its value is read as
-abbrev pub given : {X : Type 0} → X → (List ℕ → Option X) → List (List ℕ) → Option X
-given default read [] = Some default
-given default read (value ∷ []) = read value
-given default read (value ∷ (second ∷ more)) = None
+-- the value of the name
+abbrev pub value_of : List ℕ → List Binding → Option (List ℕ)
+value_of name bindings = option_map (λ (binding : Binding). binding.value) (find (λ (binding : Binding). bytes_eq binding.name name) bindings)
+
+-- what an option gives: its default, or what its value is read as
+abbrev pub given : {X : Type 0} → X → (List ℕ → Option X) → Option (List ℕ) → Option X
+given default read None = Some default
+given default read (Some value) = read value
 
 -- ---- values
 
@@ -170,71 +181,75 @@ start_of word = if bytes_eq word (codes "bad") then Some Bad else (if bytes_eq w
 
 -- ---- commands
 
-abbrev pub no_options : Options
-no_options = record { valued_names = []; flag_names = [] }
-
-abbrev pub check_options : Options
-check_options = record {
-  valued_names = codes "method" ∷ (codes "start" ∷ (codes "bound" ∷ (codes "budget" ∷ (codes "workers" ∷ []))));
-  flag_names = codes "report" ∷ [];
+abbrev pub check_form : Form
+check_form = record {
+  valued = codes "method" ∷ (codes "start" ∷ (codes "bound" ∷ (codes "budget" ∷ (codes "workers" ∷ []))));
+  flags = codes "report" ∷ [];
+  positionals = codes "FILE" ∷ [];
 }
 
-abbrev pub generate_options : Options
-generate_options = record { valued_names = codes "workers" ∷ []; flag_names = [] }
+abbrev pub verify_form : Form
+verify_form = record { valued = []; flags = []; positionals = codes "FILE" ∷ (codes "CERT" ∷ []) }
 
-abbrev pub method_given : List Item → Option Method
-method_given items = given Predicates method_of (values_of (codes "method") items)
+abbrev pub show_form : Form
+show_form = record { valued = []; flags = []; positionals = codes "FILE" ∷ [] }
 
-abbrev pub start_given : List Item → Option Start
-start_given items = given Bad start_of (values_of (codes "start") items)
+abbrev pub steps_form : Form
+steps_form = record { valued = []; flags = []; positionals = codes "FILE" ∷ (codes "CONFIGURATION" ∷ []) }
 
-abbrev pub bound_given : List Item → Option ℕ
-bound_given items = given 0 (number_in 0 most_bound) (values_of (codes "bound") items)
+abbrev pub generate_form : Form
+generate_form = record { valued = codes "workers" ∷ []; flags = []; positionals = codes "N" ∷ [] }
 
-abbrev pub budget_given : List Item → Option ℕ
-budget_given items = given 100000 (number_in 1 most_budget) (values_of (codes "budget") items)
+abbrev pub method_given : List Binding → Option Method
+method_given bindings = given Predicates method_of (value_of (codes "method") bindings)
 
-abbrev pub workers_given : List Item → Option ℕ
-workers_given items = given 1 (number_in 1 most_workers) (values_of (codes "workers") items)
+abbrev pub start_given : List Binding → Option Start
+start_given bindings = given Bad start_of (value_of (codes "start") bindings)
 
-abbrev pub report_given : List Item → Option Bool
-report_given items = given false (λ _. Some true) (values_of (codes "report") items)
+abbrev pub bound_given : List Binding → Option ℕ
+bound_given bindings = given 0 (number_in 0 most_bound) (value_of (codes "bound") bindings)
+
+abbrev pub budget_given : List Binding → Option ℕ
+budget_given bindings = given default_budget (number_in 1 most_budget) (value_of (codes "budget") bindings)
+
+abbrev pub workers_given : List Binding → Option ℕ
+workers_given bindings = given 1 (number_in 1 most_workers) (value_of (codes "workers") bindings)
+
+abbrev pub settings_from : Option Method → Option Start → Option ℕ → Option ℕ → Option ℕ → Bool → Option Settings
+settings_from (Some method) (Some start) (Some bound) (Some budget) (Some workers) report =
+    Some (record { method = method; start = start; bound = bound; budget = budget; workers = workers; report = report })
+settings_from _ _ _ _ _ report = None
 
 -- the settings, each of which must be given well
-abbrev pub settings_from : Option Method → Option Start → Option ℕ → Option ℕ → Option ℕ → Option Bool → Option Settings
-settings_from method start bound budget workers report =
-    option_and_then (λ method. option_and_then (λ start. option_and_then (λ bound. option_and_then (λ budget. option_and_then (λ workers. option_map (λ report.
-    record { method = method; start = start; bound = bound; budget = budget; workers = workers; report = report })
-    report) workers) budget) bound) start) method
+abbrev pub settings_of : List Binding → Option Settings
+settings_of bindings = settings_from (method_given bindings) (start_given bindings) (bound_given bindings) (budget_given bindings) (workers_given bindings)
+    (is_some (value_of (codes "report") bindings))
 
-abbrev pub settings_of : List Item → Option Settings
-settings_of items =
-    settings_from (method_given items) (start_given items) (bound_given items) (budget_given items) (workers_given items) (report_given items)
+abbrev pub check_of : Option (List ℕ) → Option Settings → Option Command
+check_of (Some file) (Some settings) = Some (check file settings)
+check_of _ _ = None
 
--- the command of exactly one positional word, or of exactly two
-abbrev pub with_one : (List ℕ → Option Command) → List (List ℕ) → Option Command
-with_one command (file ∷ []) = command file
-with_one command _ = None
+abbrev pub two_of : (List ℕ → List ℕ → Command) → Option (List ℕ) → Option (List ℕ) → Option Command
+two_of command (Some file) (Some other) = Some (command file other)
+two_of command _ _ = None
 
-abbrev pub with_two : (List ℕ → List ℕ → Command) → List (List ℕ) → Option Command
-with_two command (file ∷ (other ∷ [])) = Some (command file other)
-with_two command _ = None
+abbrev pub generate_of : Option ℕ → Option ℕ → Option Command
+generate_of (Some number) (Some workers) = Some (generate number workers)
+generate_of _ _ = None
 
-abbrev pub check_of : List Item → Option Command
-check_of items = with_one (λ file. option_map (check file) (settings_of items)) (positionals items)
-
-abbrev pub generate_of : List Item → Option Command
-generate_of items =
-    with_one (λ number. option_and_then (λ number. option_map (generate number) (workers_given items)) (number_in 1 most_generated number)) (positionals items)
+-- the command of this form, from what the words after its name bind
+abbrev pub command_from : Form → (List Binding → Option Command) → List (List ℕ) → Option Command
+command_from form command words = option_and_then command (bindings form words)
 
 -- the command of this name, from the words after it
 abbrev pub command_named : List ℕ → List (List ℕ) → Option Command
 command_named name words =
-    if bytes_eq name (codes "check") then option_and_then check_of (items_of check_options None words)
-    else (if bytes_eq name (codes "verify") then option_and_then (λ items. with_two verify (positionals items)) (items_of no_options None words)
-    else (if bytes_eq name (codes "show") then option_and_then (λ items. with_one (λ file. Some (show file)) (positionals items)) (items_of no_options None words)
-    else (if bytes_eq name (codes "steps") then option_and_then (λ items. with_two steps (positionals items)) (items_of no_options None words)
-    else (if bytes_eq name (codes "gen") then option_and_then generate_of (items_of generate_options None words)
+    if bytes_eq name (codes "check") then command_from check_form (λ b. check_of (value_of (codes "FILE") b) (settings_of b)) words
+    else (if bytes_eq name (codes "verify") then command_from verify_form (λ b. two_of verify (value_of (codes "FILE") b) (value_of (codes "CERT") b)) words
+    else (if bytes_eq name (codes "show") then command_from show_form (λ b. option_map show (value_of (codes "FILE") b)) words
+    else (if bytes_eq name (codes "steps") then command_from steps_form (λ b. two_of steps (value_of (codes "FILE") b) (value_of (codes "CONFIGURATION") b)) words
+    else (if bytes_eq name (codes "gen")
+    then command_from generate_form (λ b. generate_of (option_and_then (number_in 1 most_generated) (value_of (codes "N") b)) (workers_given b)) words
     else None))))
 
 abbrev pub is_empty : List ℕ → Bool
