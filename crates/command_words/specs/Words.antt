@@ -1,34 +1,163 @@
--- Which words mean which command.
-use Rattle.std.specs.Prelude.{◌<◌, ◌≤◌, ◌+◌, ◌-◌, ◌*◌, ◌==◌, ◌&&◌, ◌||◌, ℕ, Bool, false, not, List, [], ◌∷◌, length, codes, bytes_eq, nat_lt, Option, Some, None, if◌then◌else◌}
+-- Which words mean which command, and with which settings.
+use Rattle.std.specs.Prelude.{◌<◌, ◌≤◌, ◌+◌, ◌-◌, ◌*◌, ◌==◌, ◌&&◌, ℕ, Bool, true, false, not, List, [], ◌∷◌, length, codes, bytes_eq, nat_lt, nat_le, Option, Some, None, option_map, option_and_then, find, if◌then◌else◌}
+use Rattle.std.specs.List.{list_any, before_first, after_first}
 use Rattle.std.specs.Str.{all_ascii_digits}
 use Rattle.command_words.specs.declared.Command.{Command as CommandWords}
 use Rattle.command_words.specs.declared.Command.TheVariants as words
+use Rattle.command_words.specs.declared.Method.{Method}
+use Rattle.command_words.specs.declared.Method.TheVariants.{Predicates, Length}
+use Rattle.command_words.specs.declared.Settings.{Settings}
+use Rattle.command_words.specs.declared.Start.{Start}
+use Rattle.command_words.specs.declared.Start.TheVariants.{Bad, Nothing}
 
 -- a command with the names of its texts
 pub data Command : Type 0 where
   verify : List ℕ → List ℕ → Command
   steps : List ℕ → List ℕ → Command
   show : List ℕ → Command
-  check : List ℕ → ℕ → Command
+  check : List ℕ → Settings → Command
+  generate : ℕ → ℕ → Command
 
--- the budget of a search where the words give none, and the greatest one
+-- ---- the ranges of numbers
+
+abbrev pub most_bound : ℕ
+most_bound = 64
+
 abbrev pub default_budget : ℕ
 default_budget = 100000
 
 abbrev pub most_budget : ℕ
 most_budget = 1000000
 
+abbrev pub most_workers : ℕ
+most_workers = 16
+
+abbrev pub most_generated : ℕ
+most_generated = 255
+
+pub record IsWorkers (workers : ℕ) : Type 0 where
+  pub workers_low : 0 < workers
+  pub workers_high : workers ≤ most_workers
+
+pub record IsSettings (settings : Settings) : Type 0 where
+  pub bound_high : settings.bound ≤ most_bound
+  pub budget_low : 0 < settings.budget
+  pub budget_high : settings.budget ≤ most_budget
+  pub workers_in : IsWorkers settings.workers
+
+pub record IsGenerate (number workers : ℕ) : Type 0 where
+  pub number_low : 0 < number
+  pub number_high : number ≤ most_generated
+  pub workers_in : IsWorkers workers
+
 -- the numbers of the command are in range
 abbrev pub IsInRange : Command → Type 0
 IsInRange (verify file certificate) = Unit {0}
 IsInRange (steps file configuration) = Unit {0}
 IsInRange (show file) = Unit {0}
-IsInRange (check file budget) = (0 < budget) × (budget ≤ most_budget)
+IsInRange (check file settings) = IsSettings settings
+IsInRange (generate number workers) = IsGenerate number workers
 
--- whether a word names a text: it is `-` alone, or it is not empty and does not begin with `-`
-abbrev pub is_plain : List ℕ → Bool
-is_plain [] = false
-is_plain (b ∷ bytes) = not (b == 45) || (length bytes == 0)
+-- ---- what one word is
+
+-- `--` ends the options; `--x` and `--x=V` name an option; any other word that begins with `-` and has more bytes is a short one; the rest, `-` among it,
+-- is positional
+pub data Kind : Type 0 where
+  ends : Kind
+  long : List ℕ → Option (List ℕ) → Kind
+  short : Kind
+  plain : Kind
+
+abbrev pub is_equals : ℕ → Bool
+is_equals b = b == 61
+
+-- what follows `--`: the name, which ends before the first `=`, and what follows that
+abbrev pub kind_of_long : List ℕ → Kind
+kind_of_long [] = ends
+kind_of_long (b ∷ rest) =
+    long (before_first is_equals (b ∷ rest)) (if list_any is_equals (b ∷ rest) then Some (after_first is_equals (b ∷ rest)) else None)
+
+abbrev pub kind_of : List ℕ → Kind
+kind_of [] = plain
+kind_of (a ∷ []) = plain
+kind_of (a ∷ (b ∷ rest)) = if a == 45 then (if b == 45 then kind_of_long rest else short) else plain
+
+-- ---- what the words after the command's name bind
+
+-- the form of a command: the full names of its options with a value and without, and the names of its positional words in order
+pub record Form : Type 0 where
+  pub valued : List (List ℕ)
+  pub flags : List (List ℕ)
+  pub positionals : List (List ℕ)
+
+-- a name of the form with what the words give it
+pub record Binding : Type 0 where
+  pub name : List ℕ
+  pub value : List ℕ
+
+abbrev pub is_among : List ℕ → List (List ℕ) → Bool
+is_among name names = list_any (λ n. bytes_eq n name) names
+
+abbrev pub then_bound : List ℕ → List ℕ → Option (List Binding) → Option (List Binding)
+then_bound name value bindings = option_map (λ rest. record { name = name; value = value } ∷ rest) bindings
+
+-- a positional word has the first name that is left
+abbrev pub next_bound : List (List ℕ) → List ℕ → (List (List ℕ) → Option (List Binding)) → Option (List Binding)
+next_bound [] word rest = None
+next_bound (place ∷ places) word rest = then_bound place word (rest places)
+
+-- after `--` each word is positional
+abbrev pub bindings_of_positionals : List (List ℕ) → List (List ℕ) → Option (List Binding)
+bindings_of_positionals places [] = Some []
+bindings_of_positionals places (word ∷ words) = next_bound places word (λ left. bindings_of_positionals left words)
+
+-- an option with a value has it after `=`, or it is the next word; one without has none, and stands for the value `true`
+abbrev pub bindings_of_long : Form → List ℕ → Option (List ℕ) → (Option (List ℕ) → Option (List Binding)) → Option (List Binding)
+bindings_of_long form name (Some value) rest = if is_among name form.valued then then_bound name value (rest None) else None
+bindings_of_long form name None rest =
+    if is_among name form.valued then rest (Some name)
+    else (if is_among name form.flags then then_bound name (codes "true") (rest None) else None)
+
+-- one word, where no option waits for its value, or this one does; then the words after it
+abbrev pub bindings_of_word :
+    Form → List (List ℕ) → Option (List ℕ) → Kind → List ℕ → List (List ℕ) → (List (List ℕ) → Option (List ℕ) → Option (List Binding)) → Option (List Binding)
+bindings_of_word form places (Some name) plain word words rest = then_bound name word (rest places None)
+bindings_of_word form places (Some name) _ word words rest = None
+bindings_of_word form places None ends word words rest = bindings_of_positionals places words
+bindings_of_word form places None (long name value) word words rest = bindings_of_long form name value (rest places)
+bindings_of_word form places None short word words rest = None
+bindings_of_word form places None plain word words rest = next_bound places word (λ left. rest left None)
+
+-- what the words bind, in order, where these names of positional words are left; None where a word is refused
+abbrev pub bindings_of : Form → List (List ℕ) → Option (List ℕ) → List (List ℕ) → Option (List Binding)
+bindings_of form places None [] = Some []
+bindings_of form places (Some name) [] = None
+bindings_of form places waiting (word ∷ words) =
+    bindings_of_word form places waiting (kind_of word) word words (λ left next. bindings_of form left next words)
+
+-- no name is bound twice, and none of these is bound
+abbrev pub is_once : List (List ℕ) → List Binding → Bool
+is_once bound [] = true
+is_once bound (binding ∷ bindings) = not (is_among binding.name bound) && is_once (binding.name ∷ bound) bindings
+
+-- what the words bind, where each option stands at most once
+abbrev pub bound_once : Option (List Binding) → Option (List Binding)
+bound_once None = None
+bound_once (Some bindings) = if is_once [] bindings then Some bindings else None
+
+abbrev pub bindings : Form → List (List ℕ) → Option (List Binding)
+bindings form words = bound_once (bindings_of form form.positionals None words)
+
+-- the value of the name
+abbrev pub value_of : List ℕ → List Binding → Option (List ℕ)
+value_of name bindings = option_map (λ (binding : Binding). binding.value) (find (λ (binding : Binding). bytes_eq binding.name name) bindings)
+
+-- what an option gives: its default, or what its value is read as
+abbrev pub given : {X : Type 0} → X → (List ℕ → Option X) → Option (List ℕ) → Option X
+given default read None = Some default
+given default read (Some value) = read value
+
+-- ---- values
 
 -- the number that digits after those of n write in decimal notation
 abbrev pub number_after : ℕ → List ℕ → ℕ
@@ -39,41 +168,121 @@ number_after n (b ∷ digits) = number_after (10 * n + (b - 48)) digits
 abbrev pub is_number : List ℕ → Bool
 is_number word = nat_lt 0 (length word) && (nat_lt (length word) 8 && all_ascii_digits word)
 
--- the budget that the word gives: a number from 1 to 1,000,000
-abbrev pub budget_of : List ℕ → Option ℕ
-budget_of word =
-    if is_number word && (nat_lt 0 (number_after 0 word) && nat_lt (number_after 0 word) (most_budget + 1)) then Some (number_after 0 word) else None
+-- the number that the word gives, from `least` to `most`
+abbrev pub number_in : ℕ → ℕ → List ℕ → Option ℕ
+number_in least most word =
+    if is_number word && (nat_le least (number_after 0 word) && nat_le (number_after 0 word) most) then Some (number_after 0 word) else None
 
--- `check FILE`, and `check FILE --budget N`
-abbrev pub check_of : List ℕ → Option ℕ → Option Command
-check_of file None = None
-check_of file (Some budget) = Some (check file budget)
+abbrev pub method_of : List ℕ → Option Method
+method_of word = if bytes_eq word (codes "predicates") then Some Predicates else (if bytes_eq word (codes "length") then Some Length else None)
 
--- the command of one word on a protocol
-abbrev pub command_alone : List ℕ → List ℕ → Option Command
-command_alone word file =
-    if bytes_eq word (codes "show") then Some (show file) else (if bytes_eq word (codes "check") then Some (check file default_budget) else None)
+abbrev pub start_of : List ℕ → Option Start
+start_of word = if bytes_eq word (codes "bad") then Some Bad else (if bytes_eq word (codes "none") then Some Nothing else None)
 
--- the command of this word on a protocol and another text
-abbrev pub command_on : List ℕ → List ℕ → List ℕ → Option Command
-command_on word file other =
-    if bytes_eq word (codes "verify") then Some (verify file other)
-    else (if bytes_eq word (codes "steps") then Some (steps file other) else None)
+-- ---- commands
 
--- the command that the words mean: `show FILE`, `check FILE`, `check FILE --budget N`, `verify FILE CERT` or `steps FILE CONFIGURATION`, where FILE, CERT
--- and CONFIGURATION are plain
+abbrev pub check_form : Form
+check_form = record {
+  valued = codes "method" ∷ (codes "start" ∷ (codes "bound" ∷ (codes "budget" ∷ (codes "workers" ∷ []))));
+  flags = codes "report" ∷ [];
+  positionals = codes "FILE" ∷ [];
+}
+
+abbrev pub verify_form : Form
+verify_form = record { valued = []; flags = []; positionals = codes "FILE" ∷ (codes "CERT" ∷ []) }
+
+abbrev pub show_form : Form
+show_form = record { valued = []; flags = []; positionals = codes "FILE" ∷ [] }
+
+abbrev pub steps_form : Form
+steps_form = record { valued = []; flags = []; positionals = codes "FILE" ∷ (codes "CONFIGURATION" ∷ []) }
+
+abbrev pub generate_form : Form
+generate_form = record { valued = codes "workers" ∷ []; flags = []; positionals = codes "N" ∷ [] }
+
+abbrev pub method_given : List Binding → Option Method
+method_given bindings = given Predicates method_of (value_of (codes "method") bindings)
+
+abbrev pub start_given : List Binding → Option Start
+start_given bindings = given Bad start_of (value_of (codes "start") bindings)
+
+abbrev pub bound_given : List Binding → Option ℕ
+bound_given bindings = given 0 (number_in 0 most_bound) (value_of (codes "bound") bindings)
+
+abbrev pub budget_given : List Binding → Option ℕ
+budget_given bindings = given default_budget (number_in 1 most_budget) (value_of (codes "budget") bindings)
+
+abbrev pub workers_given : List Binding → Option ℕ
+workers_given bindings = given 1 (number_in 1 most_workers) (value_of (codes "workers") bindings)
+
+-- whether the report is asked for
+abbrev pub is_true : Option (List ℕ) → Bool
+is_true None = false
+is_true (Some value) = bytes_eq value (codes "true")
+
+abbrev pub settings_from : Option Method → Option Start → Option ℕ → Option ℕ → Option ℕ → Bool → Option Settings
+settings_from (Some method) (Some start) (Some bound) (Some budget) (Some workers) report =
+    Some (record { method = method; start = start; bound = bound; budget = budget; workers = workers; report = report })
+settings_from _ _ _ _ _ report = None
+
+-- the settings, each of which must be given well
+abbrev pub settings_of : List Binding → Option Settings
+settings_of bindings = settings_from (method_given bindings) (start_given bindings) (bound_given bindings) (budget_given bindings) (workers_given bindings)
+    (is_true (value_of (codes "report") bindings))
+
+abbrev pub check_of : Option (List ℕ) → Option Settings → Option Command
+check_of (Some file) (Some settings) = Some (check file settings)
+check_of _ _ = None
+
+abbrev pub two_of : (List ℕ → List ℕ → Command) → Option (List ℕ) → Option (List ℕ) → Option Command
+two_of command (Some file) (Some other) = Some (command file other)
+two_of command _ _ = None
+
+abbrev pub generate_of : Option ℕ → Option ℕ → Option Command
+generate_of (Some number) (Some workers) = Some (generate number workers)
+generate_of _ _ = None
+
+-- the command from what the words after its name bind
+abbrev pub check_bound : List Binding → Option Command
+check_bound bound = check_of (value_of (codes "FILE") bound) (settings_of bound)
+
+abbrev pub verify_bound : List Binding → Option Command
+verify_bound bound = two_of verify (value_of (codes "FILE") bound) (value_of (codes "CERT") bound)
+
+abbrev pub show_bound : List Binding → Option Command
+show_bound bound = option_map show (value_of (codes "FILE") bound)
+
+abbrev pub steps_bound : List Binding → Option Command
+steps_bound bound = two_of steps (value_of (codes "FILE") bound) (value_of (codes "CONFIGURATION") bound)
+
+abbrev pub generate_bound : List Binding → Option Command
+generate_bound bound = generate_of (option_and_then (number_in 1 most_generated) (value_of (codes "N") bound)) (workers_given bound)
+
+abbrev pub command_from : Form → (List Binding → Option Command) → List (List ℕ) → Option Command
+command_from form command words = option_and_then command (bindings form words)
+
+-- the command of this name, from the words after it
+abbrev pub command_named : List ℕ → List (List ℕ) → Option Command
+command_named name words =
+    if bytes_eq name (codes "check") then command_from check_form check_bound words
+    else (if bytes_eq name (codes "verify") then command_from verify_form verify_bound words
+    else (if bytes_eq name (codes "show") then command_from show_form show_bound words
+    else (if bytes_eq name (codes "steps") then command_from steps_form steps_bound words
+    else (if bytes_eq name (codes "gen") then command_from generate_form generate_bound words
+    else None))))
+
+abbrev pub is_empty : List ℕ → Bool
+is_empty word = length word == 0
+
+-- the command that the words mean: the first word names it; no word is empty
 abbrev pub command_of : List (List ℕ) → Option Command
 command_of [] = None
-command_of (word ∷ []) = None
-command_of (word ∷ (file ∷ [])) = if is_plain file then command_alone word file else None
-command_of (word ∷ (file ∷ (other ∷ []))) = if is_plain file && is_plain other then command_on word file other else None
-command_of (word ∷ (file ∷ (option ∷ (number ∷ [])))) =
-    if bytes_eq word (codes "check") && (is_plain file && bytes_eq option (codes "--budget")) then check_of file (budget_of number) else None
-command_of (word ∷ (file ∷ (other ∷ (extra ∷ (further ∷ more))))) = None
+command_of (name ∷ words) = if list_any is_empty (name ∷ words) then None else command_named name words
 
 -- the command that a value of the program stands for
 abbrev pub said : CommandWords → Command
 said (words.Verify file certificate) = verify file.now certificate.now
 said (words.Steps file configuration) = steps file.now configuration.now
 said (words.Show file) = show file.now
-said (words.Check file budget) = check file.now budget
+said (words.Check file settings) = check file.now settings
+said (words.Generate number workers) = generate number workers

@@ -1,6 +1,4 @@
-use Rattle.std.proofs.Common.{◌≡◌, ◌∙◌, ℕ, List, Bool, length, subst, sym, arith}
-use Rattle.std.specs.List.{list_all}
-use Rattle.std.specs.Char.{is_ascii_digit}
+use Rattle.std.proofs.Common.{◌≡◌, ◌∙◌, ℕ, List, subst, sym, arith}
 use Rattle.command_words.specs.Words.{is_number}
 use Rattle.command_words.proofs.Digits.{is_number-by, some_byte}
 use Rattle.command_words.proofs.is_number.Goals as goal

@@ -1,5 +1,4 @@
-use Rattle.std.proofs.Common.{◌≡◌, ◌∙◌, sym}
-use Rattle.command_words.specs.Words.{number_after}
+use Rattle.std.proofs.Common.{◌∙◌, sym}
 use Rattle.command_words.proofs.Digits.{parsed}
 use Rattle.command_words.proofs.number_of.Goals as goal
 
