@@ -1,3 +1,6 @@
 pub mod StepLemmas
 pub mod ProofLemmas
+pub mod Shown
 pub mod OneAnswer
+pub mod Budgets
+pub mod RunBounds

@@ -7,8 +7,6 @@ use Rattle.protocol_model.specs.System.{SystemData}
 use Rattle.protocol_model.specs.Words.{automata_letters, IsBadWord}
 use Rattle.certificate_checker.proofs.WordFacts.{word_of-injective}
 use Rattle.certificate.specs.RunText.{unsafe_text}
-use Rattle.safety_problem.specs.Task.{IsAutomatonOf}
-use Rattle.predicate_abstraction.specs.Predicates.{predicates}
 use Rattle.parallel_post.specs.SystemTask.{task_of}
 use Rattle.refinement.specs.Verdicts.{IsVerdict, log_in}
 use Rattle.refinement.specs.declared.verdict.Verdict.{Verdict}
@@ -16,8 +14,9 @@ use Rattle.refinement.specs.declared.verdict.Verdict.TheVariants.{Safe, Unsafe, 
 use Rattle.refinement.proofs.Uniqueness.{automaton-unique}
 use Rattle.refinement.proofs.OneVerdict.{verdict-unique}
 use Rattle.protocol_search.specs.Runs.{IsLeastRule, IsWordOf, AreStepsThrough, IsRunThrough}
-use Rattle.protocol_search.specs.Checks.{by_predicates, end_of, IsVerdictText, IsCheck}
-use Rattle.protocol_search.specs.OneCheck.{CheckIsDetermined}
+use Rattle.protocol_search.specs.Methods.{method_of, first_key}
+use Rattle.protocol_search.specs.Checks.{end_of, IsVerdictText, IsVerdictOf, IsCheck}
+use Rattle.protocol_search.specs.OneCheck.{VerdictIsDetermined, CheckIsDetermined}
 
 same-configuration : (s : SystemData) (w : List ℕ) (c d : Configuration) → IsWordOf s w c → IsWordOf s w d → c ≡ d
 same-configuration s w c d h k = word_of-injective s c d h.0 k.0 (sym h.1 ∙ k.1)
@@ -48,17 +47,21 @@ run-once s (w ∷ words) one other h k =
     let steps = steps-once s one.first words one.steps other.steps h.1 (subst (λ c. AreStepsThrough s c words other.steps) (sym first) k.1) in
     λ i. record { first = first i; steps = steps i }
 
-text-once : (s : SystemData) (v : Verdict) (one other : List ℕ) → IsVerdictText s v one → IsVerdictText s v other → one ≡ other
+pub text-once : (s : SystemData) (v : Verdict) (one other : List ℕ) → IsVerdictText s v one → IsVerdictText s v other → one ≡ other
 text-once s (Safe proof log) one other h k = h ∙ sym k
 text-once s (Unsafe words log) one other h k =
     let run = run-once s words h.0 k.0 h.1 k.1 in h.2.spelled ∙ ap (unsafe_text s) run ∙ sym k.2.spelled
 text-once s (Unknown log) one other h k = h ∙ sym k
 
-pub check-once : CheckIsDetermined
-check-once s budget one other h k =
+pub verdict-once : VerdictIsDetermined
+verdict-once s first budget v w h k =
     let bad = automaton-unique (automata_letters s) (IsBadWord s) h.bad k.bad h.is_bad k.is_bad in
-    let moved = subst (λ b. IsVerdict (task_of s) by_predicates (predicates (b ∷ [])) budget h.verdict) bad h.is_verdict in
-    let same = verdict-unique (task_of s) by_predicates budget (predicates (k.bad ∷ [])) h.verdict k.verdict moved k.is_verdict in
+    let moved = subst (λ b. IsVerdict (task_of s) (method_of first) (first_key first b) budget v) bad h.is_verdict in
+    verdict-unique (task_of s) (method_of first) budget (first_key first k.bad) v w moved k.is_verdict
+
+pub check-once : CheckIsDetermined
+check-once s first budget one other h k =
+    let same = verdict-once s first budget h.verdict k.verdict h.is_verdict k.is_verdict in
     let text = text-once s k.verdict one.text other.text (subst (λ v. IsVerdictText s v one.text) same h.told.text_is) k.told.text_is in
     let end = h.told.end_is ∙ ap end_of same ∙ sym k.told.end_is in
     let log = h.told.log_is ∙ ap log_in same ∙ sym k.told.log_is in

@@ -1,3 +1,5 @@
 pub mod Runs
+pub mod Methods
 pub mod Checks
 pub mod OneCheck
+pub mod SearchLaws

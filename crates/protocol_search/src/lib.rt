@@ -4,9 +4,11 @@
 
 mod check;
 mod checked;
+mod first;
 mod law;
 mod runs;
 
-pub use check::check_system;
+pub use check::{check_system, search_system};
 pub use checked::{CheckEnd, Checked};
-pub use law::one_check;
+pub use first::FirstAbstraction;
+pub use law::{bad_runs_bound_rounds, larger_budget_keeps_answer, one_check, one_verdict};
