@@ -1,5 +1,5 @@
 -- An answer that decides a system is the answer for every larger budget.
-use Rattle.std.proofs.Common.{◌≡◌, ◌≢◌, ◌≤◌, ◌∙◌, ℕ, List, None, refl, sym, ap, subst, map}
+use Rattle.std.proofs.Common.{◌≡◌, ◌≢◌, ◌≤◌, ◌∙◌, ℕ, List, None, refl, sym, ap, subst}
 use Rattle.protocol_model.specs.System.{SystemData}
 use Rattle.safety_problem.specs.Task.{Task}
 use Rattle.abstraction.specs.Merging.{Key}
@@ -12,8 +12,8 @@ use Rattle.refinement.specs.declared.verdict.Verdict.{Verdict}
 use Rattle.refinement.specs.declared.verdict.Verdict.TheVariants.{Safe, Unsafe, Unknown}
 use Rattle.refinement.proofs.Bounds.{history-larger}
 use Rattle.protocol_search.specs.Methods.{method_of, first_key}
-use Rattle.protocol_search.specs.Checks.{IsVerdictOf, IsVerdictText, IsCheck, end_of}
-use Rattle.protocol_search.specs.SearchLaws.{with_budget, LargerBudgetKeepsAnswer}
+use Rattle.protocol_search.specs.Checks.{IsVerdictText, end_of}
+use Rattle.protocol_search.specs.SearchLaws.{LargerBudgetKeepsAnswer}
 use Rattle.protocol_search.specs.declared.checked.CheckEnd.TheVariants as check_end
 use Rattle.protocol_search.proofs.OneAnswer.{verdict-once, text-once}
 

@@ -1,5 +1,5 @@
 -- The answer of a search for a system is determined, with its run and its text.
-use Rattle.std.proofs.Common.{◌≡◌, ◌∙◌, ◌<◌, ℕ, List, [], ◌∷◌, IsTrue, refl, sym, ap, subst, arith, inl, inr}
+use Rattle.std.proofs.Common.{◌≡◌, ◌∙◌, ℕ, List, [], ◌∷◌, refl, sym, ap, subst, arith, inl, inr}
 use Rattle.std.proofs.lemmas.Bool.{cases_lt}
 use Rattle.protocol_model.specs.declared.system.Configuration.{Configuration}
 use Rattle.protocol_model.specs.declared.system.Run.{Run}
@@ -15,7 +15,7 @@ use Rattle.refinement.proofs.Uniqueness.{automaton-unique}
 use Rattle.refinement.proofs.OneVerdict.{verdict-unique}
 use Rattle.protocol_search.specs.Runs.{IsLeastRule, IsWordOf, AreStepsThrough, IsRunThrough}
 use Rattle.protocol_search.specs.Methods.{method_of, first_key}
-use Rattle.protocol_search.specs.Checks.{end_of, IsVerdictText, IsVerdictOf, IsCheck}
+use Rattle.protocol_search.specs.Checks.{end_of, IsVerdictText}
 use Rattle.protocol_search.specs.OneCheck.{VerdictIsDetermined, CheckIsDetermined}
 
 same-configuration : (s : SystemData) (w : List ℕ) (c d : Configuration) → IsWordOf s w c → IsWordOf s w d → c ≡ d

@@ -1,5 +1,5 @@
 -- A bad run of a system bounds the rounds of every search.
-use Rattle.std.proofs.Common.{◌≡◌, ◌≢◌, ◌≤◌, ◌+◌, ◌-◌, ◌∙◌, ℕ, List, [], ◌∷◌, IsTrue, length, map, arith, refl, sym, ap, subst}
+use Rattle.std.proofs.Common.{◌≢◌, ◌≤◌, ◌+◌, ◌∙◌, ℕ, List, [], ◌∷◌, IsTrue, length, map, arith, refl, sym, ap, subst}
 use Rattle.std.specs.List.{AllByRecursion}
 use Rattle.std.proofs.lemmas.List.{length-map}
 use Rattle.word_automata.specs.Automaton.{Automaton}
@@ -15,16 +15,13 @@ use Rattle.parallel_post.specs.SystemTask.{task_of}
 use Rattle.search_history.specs.Counting.{size}
 use Rattle.search_history.specs.Histories.{SearchRound, last_level, log_of_round}
 use Rattle.search_history.specs.declared.log.LogEnd.TheVariants as log_end
-use Rattle.search_history.specs.declared.log.RoundLog.{RoundLog}
 use Rattle.refinement.specs.Laws.{LeadsToBad}
-use Rattle.refinement.specs.Verdicts.{log_in}
 use Rattle.refinement.proofs.Bounds.{history-bounded}
-use Rattle.protocol_search.specs.Methods.{method_of, first_key}
-use Rattle.protocol_search.specs.Checks.{IsCheck, Shows}
+use Rattle.protocol_search.specs.Methods.{method_of}
+use Rattle.protocol_search.specs.Checks.{Shows}
 use Rattle.protocol_search.specs.SearchLaws.{HasIndicesUpTo, BadRunsBoundRounds}
 use Rattle.protocol_search.specs.declared.first.FirstAbstraction.{FirstAbstraction}
 use Rattle.protocol_search.specs.declared.first.FirstAbstraction.TheVariants.{BadPredicates, NoPredicates, Lengths}
-use Rattle.protocol_search.specs.declared.checked.CheckEnd.TheVariants as check_end
 
 -- each state is related to itself
 own-related : (first : FirstAbstraction) (key : Key) (a : Automaton) (p : ℕ) → (method_of first).related key a p p
