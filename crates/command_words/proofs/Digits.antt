@@ -1,5 +1,5 @@
 -- Numbers of few digits.
-use Rattle.std.proofs.Common.{◌≡◌, ◌<◌, ◌+◌, ◌-◌, ◌*◌, ◌&&◌, ◌==◌, ℕ, Bool, true, false, true≢false, List, [], ◌∷◌, Result, Ok, length, nat_lt, refl, ap, sym, ◌∙◌, arith, rules}
+use Rattle.std.proofs.Common.{◌≡◌, ◌<◌, ◌&&◌, ◌==◌, ℕ, true, false, true≢false, List, [], ◌∷◌, Result, Ok, length, nat_lt, refl, ap, sym, ◌∙◌, arith, rules}
 use Rattle.std.specs.List.{list_all}
 use Rattle.std.specs.Char.{is_ascii_digit}
 use Rattle.std.specs.Str.{all_ascii_digits}
@@ -15,13 +15,13 @@ all_digits (b ∷ word) = ap (λ rest. is_ascii_digit b && rest) (all_digits wor
 own : IsNumeralModel (λ ds. all_ascii_digits ds ≡ true) (number_after 0)
 own = numerals_by_fold _ (search rules) number_after (search rules)
 
-pub parsed : {E : Type 0} (word : List ℕ) (r : Result ℕ E) → ParsesUnsigned 64 10 word r → is_number word ≡ true → r ≡ Ok (number_after 0 word)
+pub parsed : {E : Type 0} (word : List ℕ) (r : Result ℕ E) → ParsesUnsigned 32 10 word r → is_number word ≡ true → r ≡ Ok (number_after 0 word)
 parsed word r h number =
     let some = and_parts (nat_lt 0 (length word)) _ number in
     let few = and_parts (nat_lt (length word) 8) _ some.1 in
     let low = ltb-true 0 (length word) some.0 in
     let high = ltb-true (length word) 8 few.0 in
-    parse_gives own 64 word r h few.1 low (omega (arith, digits_value_short own word 7 few.1 (omega (arith, high))))
+    parse_gives own 32 word r h few.1 low (omega (arith, digits_value_short own word 7 few.1 (omega (arith, high))))
 
 -- a word of some bytes, seven at most, is a number where they are digits
 pub is_number-by : (word : List ℕ) → 0 < length word → length word < 8 → list_all is_ascii_digit word ≡ is_number word

@@ -1,5 +1,5 @@
 -- Which words mean which command, and with which settings.
-use Rattle.std.specs.Prelude.{◌<◌, ◌≤◌, ◌+◌, ◌-◌, ◌*◌, ◌==◌, ◌&&◌, ℕ, Bool, true, false, not, List, [], ◌∷◌, map, length, codes, bytes_eq, nat_lt, nat_le, Option, Some, None, option_map, option_and_then, is_some, find, if◌then◌else◌}
+use Rattle.std.specs.Prelude.{◌<◌, ◌≤◌, ◌+◌, ◌-◌, ◌*◌, ◌==◌, ◌&&◌, ℕ, Bool, true, false, not, List, [], ◌∷◌, length, codes, bytes_eq, nat_lt, nat_le, Option, Some, None, option_map, option_and_then, find, if◌then◌else◌}
 use Rattle.std.specs.List.{list_any, before_first, after_first}
 use Rattle.std.specs.Str.{all_ascii_digits}
 use Rattle.command_words.specs.declared.Command.{Command as CommandWords}
@@ -215,6 +215,11 @@ budget_given bindings = given default_budget (number_in 1 most_budget) (value_of
 abbrev pub workers_given : List Binding → Option ℕ
 workers_given bindings = given 1 (number_in 1 most_workers) (value_of (codes "workers") bindings)
 
+-- whether the report is asked for
+abbrev pub is_true : Option (List ℕ) → Bool
+is_true None = false
+is_true (Some value) = bytes_eq value (codes "true")
+
 abbrev pub settings_from : Option Method → Option Start → Option ℕ → Option ℕ → Option ℕ → Bool → Option Settings
 settings_from (Some method) (Some start) (Some bound) (Some budget) (Some workers) report =
     Some (record { method = method; start = start; bound = bound; budget = budget; workers = workers; report = report })
@@ -223,7 +228,7 @@ settings_from _ _ _ _ _ report = None
 -- the settings, each of which must be given well
 abbrev pub settings_of : List Binding → Option Settings
 settings_of bindings = settings_from (method_given bindings) (start_given bindings) (bound_given bindings) (budget_given bindings) (workers_given bindings)
-    (is_some (value_of (codes "report") bindings))
+    (is_true (value_of (codes "report") bindings))
 
 abbrev pub check_of : Option (List ℕ) → Option Settings → Option Command
 check_of (Some file) (Some settings) = Some (check file settings)
@@ -237,19 +242,33 @@ abbrev pub generate_of : Option ℕ → Option ℕ → Option Command
 generate_of (Some number) (Some workers) = Some (generate number workers)
 generate_of _ _ = None
 
--- the command of this form, from what the words after its name bind
+-- the command from what the words after its name bind
+abbrev pub check_bound : List Binding → Option Command
+check_bound bound = check_of (value_of (codes "FILE") bound) (settings_of bound)
+
+abbrev pub verify_bound : List Binding → Option Command
+verify_bound bound = two_of verify (value_of (codes "FILE") bound) (value_of (codes "CERT") bound)
+
+abbrev pub show_bound : List Binding → Option Command
+show_bound bound = option_map show (value_of (codes "FILE") bound)
+
+abbrev pub steps_bound : List Binding → Option Command
+steps_bound bound = two_of steps (value_of (codes "FILE") bound) (value_of (codes "CONFIGURATION") bound)
+
+abbrev pub generate_bound : List Binding → Option Command
+generate_bound bound = generate_of (option_and_then (number_in 1 most_generated) (value_of (codes "N") bound)) (workers_given bound)
+
 abbrev pub command_from : Form → (List Binding → Option Command) → List (List ℕ) → Option Command
 command_from form command words = option_and_then command (bindings form words)
 
 -- the command of this name, from the words after it
 abbrev pub command_named : List ℕ → List (List ℕ) → Option Command
 command_named name words =
-    if bytes_eq name (codes "check") then command_from check_form (λ b. check_of (value_of (codes "FILE") b) (settings_of b)) words
-    else (if bytes_eq name (codes "verify") then command_from verify_form (λ b. two_of verify (value_of (codes "FILE") b) (value_of (codes "CERT") b)) words
-    else (if bytes_eq name (codes "show") then command_from show_form (λ b. option_map show (value_of (codes "FILE") b)) words
-    else (if bytes_eq name (codes "steps") then command_from steps_form (λ b. two_of steps (value_of (codes "FILE") b) (value_of (codes "CONFIGURATION") b)) words
-    else (if bytes_eq name (codes "gen")
-    then command_from generate_form (λ b. generate_of (option_and_then (number_in 1 most_generated) (value_of (codes "N") b)) (workers_given b)) words
+    if bytes_eq name (codes "check") then command_from check_form check_bound words
+    else (if bytes_eq name (codes "verify") then command_from verify_form verify_bound words
+    else (if bytes_eq name (codes "show") then command_from show_form show_bound words
+    else (if bytes_eq name (codes "steps") then command_from steps_form steps_bound words
+    else (if bytes_eq name (codes "gen") then command_from generate_form generate_bound words
     else None))))
 
 abbrev pub is_empty : List ℕ → Bool

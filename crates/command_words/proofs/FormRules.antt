@@ -1,0 +1,146 @@
+-- The arguments of a form, as a command of `clap` has them once it is built, and which of them a name finds.
+use Rattle.std.proofs.Common.{◌≡◌, ◌∙◌, ◌+◌, ◌||◌, ◌&&◌, not, ℕ, Bool, true, false, true≢false, List, [], ◌∷◌, Option, Some, None, codes, refl, sym, ap, ap₂, if◌then◌else◌, cond, min}
+use Rattle.std.specs.List.{list_any}
+use Rattle.std.specs.Prelude.{fold}
+use Rattle.std.specs.Str.{bytes_eq}
+use Rattle.std.proofs.lemmas.Slice.Eq.{bytes_eq-Decides}
+use Rattle.clap.specs.Lexer.{usize_max}
+use Rattle.clap.specs.Walk.{Rule, Row, Text, arg_by_id, arg_by_index, arg_by_long, arg_by_short, with_default, has_row}
+use Rattle.clap.specs.Simple.{Shape, new_rule, new_shape}
+use Rattle.clap.specs.Kinds.{Kinds, or_else}
+use Rattle.clap.specs.Faults.{defaults_fault}
+use Rattle.clap.specs.Takes.{is_given}
+use Rattle.clap.specs.declared.builder.action.ArgAction.TheVariants.{Set, SetTrue}
+use Rattle.clap.specs.declared.builder.value_parser.ValueParser.TheVariants as parser
+use Rattle.command_words.specs.Words.{Form, is_among}
+
+-- an argument that takes one value, as text
+abbrev pub text_rule : Option Text → Option ℕ → Text → Rule
+text_rule long index name = record (new_rule name) {
+  long = long;
+  index = index;
+  action = Some Set;
+  parser = Some parser.String;
+  range = Some (record { start_inclusive = 1; end_inclusive = 1 });
+}
+
+abbrev pub built_valued : Text → Rule
+built_valued name = text_rule (Some name) None name
+
+abbrev pub built_positional : ℕ → Text → Rule
+built_positional i name = text_rule None (Some i) name
+
+abbrev pub built_flag : Text → Rule
+built_flag name = record (new_rule name) {
+  long = Some name;
+  action = Some SetTrue;
+  defaults = codes "false" ∷ [];
+  missing = codes "true" ∷ [];
+  parser = Some parser.Bool;
+  range = Some (record { start_inclusive = 0; end_inclusive = 0 });
+}
+
+abbrev pub built_rules : List Text → List Text → ℕ → List Text → List Rule
+built_rules (v ∷ vs) fs i ps = built_valued v ∷ built_rules vs fs i ps
+built_rules [] (f ∷ fs) i ps = built_flag f ∷ built_rules [] fs i ps
+built_rules [] [] i (p ∷ ps) = built_positional i p ∷ built_rules [] [] (min (i + 1) usize_max) ps
+built_rules [] [] i [] = []
+
+abbrev pub form_rules : Form → List Rule
+form_rules form = built_rules form.valued form.flags 1 form.positionals
+
+-- the built command of this name and form
+abbrev pub form_shape : Text → Form → Shape
+form_shape name form = record (new_shape name) {
+  rules = form_rules form;
+  disable_help_flag = true;
+  disable_help_subcommand = true;
+  is_built = true;
+}
+
+-- the option of this name among those with a value and those without
+abbrev pub option_rule : List Text → List Text → Text → Option Rule
+option_rule vs fs name = if is_among name vs then Some (built_valued name) else (if is_among name fs then Some (built_flag name) else None)
+
+found_valued : (v name : Text) (vs fs : List Text) (rest : Option Rule) (b : Bool) → (b ≡ true → v ≡ name) → rest ≡ option_rule vs fs name
+    → cond (b || false) (Some (built_valued v)) rest
+    ≡ (if b || is_among name vs then Some (built_valued name) else (if is_among name fs then Some (built_flag name) else None))
+found_valued v name vs fs rest true same later = ap (λ n. Some (built_valued n)) (same refl)
+found_valued v name vs fs rest false same later = later
+
+found_flag : (f name : Text) (fs : List Text) (rest : Option Rule) (b : Bool) → (b ≡ true → f ≡ name) → rest ≡ option_rule [] fs name
+    → cond (b || false) (Some (built_flag f)) rest ≡ (if b || is_among name fs then Some (built_flag name) else None)
+found_flag f name fs rest true same later = ap (λ n. Some (built_flag n)) (same refl)
+found_flag f name fs rest false same later = later
+
+pub by_long : (vs fs : List Text) (i : ℕ) (ps : List Text) (name : Text) → arg_by_long (built_rules vs fs i ps) name ≡ option_rule vs fs name
+by_long (v ∷ vs) fs i ps name = found_valued v name vs fs _ (bytes_eq v name) (bytes_eq-Decides v name).0 (by_long vs fs i ps name)
+by_long [] (f ∷ fs) i ps name = found_flag f name fs _ (bytes_eq f name) (bytes_eq-Decides f name).0 (by_long [] fs i ps name)
+by_long [] [] i (p ∷ ps) name = by_long [] [] (min (i + 1) usize_max) ps name
+by_long [] [] i [] name = refl
+
+pub by_short : (vs fs : List Text) (i : ℕ) (ps : List Text) (c : ℕ) → arg_by_short (built_rules vs fs i ps) c ≡ None
+by_short (v ∷ vs) fs i ps c = by_short vs fs i ps c
+by_short [] (f ∷ fs) i ps c = by_short [] fs i ps c
+by_short [] [] i (p ∷ ps) c = by_short [] [] (min (i + 1) usize_max) ps c
+by_short [] [] i [] c = refl
+
+found_by_id : (v name : Text) (vs : List Text) (rest : Option Rule) (b : Bool) → (b ≡ true → v ≡ name) → (b || is_among name vs) ≡ true
+    → (is_among name vs ≡ true → rest ≡ Some (built_valued name)) → cond b (Some (built_valued v)) rest ≡ Some (built_valued name)
+found_by_id v name vs rest true same among later = ap (λ n. Some (built_valued n)) (same refl)
+found_by_id v name vs rest false same among later = later among
+
+pub by_id : (vs fs : List Text) (i : ℕ) (ps : List Text) (name : Text) → is_among name vs ≡ true
+    → arg_by_id (built_rules vs fs i ps) name ≡ Some (built_valued name)
+by_id (v ∷ vs) fs i ps name among =
+    found_by_id v name vs _ (bytes_eq v name) (bytes_eq-Decides v name).0 among (by_id vs fs i ps name)
+by_id [] fs i ps name among = absurd (true≢false (sym among))
+
+-- which names of positional words are left at this place
+abbrev pub IsLeft : List Rule → ℕ → List Text → Type 0
+IsLeft c i [] = arg_by_index c i ≡ None
+IsLeft c i (p ∷ ps) = (arg_by_index c i ≡ Some (built_positional i p)) × (arg_by_id c p ≡ Some (built_positional i p)) × IsLeft c (min (i + 1) usize_max) ps
+
+-- ---- defaults
+
+same_rows : (b : Bool) (rows : List Row) → cond b rows rows ≡ rows
+same_rows true rows = refl
+same_rows false rows = refl
+
+pub defaults_of_valued : (rows : List Row) (vs fs : List Text) (i : ℕ) (ps : List Text)
+    → fold with_default rows (built_rules vs fs i ps) ≡ fold with_default rows (built_rules [] fs i ps)
+defaults_of_valued rows (v ∷ vs) fs i ps =
+    ap (λ r. fold with_default r (built_rules vs fs i ps)) (same_rows (has_row v rows) rows) ∙ defaults_of_valued rows vs fs i ps
+defaults_of_valued rows [] fs i ps = refl
+
+pub defaults_of_positionals : (rows : List Row) (i : ℕ) (ps : List Text) → fold with_default rows (built_rules [] [] i ps) ≡ rows
+defaults_of_positionals rows i (p ∷ ps) =
+    ap (λ r. fold with_default r (built_rules [] [] (min (i + 1) usize_max) ps)) (same_rows (has_row p rows) rows)
+    ∙ defaults_of_positionals rows (min (i + 1) usize_max) ps
+defaults_of_positionals rows i [] = refl
+
+-- ---- faults after the walk
+
+text_default : (b : Bool) (kinds : Kinds) → cond (b || true) [] kinds ≡ []
+text_default true kinds = refl
+text_default false kinds = refl
+
+flag_default : (b : Bool) (kinds : Kinds) → kinds ≡ [] → cond (b || false) [] kinds ≡ []
+flag_default true kinds none = refl
+flag_default false kinds none = none
+
+pub no_default_fault : (rows : List Row) (vs fs : List Text) (i : ℕ) (ps : List Text) → defaults_fault rows (built_rules vs fs i ps) ≡ []
+unfolding defaults_fault
+no_default_fault rows (v ∷ vs) fs i ps = ap₂ or_else (text_default (has_row v rows) _) (no_default_fault (with_default rows (built_valued v)) vs fs i ps)
+no_default_fault rows [] (f ∷ fs) i ps =
+    ap₂ or_else (flag_default (has_row f rows) _ refl) (no_default_fault (with_default rows (built_flag f)) [] fs i ps)
+no_default_fault rows [] [] i (p ∷ ps) =
+    ap₂ or_else (text_default (has_row p rows) _) (no_default_fault (with_default rows (built_positional i p)) [] [] (min (i + 1) usize_max) ps)
+no_default_fault rows [] [] i [] = refl
+
+pub none_required : (rows : List Row) (vs fs : List Text) (i : ℕ) (ps : List Text)
+    → list_any (λ (a : Rule). a.required && not (is_given a.id rows)) (built_rules vs fs i ps) ≡ false
+none_required rows (v ∷ vs) fs i ps = none_required rows vs fs i ps
+none_required rows [] (f ∷ fs) i ps = none_required rows [] fs i ps
+none_required rows [] [] i (p ∷ ps) = none_required rows [] [] (min (i + 1) usize_max) ps
+none_required rows [] [] i [] = refl

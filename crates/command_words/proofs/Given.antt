@@ -1,0 +1,108 @@
+-- From what `clap` answers to what the words bind, and from its matches to values.
+use Rattle.std.proofs.Common.{◌≡◌, ◌∙◌, ℕ, Bool, true, false, List, [], ◌∷◌, map, drop, Option, Some, None, MatchOption, codes, string_bytes, String, refl, sym, ap, subst, length, ◌<◌, arith, if◌then◌else◌}
+use Rattle.clap.specs.Faults.{fault_of}
+use Rattle.clap.specs.Matches.{found_of, first_value}
+use Rattle.clap.specs.Simple.{App, app_of, matches_of}
+use Rattle.clap.specs.Walk.{rows_of}
+use Rattle.clap.specs.declared.builder.command.Command.{Command as Parser}
+use Rattle.clap.specs.declared.parser.matches.ArgMatches.{ArgMatches}
+use Rattle.clap.proofs.WalkLemmas.{first_value-rows, list_any-map}
+use Rattle.std.specs.Prelude.{option_and_then}
+use Rattle.std.specs.List.{list_any, slice_index_or}
+use Rattle.command_words.specs.declared.Command.{Command as CommandWords}
+use Rattle.command_words.specs.Parsing.{Fails, Gives, HasBindings, IsParsed, first_or_default, parser_of}
+use Rattle.command_words.specs.declared.Method.{Method}
+use Rattle.command_words.specs.declared.Start.{Start}
+use Rattle.command_words.specs.Words.{Binding, Command, Form, bindings, bound_given, budget_given, check_form, command_from, command_named, command_of, is_among, is_empty, is_true, method_given, settings_from, settings_of, start_given, value_of, workers_given}
+use Rattle.command_words.proofs.FormMatches.{IsFormed, later_have_heads, refused_is, taken_is}
+
+-- the matches of a parser of a form have what the words bind
+pub from_matches : {Z : Type 0} (title : List ℕ) (form : Form) (p : Parser) (words : List (String Z)) (found : Option ArgMatches)
+    → app_of p ≡ parser_of title form → IsFormed title form
+    → MatchOption found (Fails (fault_of (app_of p) (map string_bytes words)))
+    (λ m. (fault_of (app_of p) (map string_bytes words) ≡ []) × (rows_of (found_of m) ≡ matches_of (app_of p) (map string_bytes words)))
+    → MatchOption found (bindings form (drop 1 (map string_bytes words)) ≡ None) (IsParsed form (drop 1 (map string_bytes words)))
+from_matches title form p words None is formed fails =
+    refused_is title form (map string_bytes words) formed (later_have_heads words) (subst (λ a. Fails (fault_of a (map string_bytes words))) is fails)
+from_matches title form p words (Some m) is formed given =
+    let taken = taken_is title form (map string_bytes words) formed (later_have_heads words)
+    (ap (λ (a : App). fault_of a (map string_bytes words)) (sym is) ∙ given.0) in
+    record {
+      bound = taken.0;
+      says = taken.1;
+      has = subst (HasBindings form taken.0) (sym (given.1 ∙ ap (λ (a : App). matches_of a (map string_bytes words)) is)) taken.2;
+    }
+
+plain_value : (form : Form) (name : List ℕ) (o : Option (List ℕ)) → is_among name form.flags ≡ false → first_or_default form name o ≡ o
+plain_value form name (Some value) plain = refl
+plain_value form name None plain = rw plain refl
+
+pub value_is : (m : ArgMatches) (form : Form) (bound : List Binding) (name : List ℕ) → HasBindings form bound (rows_of (found_of m)) → is_among name form.flags ≡ false
+    → first_value (found_of m) name ≡ value_of name bound
+value_is m form bound name has plain = first_value-rows (found_of m) name ∙ has name ∙ plain_value form name (value_of name bound) plain
+
+true_or_default : (o : Option (List ℕ)) → is_true (first_or_default check_form (codes "report") o) ≡ is_true o
+true_or_default (Some value) = refl
+true_or_default None = refl
+
+pub report_is : (m : ArgMatches) (bound : List Binding) → HasBindings check_form bound (rows_of (found_of m))
+    → is_true (first_value (found_of m) (codes "report")) ≡ is_true (value_of (codes "report") bound)
+report_is m bound has = ap is_true (first_value-rows (found_of m) (codes "report") ∙ has (codes "report")) ∙ true_or_default (value_of (codes "report") bound)
+
+-- the command of words that are refused, and of words that bind these
+pub from_none : (form : Form) (command : List Binding → Option Command) (words : List (List ℕ)) → bindings form words ≡ None
+    → Gives None (command_from form command words)
+from_none form command words none = ap (option_and_then command) none
+
+pub from_bound : (found : Option CommandWords) (form : Form) (command : List Binding → Option Command) (words : List (List ℕ)) (bound : List Binding)
+    → bindings form words ≡ Some bound → Gives found (command bound) → Gives found (command_from form command words)
+from_bound found form command words bound says gives = subst (λ o. Gives found (option_and_then command o)) (sym says) gives
+
+pub matched : {X : Type 0} (N : Type 0) (P : X → Type 0) (found : Option X) (x : X) → found ≡ Some x → MatchOption found N P → P x
+matched N P found x is h = subst (λ o. MatchOption o N P) is h
+
+pub unmatched : {X : Type 0} (N : Type 0) (P : X → Type 0) (found : Option X) → found ≡ None → MatchOption found N P → N
+unmatched N P found is h = subst (λ o. MatchOption o N P) is h
+
+-- the settings, where one is not given well, and where each is
+pub no_method : (b : List Binding) → method_given b ≡ None → None ≡ settings_of b
+no_method b em = λ i. settings_from (sym em i) (start_given b) (bound_given b) (budget_given b) (workers_given b) (is_true (value_of (codes "report") b))
+
+pub no_start : (b : List Binding) (m : Method) → method_given b ≡ Some m → start_given b ≡ None → None ≡ settings_of b
+no_start b m em es = λ i. settings_from (sym em i) (sym es i) (bound_given b) (budget_given b) (workers_given b) (is_true (value_of (codes "report") b))
+
+pub no_bound : (b : List Binding) (m : Method) (s : Start) → method_given b ≡ Some m → start_given b ≡ Some s → bound_given b ≡ None → None ≡ settings_of b
+no_bound b m s em es en = λ i. settings_from (sym em i) (sym es i) (sym en i) (budget_given b) (workers_given b) (is_true (value_of (codes "report") b))
+
+pub no_budget : (b : List Binding) (m : Method) (s : Start) (n : ℕ) → method_given b ≡ Some m → start_given b ≡ Some s → bound_given b ≡ Some n
+    → budget_given b ≡ None → None ≡ settings_of b
+no_budget b m s n em es en eg = λ i. settings_from (sym em i) (sym es i) (sym en i) (sym eg i) (workers_given b) (is_true (value_of (codes "report") b))
+
+pub no_workers : (b : List Binding) (m : Method) (s : Start) (n g : ℕ) → method_given b ≡ Some m → start_given b ≡ Some s → bound_given b ≡ Some n
+    → budget_given b ≡ Some g → workers_given b ≡ None → None ≡ settings_of b
+no_workers b m s n g em es en eg ew = λ i. settings_from (sym em i) (sym es i) (sym en i) (sym eg i) (sym ew i) (is_true (value_of (codes "report") b))
+
+pub all_settings : (b : List Binding) (m : Method) (s : Start) (n g w : ℕ) (r : Bool) → method_given b ≡ Some m → start_given b ≡ Some s → bound_given b ≡ Some n
+    → budget_given b ≡ Some g → workers_given b ≡ Some w → r ≡ is_true (value_of (codes "report") b)
+    → Some (record { method = m; start = s; bound = n; budget = g; workers = w; report = r }) ≡ settings_of b
+all_settings b m s n g w r em es en eg ew er = λ i. settings_from (sym em i) (sym es i) (sym en i) (sym eg i) (sym ew i) (er i)
+
+pub gives_none : (found : Option CommandWords) (command : Option Command) → found ≡ None → command ≡ None → Gives found command
+gives_none found command none is = subst (λ o. Gives o command) (sym none) is
+
+-- the words as a whole: one is empty, there is none, and the first of them names the command
+pub empty_none : {Z : Type 0} (words : List (String Z)) → list_any (λ word. is_empty (string_bytes word)) words ≡ true → command_of (map string_bytes words) ≡ None
+empty_none [] some = refl
+empty_none (w ∷ ws) some =
+    ap (λ b. if b then None else command_named (string_bytes w) (map string_bytes ws)) (sym (list_any-map is_empty string_bytes (w ∷ ws)) ∙ some)
+
+pub nothing_named : {Z : Type 0} (words : List (String Z)) → length words ≡ 0 → command_of (map string_bytes words) ≡ None
+nothing_named [] none = refl
+nothing_named (w ∷ ws) none = absurd (omega (arith, none))
+
+pub first_named : {Z : Type 0} (words : List (String Z)) (name : String Z) → 0 < length words → name ≡ slice_index_or words 0 name
+    → list_any (λ word. is_empty (string_bytes word)) words ≡ false → command_named (string_bytes name) (drop 1 (map string_bytes words)) ≡ command_of (map string_bytes words)
+first_named [] name some is full = absurd (omega arith)
+first_named (w ∷ ws) name some is full =
+    ap (λ x. command_named (string_bytes x) (map string_bytes ws)) is
+    ∙ sym (ap (λ b. if b then None else command_named (string_bytes w) (map string_bytes ws)) (sym (list_any-map is_empty string_bytes (w ∷ ws)) ∙ full))
