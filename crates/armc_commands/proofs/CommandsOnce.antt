@@ -14,7 +14,8 @@ use Rattle.certificate.specs.Meaning.{IsCertificateOf}
 use Rattle.certificate.specs.declared.safe.Certificate.{Certificate}
 use Rattle.certificate_checker.specs.OneAnswer.{AnswerIsDetermined}
 use Rattle.certificate_checker.specs.Answers.{IsAnswer}
-use Rattle.command_words.specs.Words.{Command, verify, steps, show, check}
+use Rattle.command_words.specs.Words.{Command, verify, steps, show, check, generate, default_budget}
+use Rattle.command_words.specs.declared.Settings.{Settings}
 use Rattle.armc_commands.specs.declared.status.Status.TheVariants as status
 use Rattle.armc_commands.specs.declared.reply.Reply.{Reply}
 use Rattle.armc_commands.specs.Line.{line}
@@ -22,8 +23,10 @@ use Rattle.armc_commands.specs.Reply.{on_out, on_err}
 use Rattle.armc_commands.specs.Refusal.{configuration_refusal_text}
 use Rattle.armc_commands.specs.Reading.{IsFaultless}
 use Rattle.armc_commands.specs.Commands.{CommandReply}
-use Rattle.protocol_search.specs.OneCheck.{CheckIsDetermined}
-use Rattle.armc_commands.specs.Commands.Check.{IsCheckReply, check_status}
+use Rattle.protocol_search.specs.OneCheck.{CheckIsDetermined, VerdictIsDetermined}
+use Rattle.protocol_search.specs.declared.first.FirstAbstraction.TheVariants.{BadPredicates}
+use Rattle.armc_commands.specs.Commands.Check.{IsCheckReply, first_abstraction, reply_of_check}
+use Rattle.armc_commands.specs.Commands.Generate.{IsGenerateReply, reply_of_verdict}
 use Rattle.armc_commands.specs.Commands.Steps.{IsStepsReply, ListsSuccessors, RefusesConfiguration, successors_text}
 use Rattle.armc_commands.specs.Commands.Verify.{IsVerifyReply, RefusesCertificate, Judges, answer_status, answer_text, fault_text}
 
@@ -82,16 +85,26 @@ module _ (meaning : certificate.MeaningIsDetermined) (fault_once : certificate.F
   ]
 
 -- `check`
-pub check_once : CheckIsDetermined → (s : SystemData) (budget : ℕ) (r q : Reply) → IsCheckReply s budget r → IsCheckReply s budget q → r ≡ q
-check_once once s budget r q h k =
-    h.reply_is ∙ ap (λ c. on_out (check_status c.end) c.text) (once s budget h.checked k.checked h.is_check k.is_check) ∙ sym k.reply_is
+pub check_once : CheckIsDetermined → (s : SystemData) (settings : Settings) (r q : Reply) → IsCheckReply s settings r → IsCheckReply s settings q → r ≡ q
+check_once once s settings r q h k =
+    h.reply_is
+    ∙ ap (reply_of_check settings) (once s (first_abstraction settings) settings.budget h.checked k.checked h.is_check k.is_check)
+    ∙ sym k.reply_is
+
+-- `gen`
+pub generate_once : VerdictIsDetermined → (s : SystemData) (number : ℕ) (r q : Reply) → IsGenerateReply s number r → IsGenerateReply s number q → r ≡ q
+generate_once once s number r q h k =
+    h.reply_is
+    ∙ ap (reply_of_verdict number) (once s BadPredicates default_budget h.verdict k.verdict h.is_verdict k.is_verdict)
+    ∙ sym k.reply_is
 
 -- each command
 module _ (allowed : (text : List ℕ) (p : Protocol) → IsProtocol text p → IsAllowed p)
     (valid : (p : Protocol) → IsAllowed p → first_fault p ≡ None → IsValid (system_of p))
     (verify_reply_once : (s : SystemData) → IsValid s → (text : List ℕ) (r q : Reply) → IsVerifyReply s text r → IsVerifyReply s text q → r ≡ q)
     (steps_reply_once : (s : SystemData) → IsValid s → (text : List ℕ) (r q : Reply) → IsStepsReply s text r → IsStepsReply s text q → r ≡ q)
-    (check_reply_once : (s : SystemData) (budget : ℕ) (r q : Reply) → IsCheckReply s budget r → IsCheckReply s budget q → r ≡ q) where
+    (check_reply_once : (s : SystemData) (settings : Settings) (r q : Reply) → IsCheckReply s settings r → IsCheckReply s settings q → r ≡ q)
+    (generate_reply_once : (s : SystemData) (number : ℕ) (r q : Reply) → IsGenerateReply s number r → IsGenerateReply s number q → r ≡ q) where
   system_is_valid : (source : List ℕ) (p : Protocol) → IsFaultless source p → IsValid (system_of p)
   system_is_valid source p says = valid p (allowed source p says.is_protocol) says.no_fault
 
@@ -100,4 +113,5 @@ module _ (allowed : (text : List ℕ) (p : Protocol) → IsProtocol text p → I
   command_once (verify file certificate) source p text r q says h k = verify_reply_once (system_of p) (system_is_valid source p says) text r q h k
   command_once (steps file configuration) source p text r q says h k = steps_reply_once (system_of p) (system_is_valid source p says) text r q h k
   command_once (show file) source p text r q says h k = h ∙ sym k
-  command_once (check file budget) source p text r q says h k = check_reply_once (system_of p) budget r q h k
+  command_once (check file settings) source p text r q says h k = check_reply_once (system_of p) settings r q h k
+  command_once (generate number workers) source p text r q says h k = generate_reply_once (system_of p) number r q h k

@@ -5,3 +5,5 @@ pub mod Replies
 pub mod QuietReads
 pub mod CommandsOnce
 pub mod OneReplyLemmas
+pub mod UsageLemmas
+pub mod SettingsLemmas

@@ -10,7 +10,7 @@ use Rattle.armc_commands.specs.declared.refusal.Refusal.TheVariants.{Syntax, Mod
 use Rattle.armc_commands.specs.declared.reply.Reply.{Reply}
 use Rattle.armc_commands.specs.declared.failure.Failure.{Failure}
 use Rattle.armc_commands.specs.declared.failure.Failure.TheVariants.{ReadFault, TooLong, Memory}
-use Rattle.armc_commands.specs.Origin.{Told, Origin, named, given, IsTextFrom}
+use Rattle.armc_commands.specs.Origin.{Told, Origin, named, given, generated, IsTextFrom}
 use Rattle.armc_commands.specs.Reads.{IsToldOrigin}
 use Rattle.armc_commands.specs.Reading.{IsFaultless}
 use Rattle.armc_commands.proofs.QuietReads.{first_told, second_told}
@@ -32,6 +32,7 @@ module _ (told : Told) where
   origin_once : (origin : Origin) (a b : List ℕ) → IsToldOrigin told origin → IsTextFrom told origin a → IsTextFrom told origin b → a ≡ b
   origin_once (named name limit) a b some h k = one_text (told name) a b some h.whole k.whole
   origin_once (given text) a b some h k = h ∙ sym k
+  origin_once (generated number) a b some h k = h ∙ sym k
 
   origin_within : (origin : Origin) (a : List ℕ) (name : List ℕ) (limit : ℕ) → IsSome (told name) → IsTextFrom told origin a
       → origin ≡ named name limit → IfSome (told name) (λ x. limit < length x) → ⊥

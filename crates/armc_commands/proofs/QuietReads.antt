@@ -3,7 +3,7 @@ use Rattle.std.proofs.Common.{◌≡◌, ℕ, List, Some, inl, inr, refl}
 use Rattle.std.specs.Prelude.{IsSome}
 use Rattle.protocol_syntax.specs.declared.protocol.Protocol.{Protocol}
 use Rattle.command_words.specs.Words.{Command, command_of}
-use Rattle.armc_commands.specs.Origin.{Told, Origin, named, given}
+use Rattle.armc_commands.specs.Origin.{Told, Origin, named, given, generated}
 use Rattle.armc_commands.specs.Reads.{IsToldOrigin}
 use Rattle.armc_commands.specs.Commands.{protocol_origin, second_origin}
 use Rattle.armc_commands.specs.Outcome.{HasProtocol, TellsTexts}
@@ -11,6 +11,7 @@ use Rattle.armc_commands.specs.Outcome.{HasProtocol, TellsTexts}
 told_origin : (told : Told) (origin : Origin) → ((name : List ℕ) (limit : ℕ) → origin ≡ named name limit → IsSome (told name)) → IsToldOrigin told origin
 told_origin told (named name limit) tells = tells name limit refl
 told_origin told (given text) tells = tt
+told_origin told (generated number) tells = tt
 
 module _ (words : List (List ℕ)) (told : Told) (tells : TellsTexts words told) (command : Command) (asked : command_of words ≡ Some command) where
   pub first_told : IsToldOrigin told (protocol_origin command)

@@ -1,15 +1,17 @@
 -- Each command in a line of each definition: where its two texts come from, its reply, and what the reply promises.
 pub mod Check
+pub mod Generate
 pub mod Show
 pub mod Steps
 pub mod Verify
 use Rattle.std.specs.Prelude.{ℕ, List, []}
 use Rattle.protocol_syntax.specs.declared.protocol.Protocol.{Protocol}
 use Rattle.protocol_model.specs.Numbering.{system_of}
-use Rattle.command_words.specs.Words.{Command, verify, steps, show, check}
+use Rattle.command_words.specs.Words.{Command, verify, steps, show, check, generate}
 use Rattle.armc_commands.specs.declared.reply.Reply.{Reply}
-use Rattle.armc_commands.specs.Origin.{Origin, named, given}
+use Rattle.armc_commands.specs.Origin.{Origin, named, given, generated}
 use Rattle.armc_commands.specs.Commands.Check.{IsCheckReply, CheckPromise}
+use Rattle.armc_commands.specs.Commands.Generate.{IsGenerateReply, GeneratePromise}
 use Rattle.armc_commands.specs.Commands.Show.{IsShowReply}
 use Rattle.armc_commands.specs.Commands.Steps.{IsStepsReply}
 use Rattle.armc_commands.specs.Commands.Verify.{IsVerifyReply, VerifyPromise}
@@ -26,25 +28,29 @@ abbrev pub protocol_origin : Command → Origin
 protocol_origin (verify file certificate) = named file protocol_limit
 protocol_origin (steps file configuration) = named file protocol_limit
 protocol_origin (show file) = named file protocol_limit
-protocol_origin (check file budget) = named file protocol_limit
+protocol_origin (check file settings) = named file protocol_limit
+protocol_origin (generate number workers) = generated number
 
 -- where the command's second text comes from: the certificate, the configuration, or no text
 abbrev pub second_origin : Command → Origin
 second_origin (verify file certificate) = named certificate certificate_limit
 second_origin (steps file configuration) = given configuration
 second_origin (show file) = given []
-second_origin (check file budget) = given []
+second_origin (check file settings) = given []
+second_origin (generate number workers) = given []
 
 -- the reply of the command for this protocol, which has no fault, and this second text
 abbrev pub CommandReply : Command → Protocol → List ℕ → Reply → Type 0
 CommandReply (verify file certificate) p text reply = IsVerifyReply (system_of p) text reply
 CommandReply (steps file configuration) p text reply = IsStepsReply (system_of p) text reply
 CommandReply (show file) p text reply = IsShowReply p reply
-CommandReply (check file budget) p text reply = IsCheckReply (system_of p) budget reply
+CommandReply (check file settings) p text reply = IsCheckReply (system_of p) settings reply
+CommandReply (generate number workers) p text reply = IsGenerateReply (system_of p) number reply
 
 -- what the command promises of a reply
 abbrev pub Promise : Command → Protocol → List ℕ → Reply → Type 0
 Promise (verify file certificate) p text reply = VerifyPromise (system_of p) text reply
 Promise (steps file configuration) p text reply = Unit {0}
 Promise (show file) p text reply = Unit {0}
-Promise (check file budget) p text reply = CheckPromise (system_of p) reply
+Promise (check file settings) p text reply = CheckPromise (system_of p) reply
+Promise (generate number workers) p text reply = GeneratePromise (system_of p) reply

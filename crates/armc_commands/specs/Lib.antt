@@ -10,3 +10,4 @@ pub mod Delivery
 pub mod Text
 pub mod Answer
 pub mod OneReply
+pub mod ReplyLaws

@@ -11,7 +11,7 @@ use Rattle.armc_commands.specs.declared.failure.Failure.TheVariants.{ReadFault, 
 use Rattle.armc_commands.specs.Origin.{Told, IsTextFrom, named}
 use Rattle.armc_commands.specs.Reading.{IsFaultless}
 use Rattle.armc_commands.specs.Refusal.{IsRefusalOf}
-use Rattle.armc_commands.specs.Reply.{not_built, refusal_reply}
+use Rattle.armc_commands.specs.Reply.{usage, refusal_reply}
 use Rattle.armc_commands.specs.Commands.{protocol_origin, second_origin, CommandReply}
 
 -- the command's first text says this protocol, which has no fault
@@ -44,7 +44,7 @@ pub record RepliesToCommand (words : List (List ℕ)) (told : Told) (reply : Rep
 
 -- the reply to the words: they are no command, or the first fault of the protocol's text is told, or the command was carried out
 abbrev pub IsReply : List (List ℕ) → Told → Reply → Type 0
-IsReply words told reply = ((command_of words ≡ None) × (reply ≡ not_built)) ⊎ RepliesToCommand words told reply
+IsReply words told reply = ((command_of words ≡ None) × (reply ≡ usage)) ⊎ RepliesToCommand words told reply
 
 -- the name is that of the first text, or that of the second and the first has a protocol; the limit is that of the name's text
 abbrev pub IsRead : Told → Command → List ℕ → ℕ → Type 0

@@ -7,7 +7,7 @@ use Rattle.armc_io.specs.declared.traits.ReadFail.{ReadFail}
 use Rattle.armc_io.specs.declared.traits.ReadFail.TheVariants as fail
 use Rattle.armc_commands.specs.declared.failure.Failure.{Failure}
 use Rattle.armc_commands.specs.declared.failure.Failure.TheVariants.{ReadFault, TooLong, Memory}
-use Rattle.armc_commands.specs.Origin.{Told, Origin, named, given, IsTextFrom}
+use Rattle.armc_commands.specs.Origin.{Told, Origin, named, given, generated, IsTextFrom}
 
 -- the state comes before the other in one call: the same is told, and the count of faults did not fall
 pub record IsEarlier (before now : LibraryState) : Type 0 where
@@ -18,6 +18,7 @@ pub record IsEarlier (before now : LibraryState) : Type 0 where
 abbrev pub IsToldOrigin : Told → Origin → Type 0
 IsToldOrigin told (named name limit) = IsSome (told name)
 IsToldOrigin told (given text) = Unit {0}
+IsToldOrigin told (generated number) = Unit {0}
 
 -- the read of the text of this origin failed, and the count of faults rose
 pub record FailsAt (old new : LibraryState) (origin : Origin) (name : List ℕ) : Type 0 where

@@ -16,9 +16,15 @@ on_out status text = record { status = status; out = text; err = [] }
 abbrev pub on_err : Status → List ℕ → Reply
 on_err status text = record { status = status; out = []; err = text }
 
--- the reply to what is not built: other words, and certificates that are runs
-abbrev pub not_built : Reply
-not_built = on_err status.NotBuilt (line (codes "armc: not built"))
+-- the commands with their words
+abbrev pub usage_text : List ℕ
+usage_text =
+    codes "armc: usage: check FILE [--method predicates|length] [--start bad|none] [--bound N] [--budget N] [--workers N] [--report]; "
+    ++ codes "verify FILE CERT; show FILE; steps FILE CONFIGURATION; gen N [--workers N]"
+
+-- the reply to words that mean no command
+abbrev pub usage : Reply
+usage = on_err status.Usage (line usage_text)
 
 -- the reply to a protocol with this first fault
 abbrev pub refusal_reply : Refusal → Reply

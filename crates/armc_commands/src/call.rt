@@ -49,13 +49,15 @@ fn answer<O: Sink, E: Sink>(
 /// Answers the words after the program's name: reads the texts that they name, puts one text on `out` and one on `err`,
 /// and gives the exit status.
 ///
-/// `check FILE` answers `Done` with an automaton that proves the protocol, `Unsafe` with a bad run, or `Unknown` where the counted states
-/// reached the budget. `show FILE` answers `Done` with the protocol in its canonical layout. `steps FILE CONFIGURATION` answers `Done` with a line for
-/// each successor of the configuration, by rule and then by word. `verify FILE CERT` answers `Done` where the
-/// certificate proves the protocol or is a bad run of it, and else `NotValid` with the first part of a proof or a run that fails. `ReadFault` comes where a read
-/// failed or a text is longer than its limit, `ProtocolRefused` where the text of the protocol has a fault, and `CertificateRefused`
-/// where that of the certificate or the configuration has one, each with the place of the first one. `NotBuilt` comes for other
-/// words, `WriteFault` where a sink failed, and `Memory` for want of memory.
+/// `check FILE` answers `Done` with an automaton that proves the protocol, `Unsafe` with a bad run, or `Unknown` where the counted
+/// states reached the budget, and with `--report` it puts a line of JSON on `err`. `gen N` searches the chain of N states with the
+/// default settings, has the same statuses, and answers with a summary. `show FILE` answers `Done` with the protocol in its canonical
+/// layout. `steps FILE CONFIGURATION` answers `Done` with a line for each successor of the configuration, by rule and then by word.
+/// `verify FILE CERT` answers `Done` where the certificate proves the protocol or is a bad run of it, and else `NotValid` with the
+/// first part of a proof or a run that fails. `ReadFault` comes where a read failed or a text is longer than its limit,
+/// `ProtocolRefused` where the text of the protocol has a fault, and `CertificateRefused` where that of the certificate or the
+/// configuration has one, each with the place of the first one. `Usage` comes for words that mean no command, `WriteFault` where a
+/// sink failed, and `Memory` for want of memory.
 pub fn run<L: Library, O: Sink, E: Sink, G: Gate, R: Threads + Sync>(
     alloc: Global,
     runtime: &R,
@@ -75,6 +77,7 @@ pub fn run<L: Library, O: Sink, E: Sink, G: Gate, R: Threads + Sync>(
         (E.state err.old) (E.state err.new) result }
     ensures quiet { AreQuietEnds (map string_bytes words.now) (L.state library.old) (O.state out.old) (E.state err.old)
         → IsQuiet (L.state library.old) (L.state library.new) (O.state out.old) (O.state out.new) (E.state err.old) (E.state err.new) }
+    ensures usage { result ≡ Status.Usage → command_of (map string_bytes words.now) ≡ None }
     ensures untouched { command_of (map string_bytes words.now) ≡ None → L.state library.new ≡ L.state library.old }
     ensures counts { KeepsCounts (L.state library.old) (L.state library.new) (O.state out.old) (O.state out.new)
         (E.state err.old) (E.state err.new) }

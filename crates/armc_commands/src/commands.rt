@@ -8,6 +8,7 @@ ghost use Rattle.armc_commands.specs.Origin.{IsReadable, origin_of};
 ghost use Rattle.armc_commands.specs.Commands.{protocol_origin as protocol_origin_of, second_origin as second_origin_of, CommandReply, Promise};
 
 mod check;
+mod generate;
 mod show;
 mod steps;
 mod verify;
@@ -17,6 +18,7 @@ use crate::reply::Reply;
 use armc_io::Gate;
 use check::{check_reply, keeps_check_promise};
 use command_words::Command;
+use generate::{generate_reply, keeps_generate_promise};
 use protocol_model::System;
 use protocol_syntax::Protocol;
 use show::show_reply;
@@ -33,6 +35,7 @@ const CERTIFICATE_LIMIT: u64 = 67_108_864;
 
 /// Where the text of the command's protocol comes from.
 pub fn protocol_origin(command: Command<'_>) -> Origin<'_>
+    requires { IsInRange (said command) }
     ensures origin { origin_of result ≡ protocol_origin_of (said command.entry) }
     ensures readable { IsReadable (origin_of result) }
 {
@@ -42,6 +45,7 @@ pub fn protocol_origin(command: Command<'_>) -> Origin<'_>
         Command::Steps { file, .. } => Origin::Named { name: file, limit },
         Command::Show { file } => Origin::Named { name: file, limit },
         Command::Check { file, .. } => Origin::Named { name: file, limit },
+        Command::Generate { number, .. } => Origin::Generated { number },
     }
 }
 
@@ -60,6 +64,7 @@ pub fn second_origin(command: Command<'_>) -> Origin<'_>
         },
         Command::Show { .. } => Origin::Given { text: "" },
         Command::Check { .. } => Origin::Given { text: "" },
+        Command::Generate { .. } => Origin::Given { text: "" },
     }
 }
 
@@ -81,7 +86,10 @@ pub fn command_reply<G: Gate, R: Threads + Sync>(
         Command::Verify { .. } => verify_reply(alloc, system, text),
         Command::Steps { .. } => steps_reply(alloc, system, text),
         Command::Show { .. } => show_reply(alloc, protocol),
-        Command::Check { budget, .. } => check_reply(alloc, runtime, gate, system, budget),
+        Command::Check { settings, .. } => check_reply(alloc, runtime, gate, system, &settings),
+        Command::Generate { number, workers } => {
+            generate_reply(alloc, runtime, gate, system, number, workers)
+        }
     }
 }
 
@@ -92,4 +100,5 @@ pub fn keep_promises()
 {
     keeps_verify_promise();
     keeps_check_promise();
+    keeps_generate_promise();
 }

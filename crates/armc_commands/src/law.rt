@@ -1,12 +1,13 @@
-// The law of replies, from those of the texts and of the judgement.
+// The laws of replies, from those of the texts, of the judgement and of the search.
 
 ghost use Rattle.armc_commands.specs.OneReply.{OutcomeIsDetermined};
+ghost use Rattle.armc_commands.specs.ReplyLaws.{WorkersKeepCheck, WorkersKeepGenerate, LargerBudgetKeepsReply, BadRunRulesOutSafe};
 
 use certificate::one_reading as one_certificate;
 use certificate_checker::one_answer as one_judgement;
 use configuration_words::one_reading as one_configuration;
 use protocol_model::texts_say_allowed_protocols;
-use protocol_search::one_check;
+use protocol_search::{larger_budget_keeps_answer, one_check, one_verdict};
 use protocol_steps::one_answer as one_list;
 use protocol_syntax::one_reading as one_protocol;
 
@@ -22,4 +23,28 @@ pub fn one_reply()
     one_certificate();
     one_judgement();
     one_check();
+    one_verdict();
 }
+
+/// The law of workers: the reply to `check` and that to `gen` are the same for every number of workers. The function does nothing.
+pub fn workers_keep_reply()
+    ensures check { WorkersKeepCheck }
+    ensures generate { WorkersKeepGenerate }
+{
+    one_check();
+    one_verdict();
+}
+
+/// The law of budgets: a reply to `check` that decides the protocol has the same status and the same certificate for every larger budget.
+/// The function does nothing.
+pub fn larger_budget_keeps_reply()
+    ensures { LargerBudgetKeepsReply }
+{
+    larger_budget_keeps_answer();
+}
+
+/// The law of bad runs: where the protocol has one, `check` does not answer that it is safe, whatever the settings are. The function does
+/// nothing.
+pub fn bad_run_rules_out_safe()
+    ensures { BadRunRulesOutSafe }
+{}

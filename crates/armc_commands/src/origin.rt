@@ -1,11 +1,12 @@
-// Where a text comes from: the library, by one read of a whole text within a limit, or the command, whose text is copied. Both cost
-// the length of the text.
+// Where a text comes from: the library, by one read of a whole text within a limit; the command, whose text is copied; or the generator.
+// Each costs the length of the text.
 ghost use Rattle.std.specs.Prelude.{◌≡◌, ◌≤◌, ◌⊎◌, IsTrue};
 ghost use Rattle.armc_commands.specs.Origin.{IsReadable, origin_of};
 ghost use Rattle.armc_commands.specs.Reads.{GivesText, IsToldOrigin, failure_of_read};
 
 use crate::failure::Failure;
 use armc_io::{Library, ReadFail};
+use chain_protocol::generate;
 use sequence::Text;
 use std::alloc::Global;
 
@@ -24,6 +25,11 @@ pub enum Origin<'a> {
         /// The text.
         text: &'a str,
     },
+    /// It is the text of the chain of so many states.
+    Generated {
+        /// The number of states, from 1 to 255.
+        number: u32,
+    },
 }
 
 // Why a text was not read: the outside failed, or the text is too long, or there was no memory.
@@ -40,7 +46,7 @@ fn failure_of(alloc: Global, name: &str, fail: ReadFail) -> Failure
     }
 }
 
-/// The text of this origin, or why it could not be read. A text that the command gives is copied.
+/// The text of this origin, or why it could not be read. A text that the command gives is copied, and one that is generated is made.
 pub fn text_from<L: Library>(
     alloc: Global,
     origin: Origin,
@@ -56,6 +62,7 @@ pub fn text_from<L: Library>(
 {
     match origin {
         Origin::Given { text } => Ok(text.as_bytes().to_vec(alloc)?),
+        Origin::Generated { number } => Ok(generate(alloc, number)?),
         Origin::Named { name, limit } => match library.read_all(name, limit) {
             Ok(text) => Ok(text),
             Err(fail) => Err(failure_of(alloc, name, fail)),

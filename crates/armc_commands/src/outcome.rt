@@ -12,7 +12,7 @@ use crate::commands::{command_reply, protocol_origin, second_origin};
 use crate::failure::Failure;
 use crate::origin::text_from;
 use crate::reading::{Reading, read_protocol};
-use crate::reply::{Reply, not_built, refusal_reply};
+use crate::reply::{Reply, refusal_reply, usage};
 use armc_io::{Gate, Library};
 use command_words::{Command, command_of};
 use protocol_model::System;
@@ -96,8 +96,8 @@ pub fn reply_to<L: Library, G: Gate, R: Threads + Sync>(
         → (L.state library.new).faults ≡ (L.state library.old).faults }
     ensures untouched { command_of_words (map string_bytes words.now) ≡ None → L.state library.new ≡ L.state library.old }
 {
-    match command_of(words) {
-        None => Ok(not_built(alloc)?),
+    match command_of(alloc, words)? {
+        None => Ok(usage(alloc)?),
         Some(command) => reply_to_command(alloc, runtime, gate, command, library),
     }
 }

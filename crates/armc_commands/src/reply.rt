@@ -1,6 +1,6 @@
 // Replies, and those that do not depend on the command.
 ghost use Rattle.std.specs.Prelude.{◌≡◌, IfOk};
-ghost use Rattle.armc_commands.specs.Reply.{on_out as on_out_of, on_err as on_err_of, not_built as not_built_reply, refusal_reply as refusal_reply_of, failure_reply as failure_reply_of};
+ghost use Rattle.armc_commands.specs.Reply.{on_out as on_out_of, on_err as on_err_of, usage as usage_reply, refusal_reply as refusal_reply_of, failure_reply as failure_reply_of};
 
 use crate::failure::Failure;
 use crate::line::line_of;
@@ -8,6 +8,11 @@ use crate::refusal::{Refusal, refusal_line};
 use crate::status::Status;
 use sequence::Sequence;
 use std::alloc::{AllocError, Global};
+
+/// The line that tells the commands with their words.
+const USAGE: &[u8] =
+    b"armc: usage: check FILE [--method predicates|length] [--start bad|none] [--bound N] [--budget N] [--workers N] [--report]; \
+    verify FILE CERT; show FILE; steps FILE CONFIGURATION; gen N [--workers N]\n";
 
 /// A reply before it is written: the exit status, and the whole texts of standard output and standard error.
 #[derive(Drop, Debug)]
@@ -42,12 +47,12 @@ pub fn on_err(alloc: Global, status: Status, text: Vec<u8>) -> Reply
     }
 }
 
-/// The reply to what is not built. The only error is want of memory.
-pub fn not_built(alloc: Global) -> Result<Reply, AllocError>
-    ensures { IfOk result (λ reply. reply ≡ not_built_reply) }
+/// The reply to words that mean no command: the commands with their words. The only error is want of memory.
+pub fn usage(alloc: Global) -> Result<Reply, AllocError>
+    ensures { IfOk result (λ reply. reply ≡ usage_reply) }
 {
-    let text = b"armc: not built\n".to_vec(alloc)?;
-    Ok(on_err(alloc, Status::NotBuilt, text))
+    let text = USAGE.to_vec(alloc)?;
+    Ok(on_err(alloc, Status::Usage, text))
 }
 
 /// The reply to a protocol with this first fault. The only error is want of memory.

@@ -7,6 +7,8 @@ pub enum Status {
     Unsafe = 1,
     /// A search counted as many states as its budget.
     Unknown = 2,
+    /// The words mean no command.
+    Usage = 3,
     /// A read failed, or a text is longer than its limit.
     ReadFault = 4,
     /// The text of a protocol has a fault.
@@ -19,6 +21,4 @@ pub enum Status {
     WriteFault = 8,
     /// There was no memory.
     Memory = 9,
-    /// The command, or a form of its texts, is not built yet.
-    NotBuilt = 10,
 }

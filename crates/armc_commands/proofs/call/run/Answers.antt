@@ -1,6 +1,7 @@
 use Rattle.std.proofs.Common.{map}
 use Rattle.std.specs.Prelude.{string_bytes}
 use Rattle.armc_commands.proofs.Answered.{Answers-made, IsSound-answer, IsDecided-answer, IsQuiet-ends, KeepsCounts-made}
+use Rattle.armc_commands.proofs.UsageLemmas.{usage_only}
 use Rattle.armc_commands.proofs.call.run.Goals as goal
 
 pub returns-clause-answer : goal.returns-clause-answer
@@ -22,3 +23,9 @@ returns-clause-quiet g c =
 
 pub returns-clause-counts : goal.returns-clause-counts
 returns-clause-counts g c = KeepsCounts-made _ _ _ _ _ _ _ c.reply_to-outcome.result c.reply_to-outcome.ensures.no_fall c.answer.ensures
+
+pub returns-clause-usage : goal.returns-clause-usage
+returns-clause-usage g c =
+    usage_only (map string_bytes c.args.words.now) (g.L.Library.state c.args.library.now)
+    (g.L.Library.state c.reply_to-outcome.new.library) _ _ _ _ _
+    (Answers-made _ _ _ _ _ _ _ _ _ c.reply_to-outcome.ensures.outcome c.answer.ensures)

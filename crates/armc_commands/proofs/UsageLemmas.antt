@@ -1,0 +1,85 @@
+-- Only words that mean no command are answered by the usage.
+use Rattle.std.proofs.Common.{◌≡◌, ◌⊎◌, ℕ, List, inl, inr, None, Result, Ok, Err, sym, ap, ◌∙◌}
+use Rattle.armc_io.specs.Library.{LibraryState}
+use Rattle.armc_io.specs.Sink.{SinkState}
+use Rattle.protocol_syntax.specs.declared.protocol.Protocol.{Protocol}
+use Rattle.certificate_checker.specs.declared.answer.Answer.{Answer}
+use Rattle.certificate_checker.specs.declared.answer.Answer.TheVariants.{Valid, InitialMissing, BadHeld, Leaves, NotInitial, NotStep, NotBad}
+use Rattle.refinement.specs.declared.verdict.Verdict.{Verdict}
+use Rattle.refinement.specs.declared.verdict.Verdict.TheVariants as verdict
+use Rattle.protocol_search.specs.declared.checked.CheckEnd.{CheckEnd}
+use Rattle.protocol_search.specs.declared.checked.CheckEnd.TheVariants as ends
+use Rattle.command_words.specs.Words.{Command, verify, steps, show, check, generate, command_of}
+use Rattle.armc_commands.specs.declared.status.Status.{Status}
+use Rattle.armc_commands.specs.declared.status.Status.TheVariants as status
+use Rattle.armc_commands.specs.declared.reply.Reply.{Reply}
+use Rattle.armc_commands.specs.declared.failure.Failure.{Failure}
+use Rattle.armc_commands.specs.declared.failure.Failure.TheVariants.{ReadFault, TooLong, Memory}
+use Rattle.armc_commands.specs.Commands.{CommandReply}
+use Rattle.armc_commands.specs.Commands.Check.{check_status}
+use Rattle.armc_commands.specs.Commands.Generate.{verdict_status}
+use Rattle.armc_commands.specs.Commands.Verify.{answer_status}
+use Rattle.armc_commands.specs.Outcome.{IsOutcome, IsReply}
+use Rattle.armc_commands.specs.Reply.{reply_of}
+use Rattle.armc_commands.specs.Answer.{Answers}
+
+not_of_end : (end : CheckEnd) → check_status end ≡ status.Usage → ⊥
+not_of_end ends.Safe e = cc e
+not_of_end ends.Unsafe e = cc e
+not_of_end ends.Unknown e = cc e
+
+not_of_verdict : (v : Verdict) → verdict_status v ≡ status.Usage → ⊥
+not_of_verdict (verdict.Safe proof log) e = cc e
+not_of_verdict (verdict.Unsafe words log) e = cc e
+not_of_verdict (verdict.Unknown log) e = cc e
+
+not_of_answer : (a : Answer) → answer_status a ≡ status.Usage → ⊥
+not_of_answer Valid e = cc e
+not_of_answer (InitialMissing c) e = cc e
+not_of_answer (BadHeld c) e = cc e
+not_of_answer (Leaves r c d) e = cc e
+not_of_answer NotInitial e = cc e
+not_of_answer (NotStep k) e = cc e
+not_of_answer NotBad e = cc e
+
+-- the status of a reply that is this one
+status_in : (reply other : Reply) → reply ≡ other → reply.status ≡ status.Usage → other.status ≡ status.Usage
+status_in reply other same e = sym (ap (λ (r : Reply). r.status) same) ∙ e
+
+not_of_command : (command : Command) (p : Protocol) (text : List ℕ) (reply : Reply) → CommandReply command p text reply → reply.status ≡ status.Usage → ⊥
+not_of_command (verify file certificate) p text reply h e = elim h [
+  | inl refuses ↦ let f = status_in reply _ refuses.reply_is e in cc f
+  | inr judges ↦ not_of_answer judges.answer (status_in reply _ judges.reply_is e)
+]
+not_of_command (steps file configuration) p text reply h e = elim h [
+  | inl lists ↦ let f = status_in reply _ lists.reply_is e in cc f
+  | inr refuses ↦ let f = status_in reply _ refuses.reply_is e in cc f
+]
+not_of_command (show file) p text reply h e = let f = status_in reply _ h e in cc f
+not_of_command (check file settings) p text reply h e = not_of_end h.checked.end (status_in reply _ h.reply_is e)
+not_of_command (generate number workers) p text reply h e = not_of_verdict h.verdict (status_in reply _ h.reply_is e)
+
+module _ (words : List (List ℕ)) (l l' : LibraryState) (o o' e e' : SinkState) (result : Status) where
+  none_asked : (reply : Reply) → IsReply words l.told reply → reply.status ≡ status.Usage → command_of words ≡ None
+  none_asked reply is u = elim is [
+    | inl none ↦ none.0
+    | inr to_command ↦ elim to_command.replies [
+      | inl refused ↦ absurd (let f = status_in reply _ refused.reply_is u in cc f)
+      | inr out ↦ absurd (not_of_command to_command.command out.protocol out.text reply out.replies u)
+    ]
+  ]
+
+  of_outcome : (outcome : Result Reply Failure) → IsOutcome words l l' outcome → (reply_of outcome).status ≡ status.Usage → command_of words ≡ None
+  of_outcome (Ok reply) is u = none_asked reply is u
+  of_outcome (Err (ReadFault name)) is u = absurd (cc u)
+  of_outcome (Err (TooLong name)) is u = absurd (cc u)
+  of_outcome (Err Memory) is u = absurd (cc u)
+
+  pub usage_only : Answers words l l' o o' e e' result → result ≡ status.Usage → command_of words ≡ None
+  usage_only answer u = elim answer.delivered [
+    | inl whole ↦ of_outcome answer.outcome answer.is_outcome (sym whole.status_is ∙ u)
+    | inr failed ↦ elim failed [
+      | inl at_out ↦ absurd (let f = sym at_out.status_is ∙ u in cc f)
+      | inr at_err ↦ absurd (let f = sym at_err.status_is ∙ u in cc f)
+    ]
+  ]
