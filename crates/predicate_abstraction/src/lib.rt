@@ -3,6 +3,7 @@
 #![tactic(auto)]
 
 mod common_classes;
+mod laws;
 mod pair_set;
 mod place;
 mod predicates;
@@ -12,4 +13,5 @@ mod shares;
 mod sources;
 mod splitting;
 
+pub use laws::related_by_signature;
 pub use predicates::Predicates;
