@@ -1,8 +1,9 @@
-//! The protocol of a chain of so many letters: a large valid input from a number. It costs the length of the text.
+//! The generated protocol, a large input that is made from a number: a chain of letters, each of which a rule changes into the next, and
+//! a letter that no rule writes. Its text is written from front to end, in time linear in the number.
 #![tactic(auto)]
 
-ghost use Rattle.std.specs.Prelude.{◌≡◌, ◌<◌, ◌≤◌, ◌+◌, ◌^◌, ◌++◌, IfOk, OnOk, decimal};
-ghost use Rattle.chain_protocol.specs.Chain.{chain_text, letter_text, letters_text, rule_text, rules_text};
+ghost use Rattle.std.specs.Prelude.{◌≡◌, ◌≤◌, ◌<◌, ◌+◌, ◌++◌, IfOk, OnOk, decimal};
+ghost use Rattle.chain_protocol.specs.Chain.{chain_text, joined, letter, next_letter, rule_line};
 
 use itoa::Buffer;
 use std::alloc::{AllocError, Global};
@@ -16,52 +17,66 @@ fn push_number(text: &mut Vec<u8>, number: u32) -> Result<(), AllocError>
     Ok(())
 }
 
-// Adds the name of a letter, after a space.
-fn push_letter(text: &mut Vec<u8>, number: u32) -> Result<(), AllocError>
-    ensures { OnOk result (text.new.items ≡ text.old.items ++ letter_text number) }
+// Adds the name of letter i.
+fn push_letter(text: &mut Vec<u8>, i: u32) -> Result<(), AllocError>
+    ensures { OnOk result (text.new.items ≡ text.old.items ++ letter i) }
 {
-    text.extend_from_slice(b" s")?;
-    push_number(text, number)
-}
-
-// Adds the names of so many letters.
-fn push_letters(text: &mut Vec<u8>, count: u32) -> Result<(), AllocError>
-    ensures { OnOk result (text.new.items ≡ text.old.items ++ letters_text count) }
-{
-    'letters: for number in 0..count {
-        push_letter(text, number)?;
-    }
+    text.extend_from_slice(b"s")?;
+    push_number(text, i)?;
     Ok(())
 }
 
-// Adds the line of the rule that leads from the letter of this number to the next one.
-fn push_rule(text: &mut Vec<u8>, from: u32) -> Result<(), AllocError>
-    requires { from + 1 < 2 ^ 32 }
-    ensures { OnOk result (text.new.items ≡ text.old.items ++ rule_text from) }
+// Adds a space and the name of letter i.
+fn push_next_letter(text: &mut Vec<u8>, i: u32) -> Result<(), AllocError>
+    ensures { OnOk result (text.new.items ≡ text.old.items ++ next_letter i) }
+{
+    text.extend_from_slice(b" ")?;
+    push_letter(text, i)?;
+    Ok(())
+}
+
+// Adds the rule that changes letter i into the next.
+fn push_rule(text: &mut Vec<u8>, i: u32) -> Result<(), AllocError>
+    requires { i < 255 }
+    ensures { OnOk result (text.new.items ≡ text.old.items ++ rule_line i) }
 {
     text.extend_from_slice(b"rule r")?;
-    push_number(text, from + 1)?;
-    text.extend_from_slice(b" { P: at s")?;
-    push_number(text, from)?;
-    text.extend_from_slice(b" -> s")?;
-    push_number(text, from + 1)?;
+    push_number(text, i + 1)?;
+    text.extend_from_slice(b" { P: at ")?;
+    push_letter(text, i)?;
+    text.extend_from_slice(b" -> ")?;
+    push_letter(text, i + 1)?;
     text.extend_from_slice(b"; }\n")?;
     Ok(())
 }
 
-// Adds the lines of so many rules.
-fn push_rules(text: &mut Vec<u8>, count: u32) -> Result<(), AllocError>
-    ensures { OnOk result (text.new.items ≡ text.old.items ++ rules_text count) }
+// Adds the letters, so many of them, each after a space.
+fn push_letters(text: &mut Vec<u8>, count: u32) -> Result<(), AllocError>
+    ensures { OnOk result (text.new.items ≡ text.old.items ++ joined next_letter count) }
 {
-    'rules: for from in 0..count {
-        push_rule(text, from)?;
+    'letters: for i in 0..count {
+        push_next_letter(text, i)?;
     }
     Ok(())
 }
 
-/// The text of the chain of so many letters, from 1 to 255, in canonical layout. The only error is want of memory.
+// Adds the rules, so many of them.
+fn push_rules(text: &mut Vec<u8>, count: u32) -> Result<(), AllocError>
+    requires { count < 255 }
+    ensures { OnOk result (text.new.items ≡ text.old.items ++ joined rule_line count) }
+{
+    'rules: for i in 0..count {
+        push_rule(text, i)?;
+    }
+    Ok(())
+}
+
+/// The text of the chain with `number` letters beside `dead`, in canonical layout: its rules change letter i into letter i + 1. The search
+/// proves it safe in one round, whose sizes grow with the number.
+///
+/// Errors: `AllocError` for want of memory alone.
 pub fn generate(alloc: Global, number: u32) -> Result<Vec<u8>, AllocError>
-    requires { (0 < number) × (number ≤ 255) }
+    requires { (1 ≤ number) × (number ≤ 255) }
     ensures { IfOk result (λ text. text.items ≡ chain_text number) }
 {
     let mut text = Vec::from_slice(alloc, b"protocol chain\narray P {")?;
