@@ -1,5 +1,5 @@
 -- Each command has one reply for what it read.
-use Rattle.std.proofs.Common.{◌≡◌, ◌⊎◌, inl, inr, ℕ, List, None, refl, sym, ap, subst, ◌∙◌}
+use Rattle.std.proofs.Common.{◌≡◌, inl, inr, ℕ, List, None, sym, ap, subst, ◌∙◌}
 use Rattle.protocol_syntax.specs.declared.protocol.Protocol.{Protocol}
 use Rattle.protocol_syntax.specs.Grammar.{IsProtocol}
 use Rattle.protocol_model.specs.System.{SystemData, IsValid}
@@ -10,8 +10,6 @@ use Rattle.protocol_steps.specs.OneAnswer.{SuccessorsAreDetermined}
 use Rattle.protocol_steps.specs.Successors.{AreSuccessors}
 use Rattle.configuration_words.specs.OneReading as configuration
 use Rattle.certificate.specs.OneReading as certificate
-use Rattle.certificate.specs.Meaning.{IsCertificateOf}
-use Rattle.certificate.specs.declared.safe.Certificate.{Certificate}
 use Rattle.certificate_checker.specs.OneAnswer.{AnswerIsDetermined}
 use Rattle.certificate_checker.specs.Answers.{IsAnswer}
 use Rattle.command_words.specs.Words.{Command, verify, steps, show, check, generate, default_budget}

@@ -1,5 +1,5 @@
 -- Replies to one command with other settings, and what a reply to `gen` shows.
-use Rattle.std.proofs.Common.{◌≡◌, ◌≢◌, ◌≤◌, ℕ, List, refl, sym, ap, subst, ◌∙◌}
+use Rattle.std.proofs.Common.{◌≡◌, ◌≢◌, ◌≤◌, ℕ, refl, sym, ap, subst, ◌∙◌}
 use Rattle.protocol_model.specs.declared.system.Run.{Run}
 use Rattle.protocol_model.specs.System.{SystemData}
 use Rattle.protocol_model.specs.Runs.{IsBadRun}
@@ -13,7 +13,6 @@ use Rattle.protocol_search.specs.declared.checked.CheckEnd.{CheckEnd}
 use Rattle.protocol_search.specs.declared.checked.CheckEnd.TheVariants.{Safe, Unsafe, Unknown}
 use Rattle.protocol_search.specs.declared.checked.Checked.{Checked}
 use Rattle.command_words.specs.declared.Settings.{Settings}
-use Rattle.armc_commands.specs.declared.status.Status.{Status}
 use Rattle.armc_commands.specs.declared.status.Status.TheVariants as status
 use Rattle.armc_commands.specs.declared.reply.Reply.{Reply}
 use Rattle.armc_commands.specs.Commands.Check.{IsCheckReply, check_status, first_abstraction}

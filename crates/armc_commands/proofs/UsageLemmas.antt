@@ -1,5 +1,5 @@
 -- Only words that mean no command are answered by the usage.
-use Rattle.std.proofs.Common.{◌≡◌, ◌⊎◌, ℕ, List, inl, inr, None, Result, Ok, Err, sym, ap, ◌∙◌}
+use Rattle.std.proofs.Common.{◌≡◌, ℕ, List, inl, inr, None, Result, Ok, Err, sym, ap, ◌∙◌}
 use Rattle.armc_io.specs.Library.{LibraryState}
 use Rattle.armc_io.specs.Sink.{SinkState}
 use Rattle.protocol_syntax.specs.declared.protocol.Protocol.{Protocol}

@@ -46,11 +46,15 @@ first_or_default form name None = if is_among name form.flags then Some (codes "
 abbrev pub HasBindings : Form → List Binding → List Row → Type 0
 HasBindings form bound rows = (name : List ℕ) → first_of name rows ≡ first_or_default form name (value_of name bound)
 
+-- the matches of `clap` have the value of each name
+abbrev pub GivesValues : Form → List Binding → ArgMatches → Type 0
+GivesValues form bound matches = HasBindings form bound (rows_of (found_of matches))
+
 -- the words bind these names, and the matches have them
 pub record IsParsed (form : Form) (words : List (List ℕ)) (matches : ArgMatches) : Type 0 where
   pub bound : List Binding
   pub says : bindings form words ≡ Some bound
-  pub has : HasBindings form bound (rows_of (found_of matches))
+  pub has : GivesValues form bound matches
 
 -- the value of the program stands for this command, or there is none
 abbrev pub Gives : Option CommandWords → Option Command → Type 0

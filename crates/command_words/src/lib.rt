@@ -2,7 +2,8 @@
 //! `clap` refuses are no command. Numbers and choices are read here. The cost is linear in the bytes of the words, times the few options.
 #![tactic(auto)]
 
-ghost use Rattle.std.specs.Prelude.{List, ◌≡◌, ◌≤◌, ◌<◌, ◌^◌, true, false, [], ◌∷◌, codes, drop, map, option_map, option_and_then, string_bytes, MatchOption, IfSome, IfOk, None, Some};
+ghost use Rattle.std.specs.Prelude.{List, ◌≡◌, ◌≤◌, ◌<◌, ◌^◌, true, false, [], ◌∷◌, codes, drop, map, option_map};
+ghost use Rattle.std.specs.Prelude.{option_and_then, string_bytes, MatchOption, IfSome, IfOk, None, Some};
 ghost use Rattle.std.specs.Char.{is_ascii_digit};
 ghost use Rattle.std.specs.List.{All, list_all, list_any};
 ghost use Rattle.std.specs.Str.{IsUtf8};
@@ -10,10 +11,16 @@ ghost use Rattle.clap.specs.Faults.{fault_of, is_simple_and_free};
 ghost use Rattle.clap.specs.Matches.{found_of};
 ghost use Rattle.clap.specs.Simple.{app_of, matches_of, with_rule};
 ghost use Rattle.clap.specs.Walk.{rows_of, rule_of};
-ghost use Rattle.command_words.specs.Parsing.{Fails, Gives, GivesInRange, HasBindings, IsParsed, flag_rule, parser_of, positional_rule, two_form, valued_rule};
-ghost use Rattle.command_words.specs.Words.{check_bound, check_form, command_from, command_named, command_of as command_of_words, generate_bound, generate_form, given, is_empty, is_number as is_number_word, method_of, number_after, number_in, show_bound, show_form, start_of, steps_bound, steps_form, value_of, verify_bound, verify_form, workers_given};
+ghost use Rattle.command_words.specs.Parsing.{Fails, Gives, GivesInRange, GivesValues, IsParsed, flag_rule, parser_of};
+ghost use Rattle.command_words.specs.Parsing.{positional_rule, two_form, valued_rule};
+ghost use Rattle.command_words.specs.Words.{check_bound, check_form, command_from, command_named};
+ghost use Rattle.command_words.specs.Words.{command_of as command_of_words, generate_bound, generate_form, given, is_empty};
+ghost use Rattle.command_words.specs.Words.{is_number as is_number_word, method_of, number_after, number_in, show_bound};
+ghost use Rattle.command_words.specs.Words.{show_form, start_of, steps_bound, steps_form, value_of, verify_bound};
+ghost use Rattle.command_words.specs.Words.{verify_form, workers_given};
 ghost use Rattle.command_words.specs.Words.{Binding, bindings, is_among, is_true, most_workers};
-ghost use Rattle.command_words.specs.Words.{Command as CommandData, Form as FormData, settings_of, most_generated, IsInRange, IsSettings, said};
+ghost use Rattle.command_words.specs.Words.{Command as CommandData, Form as FormData, settings_of, most_generated};
+ghost use Rattle.command_words.specs.Words.{IsInRange, IsSettings, said};
 
 use clap::error::ErrorKind;
 use clap::{Arg, ArgAction, ArgMatches, Command as Parser};
@@ -56,6 +63,9 @@ pub struct Settings {
 
 /// The budget where the words give none.
 const DEFAULT_BUDGET: u32 = 100_000;
+
+/// The most digits of a number.
+const MOST_DIGITS: usize = 7;
 
 /// The greatest budget.
 const MOST_BUDGET: u32 = 1_000_000;
@@ -265,7 +275,7 @@ fn generate_matches<'a>(
 
 // The value of the name, which is no option without a value.
 fn value_in<'a>(matches: &ArgMatches<'a>, name: &str) -> Option<&'a str>
-    ensures { (form : FormData) (bound : List Binding) → HasBindings form bound (rows_of (found_of matches.now)) → is_among name.now form.flags ≡ false
+    ensures { (form : FormData) (bound : List Binding) → GivesValues form bound matches.now → is_among name.now form.flags ≡ false
         → option_map (λ s. s.now) result ≡ value_of name.now bound }
 {
     matches.get_str(name)
@@ -283,7 +293,7 @@ fn is_given(word: Option<&str>) -> bool
 
 // Whether the report is asked for.
 fn report_in(matches: &ArgMatches<'_>) -> bool
-    ensures { (bound : List Binding) → HasBindings check_form bound (rows_of (found_of matches.now)) → result ≡ is_true (value_of (codes "report") bound) }
+    ensures { (bound : List Binding) → GivesValues check_form bound matches.now → result ≡ is_true (value_of (codes "report") bound) }
 {
     is_given(matches.get_str("report"))
 }
@@ -307,7 +317,7 @@ fn is_number(word: &str) -> bool
     ensures { result ≡ is_number_word word.now }
 {
     let bytes = word.as_bytes();
-    if bytes.is_empty() || bytes.len() > 7 {
+    if bytes.is_empty() || bytes.len() > MOST_DIGITS {
         return false;
     }
     are_digits(bytes)
@@ -389,8 +399,8 @@ fn start_or(word: Option<&str>) -> Option<Start>
 
 // The number of workers that the matches give.
 fn workers_in(matches: &ArgMatches<'_>) -> Option<u32>
-    ensures number { (form : FormData) (bound : List Binding) → HasBindings form bound (rows_of (found_of matches.now)) → is_among (codes "workers") form.flags ≡ false
-        → result ≡ workers_given bound }
+    ensures number { (form : FormData) (bound : List Binding) → GivesValues form bound matches.now
+        → is_among (codes "workers") form.flags ≡ false → result ≡ workers_given bound }
     ensures in_range { IfSome result (λ n. (1 ≤ n) × (n ≤ most_workers)) }
 {
     number_or(value_in(matches, "workers"), 1, 1, MOST_WORKERS)
@@ -398,7 +408,7 @@ fn workers_in(matches: &ArgMatches<'_>) -> Option<u32>
 
 // The settings that the matches give.
 fn settings_in(matches: &ArgMatches<'_>) -> Option<Settings>
-    ensures settings { (bound : List Binding) → HasBindings check_form bound (rows_of (found_of matches.now)) → result ≡ settings_of bound }
+    ensures settings { (bound : List Binding) → GivesValues check_form bound matches.now → result ≡ settings_of bound }
     ensures in_range { IfSome result IsSettings }
 {
     let method = method_or(value_in(matches, "method"))?;
@@ -419,7 +429,7 @@ fn settings_in(matches: &ArgMatches<'_>) -> Option<Settings>
 
 // The command that the matches of `check` mean.
 fn check_in<'a>(matches: &ArgMatches<'a>) -> Option<Command<'a>>
-    ensures command { (bound : List Binding) → HasBindings check_form bound (rows_of (found_of matches.now)) → Gives result (check_bound bound) }
+    ensures command { (bound : List Binding) → GivesValues check_form bound matches.now → Gives result (check_bound bound) }
     ensures in_range { GivesInRange result }
 {
     let file = value_in(matches, "FILE")?;
@@ -440,7 +450,7 @@ fn check_command<'a>(alloc: Global, words: &'a [String]) -> Result<Option<Comman
 
 // The command that the matches of `verify` mean.
 fn verify_in<'a>(matches: &ArgMatches<'a>) -> Option<Command<'a>>
-    ensures command { (bound : List Binding) → HasBindings verify_form bound (rows_of (found_of matches.now)) → Gives result (verify_bound bound) }
+    ensures command { (bound : List Binding) → GivesValues verify_form bound matches.now → Gives result (verify_bound bound) }
     ensures in_range { GivesInRange result }
 {
     let file = value_in(matches, "FILE")?;
@@ -450,7 +460,8 @@ fn verify_in<'a>(matches: &ArgMatches<'a>) -> Option<Command<'a>>
 
 // The command that the words of `verify` mean.
 fn verify_command<'a>(alloc: Global, words: &'a [String]) -> Result<Option<Command<'a>>, AllocError>
-    ensures command { IfOk result (λ found. Gives found (command_from verify_form verify_bound (drop 1 (map string_bytes words.entry.now)))) }
+    ensures command { IfOk result (λ found. Gives found (command_from verify_form verify_bound
+        (drop 1 (map string_bytes words.entry.now)))) }
     ensures in_range { IfOk result GivesInRange }
 {
     match verify_matches(alloc, words)? {
@@ -461,7 +472,7 @@ fn verify_command<'a>(alloc: Global, words: &'a [String]) -> Result<Option<Comma
 
 // The command that the matches of `show` mean.
 fn show_in<'a>(matches: &ArgMatches<'a>) -> Option<Command<'a>>
-    ensures command { (bound : List Binding) → HasBindings show_form bound (rows_of (found_of matches.now)) → Gives result (show_bound bound) }
+    ensures command { (bound : List Binding) → GivesValues show_form bound matches.now → Gives result (show_bound bound) }
     ensures in_range { GivesInRange result }
 {
     let file = value_in(matches, "FILE")?;
@@ -481,7 +492,7 @@ fn show_command<'a>(alloc: Global, words: &'a [String]) -> Result<Option<Command
 
 // The command that the matches of `steps` mean.
 fn steps_in<'a>(matches: &ArgMatches<'a>) -> Option<Command<'a>>
-    ensures command { (bound : List Binding) → HasBindings steps_form bound (rows_of (found_of matches.now)) → Gives result (steps_bound bound) }
+    ensures command { (bound : List Binding) → GivesValues steps_form bound matches.now → Gives result (steps_bound bound) }
     ensures in_range { GivesInRange result }
 {
     let file = value_in(matches, "FILE")?;
@@ -494,7 +505,8 @@ fn steps_in<'a>(matches: &ArgMatches<'a>) -> Option<Command<'a>>
 
 // The command that the words of `steps` mean.
 fn steps_command<'a>(alloc: Global, words: &'a [String]) -> Result<Option<Command<'a>>, AllocError>
-    ensures command { IfOk result (λ found. Gives found (command_from steps_form steps_bound (drop 1 (map string_bytes words.entry.now)))) }
+    ensures command { IfOk result (λ found. Gives found (command_from steps_form steps_bound
+        (drop 1 (map string_bytes words.entry.now)))) }
     ensures in_range { IfOk result GivesInRange }
 {
     match steps_matches(alloc, words)? {
@@ -505,7 +517,7 @@ fn steps_command<'a>(alloc: Global, words: &'a [String]) -> Result<Option<Comman
 
 // The number that the matches of `gen` give.
 fn generated_in(matches: &ArgMatches<'_>) -> Option<u32>
-    ensures number { (bound : List Binding) → HasBindings generate_form bound (rows_of (found_of matches.now))
+    ensures number { (bound : List Binding) → GivesValues generate_form bound matches.now
         → result ≡ option_and_then (number_in 1 most_generated) (value_of (codes "N") bound) }
     ensures in_range { IfSome result (λ n. (1 ≤ n) × (n ≤ most_generated)) }
 {
@@ -515,7 +527,7 @@ fn generated_in(matches: &ArgMatches<'_>) -> Option<u32>
 
 // The command that the matches of `gen` mean.
 fn generate_in<'a>(matches: &ArgMatches<'a>) -> Option<Command<'a>>
-    ensures command { (bound : List Binding) → HasBindings generate_form bound (rows_of (found_of matches.now)) → Gives result (generate_bound bound) }
+    ensures command { (bound : List Binding) → GivesValues generate_form bound matches.now → Gives result (generate_bound bound) }
     ensures in_range { GivesInRange result }
 {
     let number = generated_in(matches)?;
@@ -528,7 +540,8 @@ fn generate_command<'a>(
     alloc: Global,
     words: &'a [String],
 ) -> Result<Option<Command<'a>>, AllocError>
-    ensures command { IfOk result (λ found. Gives found (command_from generate_form generate_bound (drop 1 (map string_bytes words.entry.now)))) }
+    ensures command { IfOk result (λ found. Gives found (command_from generate_form generate_bound
+        (drop 1 (map string_bytes words.entry.now)))) }
     ensures in_range { IfOk result GivesInRange }
 {
     match generate_matches(alloc, words)? {

@@ -1,5 +1,5 @@
 -- The reply of `check`, and what it promises.
-use Rattle.std.specs.Prelude.{◌≡◌, ℕ, List, [], Bool, if◌then◌else◌}
+use Rattle.std.specs.Prelude.{◌≡◌, ℕ, List, [], if◌then◌else◌}
 use Rattle.protocol_model.specs.System.{SystemData}
 use Rattle.search_history.specs.declared.log.Log.{Log}
 use Rattle.search_report.specs.Report.{report_text}

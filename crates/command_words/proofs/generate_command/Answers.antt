@@ -7,12 +7,14 @@ pub returns-in-Some : goal.returns-in-Some
 returns-in-Some c =
     let parsed = matched _ _ c.in_ok-matches.field-0 c.in-Some.matches c.in-Some.is c.in_ok-matches.ensures in
     record {
-      command = from_bound c.generate_in.result generate_form generate_bound (drop 1 (map string_bytes c.args.words.now)) parsed.bound parsed.says (c.generate_in.ensures.command parsed.bound parsed.has);
+      command = from_bound c.generate_in.result generate_form generate_bound (drop 1 (map string_bytes c.args.words.now))
+          parsed.bound parsed.says (c.generate_in.ensures.command parsed.bound parsed.has);
       in_range = c.generate_in.ensures.in_range;
     }
 
 pub returns-in-None : goal.returns-in-None
 returns-in-None c = record {
-  command = from_none generate_form generate_bound (drop 1 (map string_bytes c.args.words.now)) (unmatched _ _ c.in_ok-matches.field-0 c.in-None.is c.in_ok-matches.ensures);
+  command = from_none generate_form generate_bound (drop 1 (map string_bytes c.args.words.now))
+      (unmatched _ _ c.in_ok-matches.field-0 c.in-None.is c.in_ok-matches.ensures);
   in_range = tt;
 }

@@ -5,7 +5,8 @@ use Rattle.command_words.proofs.show_in.Goals as goal
 
 pub returns-in_err-file-clause-command : goal.returns-in_err-file-clause-command
 returns-in_err-file-clause-command c bound has =
-    gives_none c.from_residual.result _ (search rules) (ap (option_map show) (sym (c.value_in.ensures show_form bound has refl) ∙ ap (option_map (λ s. s.now)) c.in_err-file.was))
+    gives_none c.from_residual.result _ (search rules)
+    (ap (option_map show) (sym (c.value_in.ensures show_form bound has refl) ∙ ap (option_map (λ s. s.now)) c.in_err-file.was))
 
 pub returns-clause-command : goal.returns-clause-command
 returns-clause-command c bound has =

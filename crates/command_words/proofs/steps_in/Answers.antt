@@ -5,11 +5,13 @@ use Rattle.command_words.proofs.steps_in.Goals as goal
 
 pub returns-in_err-file-clause-command : goal.returns-in_err-file-clause-command
 returns-in_err-file-clause-command c bound has =
-    gives_none c.from_residual.result _ (search rules) (ap (λ x. two_of steps x (value_of (codes "CONFIGURATION") bound)) (sym (c.value_in.ensures steps_form bound has refl) ∙ ap (option_map (λ s. s.now)) c.in_err-file.was))
+    gives_none c.from_residual.result _ (search rules)
+    (ap (λ x. two_of steps x (value_of (codes "CONFIGURATION") bound)) (sym (c.value_in.ensures steps_form bound has refl) ∙ ap (option_map (λ s. s.now)) c.in_err-file.was))
 
 pub returns-in_err-configuration-clause-command : goal.returns-in_err-configuration-clause-command
 returns-in_err-configuration-clause-command c bound has =
-    gives_none c.from_residual-in_err-configuration.result _ (search rules) (ap₂ (two_of steps) (sym (c.value_in.ensures steps_form bound has refl) ∙ ap (option_map (λ s. s.now)) c.in_ok-file.was)
+    gives_none c.from_residual-in_err-configuration.result _ (search rules)
+    (ap₂ (two_of steps) (sym (c.value_in.ensures steps_form bound has refl) ∙ ap (option_map (λ s. s.now)) c.in_ok-file.was)
     (sym (c.value_in-2.ensures steps_form bound has refl) ∙ ap (option_map (λ s. s.now)) c.in_err-configuration.was))
 
 pub returns-clause-command : goal.returns-clause-command

@@ -1,4 +1,4 @@
-use Rattle.std.proofs.Common.{◌≡◌, ℕ, List, inr, subst}
+use Rattle.std.proofs.Common.{ℕ, List, inr, subst}
 use Rattle.command_words.specs.Words.{said}
 use Rattle.armc_commands.specs.Origin.{Told, Origin, IsTextFrom, origin_of}
 use Rattle.armc_commands.specs.Commands.{CommandReply}
