@@ -3,6 +3,7 @@
 ghost use Rattle.std.specs.Prelude.{◌≡◌, ◌<◌, Contains, IfOk, IfSome, OnOk, length, slice_get};
 ghost use Rattle.indexmap.specs.IndexSet.{index_set_len};
 ghost use Rattle.word_automata.specs.Path.{edges_of};
+ghost use Rattle.word_automata.specs.Automaton.{target};
 ghost use Rattle.transducers.specs.Transducer.{IsValid, IsEdge};
 ghost use Rattle.image_preimage.specs.Pairs.{advance, IsReached, Numbers, Follows, Expands};
 
@@ -117,8 +118,23 @@ fn advance(a: &Dfa, state: usize, letter: Option<u32>) -> Option<usize>
 {
     match letter {
         None => Some(state),
-        Some(letter) => a.target(state, letter),
+        Some(letter) => target_of(a, state, letter),
     }
+}
+
+/// Where the letter leads from the state, if anywhere. Where the state has an edge for each letter, it stands at the place of the letter
+/// and is not searched for.
+fn target_of(a: &Dfa, state: usize, letter: u32) -> Option<usize>
+    requires { state < length a.now.states }
+    ensures value { result ≡ target a.now state letter }
+    ensures in_range { IfSome result (λ to. to < length a.now.states) }
+{
+    let edges = a.edges_from(state);
+    let place = letter as usize;
+    if place < edges.len() && edges[place].0 == letter {
+        return Some(edges[place].1);
+    }
+    a.target(state, letter)
 }
 
 /// The pair with this number.
