@@ -5,7 +5,7 @@ ghost use Rattle.std.specs.Prelude.{◌≡◌, IfOk};
 use boolean_operations::{complement, difference, is_empty, union};
 use std::alloc::Global;
 use std::test::Fail;
-use word_automata::{BuildFault, Dfa, DfaBuilder};
+use word_automata::{Dfa, DfaBuilder};
 
 /// The words over the letters 0 and 1 in which 1 stands once.
 fn one_token(alloc: Global) -> Result<Dfa, Fail>
@@ -32,17 +32,6 @@ fn words_are_read(rt: HostRuntime) -> Result<(), Fail> {
     let nondeterministic = token.as_nfa(rt.alloc())?;
     assert!(rt; nondeterministic.accepts(rt.alloc(), &[0, 1])?);
     assert!(rt; !nondeterministic.accepts(rt.alloc(), &[0, 0])?);
-    Ok(())
-}
-
-#[test]
-fn edges_out_of_range_are_refused(rt: HostRuntime) -> Result<(), Fail> {
-    let mut builder = DfaBuilder::new(rt.alloc(), 1);
-    assert!(rt; matches!(builder.accept(0), Err(BuildFault::OutOfRange)));
-    let state = builder.state(true)?;
-    assert!(rt; matches!(builder.edge(state, 1, state), Err(BuildFault::OutOfRange)));
-    builder.edge(state, 0, state)?;
-    assert!(rt; matches!(builder.edge(state, 0, state), Err(BuildFault::TwoEdges)));
     Ok(())
 }
 

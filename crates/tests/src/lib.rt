@@ -1,4 +1,4 @@
-//! Tests of the public calls that the program does not make, and of reads and writes that fail.
+//! Tests of the public calls that the program does not make, of reads and writes that fail, and of threads.
 //!
 //! What the program does is shown by whole runs of it, in the folder `tests` at the top. Each function here is proved before it is
 //! run, so they are short, and a text is read rather than a system built.
@@ -20,8 +20,8 @@ mod images;
 mod moves;
 #[cfg(test)]
 mod outside;
-#[cfg(test)]
-mod relations;
 mod systems;
+#[cfg(test)]
+mod threads;
 
 pub use systems::read_system;

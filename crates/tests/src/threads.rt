@@ -1,0 +1,135 @@
+//! Images and preimages in threads: those of two rules are in work at once, and each rule is asked once.
+
+ghost use Rattle.std.specs.Prelude.{◌≤◌};
+
+use crate::moves::{HANDOFF, system};
+use armc_io::Gate;
+use parallel_post::Compiled;
+use safety_problem::Problem;
+use std::alloc::Global;
+use std::sync::atomic::{AtomicBool, AtomicU64, Ordering};
+use std::test::Fail;
+use std::thread::{self, Threads};
+
+/// So many times a rule looks whether the other one has come.
+const TURNS: u32 = 10_000_000;
+
+/// A gate for two rules that holds each until the other has come, and tells whether one gave up waiting.
+#[derive(Drop)]
+struct Meeting {
+    entered: [AtomicBool; 2],
+    given_up: AtomicBool,
+}
+
+impl Meeting {
+    fn new() -> Meeting {
+        Meeting {
+            entered: [AtomicBool::new(false), AtomicBool::new(false)],
+            given_up: AtomicBool::new(false),
+        }
+    }
+}
+
+impl Gate for Meeting {
+    fn enter(&self, rule: u32) {
+        let [first, second] = &self.entered;
+        let (mine, other) = if rule == 0 {
+            (first, second)
+        } else {
+            (second, first)
+        };
+        mine.store(true, Ordering::SeqCst);
+        for _turn in 0..TURNS {
+            if other.load(Ordering::SeqCst) {
+                return;
+            }
+            thread::yield_now();
+        }
+        self.given_up.store(true, Ordering::SeqCst);
+    }
+}
+
+/// A gate that counts how often each of two rules comes.
+#[derive(Drop)]
+struct Counting {
+    entered: [AtomicU64; 2],
+}
+
+impl Counting {
+    fn new() -> Counting {
+        Counting {
+            entered: [AtomicU64::new(0), AtomicU64::new(0)],
+        }
+    }
+}
+
+impl Gate for Counting {
+    fn enter(&self, rule: u32) {
+        let [first, second] = &self.entered;
+        let mine = if rule == 0 { first } else { second };
+        mine.fetch_add(1, Ordering::SeqCst);
+    }
+}
+
+/// How many states the image of the initial words has, for the protocol with a cell and a channel.
+fn image_size<G: Gate, R: Threads + Sync>(
+    alloc: Global,
+    rt: &R,
+    gate: &G,
+    workers: u32,
+) -> Result<usize, Fail>
+    requires { (1 ≤ workers) × (workers ≤ 16) }
+{
+    let system = system(alloc, HANDOFF)?;
+    let problem = Compiled::new(alloc, rt, gate, &system, workers)?;
+    Ok(problem.post(problem.initial())?.size())
+}
+
+/// How many states the preimage of the bad words has, for the same protocol.
+fn preimage_size<G: Gate, R: Threads + Sync>(
+    alloc: Global,
+    rt: &R,
+    gate: &G,
+    workers: u32,
+) -> Result<usize, Fail>
+    requires { (1 ≤ workers) × (workers ≤ 16) }
+{
+    let system = system(alloc, HANDOFF)?;
+    let problem = Compiled::new(alloc, rt, gate, &system, workers)?;
+    Ok(problem.pre(problem.bad())?.size())
+}
+
+#[test]
+fn images_of_two_rules_are_in_work_at_once(rt: HostRuntime) -> Result<(), Fail> {
+    let gate = Meeting::new();
+    assert_eq!(rt; image_size(rt.alloc(), &rt, &gate, 2)?, 4);
+    assert!(rt; !gate.given_up.load(Ordering::SeqCst));
+    Ok(())
+}
+
+#[test]
+fn preimages_of_two_rules_are_in_work_at_once(rt: HostRuntime) -> Result<(), Fail> {
+    let gate = Meeting::new();
+    assert_eq!(rt; preimage_size(rt.alloc(), &rt, &gate, 2)?, 7);
+    assert!(rt; !gate.given_up.load(Ordering::SeqCst));
+    Ok(())
+}
+
+/// How often each of the two rules is asked for its image and for its preimage, by so many workers.
+fn calls<R: Threads + Sync>(alloc: Global, rt: &R, workers: u32) -> Result<[u64; 4], Fail>
+    requires { (1 ≤ workers) × (workers ≤ 16) }
+{
+    let (post, pre) = (Counting::new(), Counting::new());
+    let _image = image_size(alloc, rt, &post, workers)?;
+    let _preimage = preimage_size(alloc, rt, &pre, workers)?;
+    let ([a, b], [c, d]) = (post.entered, pre.entered);
+    Ok([a, b, c, d].map(|calls| calls.load(Ordering::SeqCst)))
+}
+
+#[test]
+fn each_rule_is_asked_once(rt: HostRuntime) -> Result<(), Fail> {
+    assert!(rt; calls(rt.alloc(), &rt, 1)? == [1, 1, 1, 1]);
+    assert!(rt; calls(rt.alloc(), &rt, 2)? == [1, 1, 1, 1]);
+    assert!(rt; calls(rt.alloc(), &rt, 16)? == [1, 1, 1, 1]);
+    Ok(())
+}
