@@ -1,7 +1,7 @@
 use Rattle.std.proofs.Common.{◌≡◌, ◌∙◌, ℕ, List, subst, sym, arith}
 use Rattle.command_words.specs.Words.{is_number}
 use Rattle.command_words.proofs.Digits.{is_number-by, some_byte}
-use Rattle.command_words.proofs.is_number.Goals as goal
+use Rattle.command_words.proofs.values.is_number.Goals as goal
 
 pub returns : goal.returns
 returns c =

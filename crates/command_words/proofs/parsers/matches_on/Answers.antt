@@ -7,7 +7,7 @@ use Rattle.clap.specs.declared.error.Error.{Error}
 use Rattle.clap.specs.declared.error.kind.ErrorKind.{ErrorKind}
 use Rattle.clap.specs.declared.error.kind.ErrorKind.TheVariants.{OutOfMemory}
 use Rattle.command_words.specs.Parsing.{Fails}
-use Rattle.command_words.proofs.matches_on.Goals as goal
+use Rattle.command_words.proofs.parsers.matches_on.Goals as goal
 
 some_kind : (k : ErrorKind) (kinds : Kinds) → IsAmong k kinds → Fails kinds
 some_kind k [] among = among

@@ -1,7 +1,7 @@
 use Rattle.std.proofs.Common.{rules, ◌≡◌, ◌∙◌, sym, ap, refl, None, option_map}
 use Rattle.std.specs.Prelude.{option_and_then}
 use Rattle.command_words.specs.Words.{generate_form, most_generated, number_in}
-use Rattle.command_words.proofs.generated_in.Goals as goal
+use Rattle.command_words.proofs.values.generated_in.Goals as goal
 
 pub returns-in_err-word-clause-number : goal.returns-in_err-word-clause-number
 returns-in_err-word-clause-number c bound has =

@@ -3,7 +3,7 @@ use Rattle.command_words.specs.declared.Method.TheVariants.{Predicates}
 use Rattle.command_words.specs.declared.Start.TheVariants.{Bad}
 use Rattle.command_words.specs.Words.{check_form, default_budget, given, method_of, most_bound, most_budget, number_in, start_of}
 use Rattle.command_words.proofs.Given.{all_settings, no_bound, no_budget, no_method, no_start, no_workers}
-use Rattle.command_words.proofs.settings_in.Goals as goal
+use Rattle.command_words.proofs.values.settings_in.Goals as goal
 
 pub returns-in_err-method-clause-settings : goal.returns-in_err-method-clause-settings
 returns-in_err-method-clause-settings c bound has =

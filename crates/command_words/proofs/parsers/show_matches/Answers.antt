@@ -2,7 +2,7 @@ use Rattle.std.proofs.Common.{codes}
 use Rattle.command_words.specs.Words.{show_form}
 use Rattle.command_words.proofs.FormMatches.{show_formed}
 use Rattle.command_words.proofs.Given.{from_matches}
-use Rattle.command_words.proofs.show_matches.Goals as goal
+use Rattle.command_words.proofs.parsers.show_matches.Goals as goal
 
 pub returns : goal.returns
 returns c =

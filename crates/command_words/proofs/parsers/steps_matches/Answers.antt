@@ -2,7 +2,7 @@ use Rattle.std.proofs.Common.{codes}
 use Rattle.command_words.specs.Words.{steps_form}
 use Rattle.command_words.proofs.FormMatches.{steps_formed}
 use Rattle.command_words.proofs.Given.{from_matches}
-use Rattle.command_words.proofs.steps_matches.Goals as goal
+use Rattle.command_words.proofs.parsers.steps_matches.Goals as goal
 
 pub returns : goal.returns
 returns c =
