@@ -2,6 +2,7 @@
 //! its values are read here (`values`); the words that `clap` refuses are no command. Linear in the bytes of the words.
 #![tactic(auto)]
 
+mod law;
 mod parsers;
 mod values;
 
@@ -13,6 +14,7 @@ ghost use Rattle.command_words.specs.Words.{command_of as command_of_words, gene
 ghost use Rattle.command_words.specs.Words.{show_bound, show_form, steps_bound, steps_form, verify_bound, verify_form};
 ghost use Rattle.command_words.specs.Words.{Binding, IsInRange, said};
 
+pub use crate::law::plain_forms_mean;
 use crate::parsers::{
     check_matches, generate_matches, show_matches, steps_matches, verify_matches,
 };
