@@ -16,7 +16,10 @@ syntax keyword armcRegion left right others
 syntax keyword armcTable map
 syntax keyword armcPattern any empty
 syntax keyword armcUnused language lossy spawn exit lose
-syntax match armcDeclared /\<\w\+\>/ contained contains=armcUnused
+let s:reserved = 'protocol|language|cell|array|channel|stack|lossy|init|rule|bad|any|empty|at|pair|ring|two|set|send|recv|pop|push'
+let s:reserved .= '|spawn|exit|lose|when|all|some|left|right|others|in|map'
+execute 'syntax match armcDeclared /\v<%(%(' . s:reserved . ')>)@!\w+>/ contained'
+unlet s:reserved
 syntax match armcSection /\<\w\+\>\ze\s*:/
 syntax match armcArrow /->/
 syntax match armcRepeat /[*+]/
