@@ -180,8 +180,11 @@ def wrong_words(shell, told, wanted):
 
 
 def completions_of_bash():
-    ask = 'source completions/armc.bash; for line in "armc |" "armc check |--" "armc check f --method|" "armc gen |--w" "armc show |examples/tick"; do ' \
-        'read -ra COMP_WORDS <<<"${line/|/}"; [ "${line: -1}" = "|" ] && COMP_WORDS+=(""); COMP_CWORD=$((${#COMP_WORDS[@]}-1)); _armc; echo "${COMPREPLY[*]}"; done'
+    ask = (
+        'source completions/armc.bash; for line in "armc |" "armc check |--" "armc check f --method|" "armc gen |--w" "armc show |examples/tick"; do '
+        'read -ra COMP_WORDS <<<"${line/|/}"; [ "${line: -1}" = "|" ] && COMP_WORDS+=(""); COMP_CWORD=$((${#COMP_WORDS[@]}-1)); '
+        '_armc; echo "${COMPREPLY[*]}"; done'
+    )
     found = run(["bash", "-c", ask], cwd=TOP)
     files = " ".join(sorted(f"examples/{name}" for name in os.listdir(os.path.join(TOP, "examples")) if name.startswith("tick")))
     wanted = [COMMANDS, OPTIONS, "predicates length", "--workers", files]
@@ -193,7 +196,8 @@ def completions_of_zsh():
     if not shutil.which("zsh"):
         return "zsh is not there"
     # The functions of zsh that offer words are replaced by ones that print what they are given.
-    ask = '_describe() { for each in $commands; do echo ${each%%:*}; done }; _arguments() { print -l -- "$@" }; words=(armc {}); CURRENT={}; source completions/_armc'
+    ask = '_describe() { for each in $commands; do echo ${each%%:*}; done }; _arguments() { print -l -- "$@" }; '
+    ask += "words=(armc {}); CURRENT={}; source completions/_armc"
     told = [run(["zsh", "-fc", ask.replace("{}", words, 1).replace("{}", at)], cwd=TOP) for words, at in (("''", "2"), ("check ''", "3"), ("gen ''", "3"))]
     wrong = [line for found in told for line in found.stderr.splitlines()] + wrong_words("zsh", told[0].stdout, COMMANDS)
     wrong += wrong_words("zsh", " ".join(re.findall(r"^--\w+", told[1].stdout, re.M)), OPTIONS)
@@ -302,7 +306,7 @@ def syntax_of_textmate():
     return wrong + ([] if bad[0] == "invalid.illegal.reserved.armc" and bad[6] == bad[8] == "invalid.illegal.byte.armc" else [f"bad words are {bad}"])
 
 
-VIM = """set nocompatible
+VIM = """set nocompatible noswapfile shortmess+=A
 set runtimepath^={folder}
 syntax on
 let out = []
@@ -388,7 +392,8 @@ def pages_for_newcomers():
                 wrong += [] if os.path.isdir(os.path.join(TOP, "tests", "cases", name)) else [f"{page}: tests/cases has no {name}"]
     patterns = {os.path.basename(path)[:-5] for path in glob.glob(os.path.join(TOP, "examples", "patterns", "*.armc"))}
     named = set(re.findall(r"\(`(\w+)`[,)]", read("docs", "MODELLING.md"))) | {"pointer"}
-    return wrong + [f"MODELLING.md does not name {name}" for name in sorted(patterns - named)] + [f"there is no pattern {name}" for name in sorted(named - patterns)]
+    wrong += [f"MODELLING.md does not name {name}" for name in sorted(patterns - named)]
+    return wrong + [f"there is no pattern {name}" for name in sorted(named - patterns)]
 
 
 def checks(program):
