@@ -1,0 +1,33 @@
+# Completions of armc for bash: commands, options, their values and files. Put it where bash-completion looks (install does so), or
+# source it.
+_armc() {
+  local word=${COMP_WORDS[COMP_CWORD]} before=${COMP_WORDS[COMP_CWORD-1]} command=${COMP_WORDS[1]} words=''
+  COMPREPLY=()
+  # Where = separates words, it stands alone between an option and its value.
+  if [ "$before" = = ]; then before=${COMP_WORDS[COMP_CWORD-2]}; fi
+  if [ "$word" = = ]; then word=''; fi
+  if [ "$COMP_CWORD" -eq 1 ]; then
+    words='check verify show steps gen'
+  else
+    case $before in
+      --method) words='predicates length' ;;
+      --start) words='bad none' ;;
+      --budget) words='1000 10000 100000 1000000' ;;
+      --bound) words='0 1 2 4 8 16 32 64' ;;
+      --workers) words='1 2 4 8 16' ;;
+      *)
+        case $command:$word in
+          check:-*) words='--method --start --bound --budget --workers --report' ;;
+          gen:-*) words='--workers' ;;
+          check:* | verify:* | show:* | steps:*)
+            mapfile -t COMPREPLY < <(compgen -f -- "$word")
+            compopt -o filenames 2>/dev/null
+            return
+            ;;
+        esac
+        ;;
+    esac
+  fi
+  mapfile -t COMPREPLY < <(compgen -W "$words" -- "$word")
+}
+complete -F _armc armc ./armc

@@ -1,0 +1,418 @@
+"""What stands around the program: the launcher and its build, install, manual pages, completions, syntax files for editors, the check of a
+folder, and the pages for newcomers. Each check is a pair of a name and a list of lines that say what is wrong, or a word that says why it
+was skipped: a checker (mandoc, zsh, fish, vim) that is not on this machine.
+"""
+import glob
+import json
+import os
+import re
+import shutil
+import signal
+import subprocess
+import sys
+import tempfile
+import time
+
+TOP = os.path.dirname(os.path.dirname(os.path.abspath(__file__)))
+SECONDS = 300
+
+# A command rt that proves nothing: `lib` and `run` write what they were asked to a list, and `run` makes a program that prints its words.
+FAKE = """#!/usr/bin/env bash
+name=$(basename "$PWD")
+case $1 in
+version) echo "$FAKE_KIT logic 0" ;;
+lib) echo "$name" >>"$FAKE_LIST"; sleep "$FAKE_SLEEP"; [ "$name" != "$FAKE_FAULT" ] ;;
+run) echo "$name" >>"$FAKE_LIST"; mkdir -p out; cat >out/armc <<'END'
+#!/bin/sh
+[ "$1" = verify ] && { echo valid; exit 0; }
+echo "words: $*"; exit 3
+END
+chmod +x out/armc; echo valid ;;
+try) shift 2; echo "words: $*"; printf 'armc: not proved\\nchecked: ended status=5\\nrun=ended status=5 runners=1 races=unchecked proved=no\\n' >&2; exit 5 ;;
+esac
+"""
+CRATES = "low:\nmiddle: low io\nother: low\ntop: middle other\narmc: top\ntests: top\n"
+
+
+def read(*parts):
+    with open(os.path.join(TOP, *parts), encoding="utf-8") as file:
+        return file.read()
+
+
+def run(words, **how):
+    return subprocess.run(words, stdin=subprocess.DEVNULL, capture_output=True, text=True, timeout=SECONDS, **how)
+
+
+def differences(found, wanted):
+    return [f"{name} is {f!r}, and must be {w!r}" for name, (f, w) in {name: (found.get(name), wanted[name]) for name in wanted}.items() if f != w]
+
+
+class Tree:
+    """A small repository with the launcher and its surroundings, five crates without content and the rt above."""
+
+    def __init__(self, folder):
+        self.top, self.list = os.path.join(folder, "repository"), os.path.join(folder, "list")
+        os.makedirs(os.path.join(self.top, "examples"))
+        for name in ("armc", "install"):
+            shutil.copy(os.path.join(TOP, name), self.top)
+        for name in ("tools", "man", "completions"):
+            shutil.copytree(os.path.join(TOP, name), os.path.join(self.top, name))
+        for name in ("first.armc", "first.cert"):
+            shutil.copy(os.path.join(TOP, "examples", name), os.path.join(self.top, "examples"))
+        with open(os.path.join(self.top, "crates.txt"), "w") as file:
+            file.write(CRATES)
+        for line in CRATES.splitlines():
+            os.makedirs(os.path.join(self.top, "crates", line.partition(":")[0], "src"))
+        with open(os.path.join(self.top, "HANDLES"), "w") as file:
+            file.write("Handles allowed: none.\n")
+        self.bin = os.path.join(folder, "bin")
+        os.makedirs(self.bin)
+        with open(os.path.join(self.bin, "rt"), "w") as file:
+            file.write(FAKE)
+        os.chmod(os.path.join(self.bin, "rt"), 0o755)
+        self.environment = {**os.environ, "PATH": f"{self.bin}:{os.environ['PATH']}", "FAKE_LIST": self.list, "FAKE_SLEEP": "0", "FAKE_FAULT": ""}
+        self.environment.update(FAKE_KIT="rattle-kit-13f", TMPDIR=folder, ARMC_JOBS="2")
+        self.environment.pop("ARMC_TRY", None)
+
+    def call(self, *words, program="armc", **changed):
+        open(self.list, "w").close()
+        found = run([os.path.join(self.top, program), *words], env={**self.environment, **changed}, cwd=self.top)
+        with open(self.list) as file:
+            return {"status": found.returncode, "stdout": found.stdout, "stderr": found.stderr, "asked": file.read().split()}
+
+    def forget(self):
+        shutil.rmtree(os.path.join(self.top, "crates", "armc", "out"), ignore_errors=True)
+
+
+def launcher():
+    """The launcher over the rt above: what it asks of it, what it says, and its status."""
+    with tempfile.TemporaryDirectory() as folder:
+        tree, wrong = Tree(folder), []
+        found = tree.call("show", "a b")
+        wrong += differences(found, {"status": 3, "stdout": "words: show a b\n"})
+        if sorted(found["asked"]) != ["armc", "low", "middle", "other", "top"] or found["asked"][0] != "low" or found["asked"][-1] != "armc":
+            wrong.append(f"it proves {found['asked']}")
+        if "armc: proved 5 of 5 crates, 0 min: armc\narmc: the program is built\n" not in found["stderr"]:
+            wrong.append(f"it says {found['stderr']!r}")
+        wrong += differences(tree.call("x"), {"status": 3, "stdout": "words: x\n", "stderr": "", "asked": []})
+        tree.forget()
+        found = tree.call("x", FAKE_FAULT="other")
+        if found["status"] != 126 or "could not be built, at crate other; " not in found["stderr"] or "top" in found["asked"]:
+            wrong.append(f"with a crate that is not proved: {found}")
+        found = tree.call("x", FAKE_KIT="rattle-kit-13e")
+        if found["status"] != 126 or found["asked"] or found["stderr"].count("\n") != 1 or "rattle-kit-13f or later is needed" not in found["stderr"]:
+            wrong.append(f"with an old kit: {found}")
+        os.remove(os.path.join(tree.bin, "rt"))
+        if not shutil.which("rt", path=tree.environment["PATH"]):
+            found = tree.call("x")
+            if found["status"] != 126 or found["stderr"].count("\n") != 1 or "is not on the path" not in found["stderr"]:
+                wrong.append(f"without rt: {found}")
+        return wrong
+
+
+def launcher_unproved():
+    """ARMC_TRY=1: the words reach `rt try`, with the files' whole paths, the status is the program's, and it says that nothing is proved."""
+    with tempfile.TemporaryDirectory() as folder:
+        tree = Tree(folder)
+        found = tree.call("verify", "examples/first.armc", "nowhere", ARMC_TRY="1")
+        wrong = differences(found, {"status": 5, "stdout": f"words: verify {tree.top}/examples/first.armc nowhere\n", "asked": []})
+        lines = found["stderr"].splitlines()
+        return wrong + ([] if lines[1:] == ["armc: not proved"] and "nothing of this run is proved" in lines[0] else [f"it says {lines}"])
+
+
+def launcher_interrupted():
+    """An interrupt ends what runs, and the next call goes on."""
+    with tempfile.TemporaryDirectory() as folder:
+        tree = Tree(folder)
+        environment = {**tree.environment, "FAKE_SLEEP": "30"}
+        build = subprocess.Popen([os.path.join(tree.top, "tools", "build-program")], env=environment, stderr=subprocess.PIPE, text=True)
+        end = time.monotonic() + 60
+        while not os.path.exists(tree.list) and time.monotonic() < end:
+            time.sleep(0.1)
+        build.send_signal(signal.SIGINT)
+        said = build.communicate(timeout=60)[1]
+        wrong = [] if build.returncode == 130 and "interrupted; what is proved is kept" in said else [f"status {build.returncode}: {said!r}"]
+        return wrong + differences(tree.call("x"), {"status": 3, "stdout": "words: x\n"})
+
+
+def installed():
+    """install puts the program, its pages and its completions under a prefix, and takes all of them away."""
+    with tempfile.TemporaryDirectory() as folder:
+        tree, prefix = Tree(folder), os.path.join(folder, "prefix")
+        found = tree.call(prefix, program="install")
+        files = sorted(os.path.relpath(os.path.join(at, name), prefix) for at, _, names in os.walk(prefix) for name in names)
+        wanted = ["bin/armc", "share/armc/installed", "share/bash-completion/completions/armc", "share/fish/vendor_completions.d/armc.fish"]
+        wanted += ["share/man/man1/armc.1", "share/man/man5/armc-protocol.5", "share/zsh/site-functions/_armc"]
+        wrong = [] if found["status"] == 0 and files == wanted else [f"installing: {found}, {files}"]
+        if shutil.which("mandoc"):
+            wrong += lint_pages(os.path.join(prefix, "share", "man"))
+        found = tree.call("--uninstall", prefix, program="install")
+        left = [name for _, _, names in os.walk(prefix) for name in names]
+        wrong += [] if found["status"] == 0 and not left else [f"taking away: {found}, {left}"]
+        found = tree.call("--uninstall", prefix, program="install")
+        return wrong + ([] if found["status"] == 1 and "nothing of armc is installed" in found["stderr"] else [f"taking away twice: {found}"])
+
+
+def lint_pages(folder):
+    """What mandoc finds in the manual pages below a folder. Each names the other one, which mandoc looks for in the folders of the system."""
+    pages = sorted(glob.glob(os.path.join(folder, "man*", "*")))
+    found = run(["mandoc", "-Tlint", *pages])
+    lines = [line for line in (found.stdout + found.stderr).splitlines() if "referenced manual not found: Xr armc" not in line]
+    return lines + ([] if len(pages) == 2 else [f"the pages are {pages}"])
+
+
+def manual_pages():
+    if not shutil.which("mandoc"):
+        return "mandoc is not there"
+    with tempfile.TemporaryDirectory() as folder:
+        for name in ("armc.1", "armc-protocol.5"):
+            os.makedirs(os.path.join(folder, f"man{name[-1]}"))
+            shutil.copy(os.path.join(TOP, "man", name), os.path.join(folder, f"man{name[-1]}"))
+        return lint_pages(folder)
+
+
+COMMANDS = "check verify show steps gen"
+OPTIONS = "--method --start --bound --budget --workers --report"
+
+
+def wrong_words(shell, told, wanted):
+    return [] if sorted(told.split()) == sorted(wanted.split()) else [f"{shell} offers {told.split()}, and must offer {wanted.split()}"]
+
+
+def completions_of_bash():
+    ask = (
+        'source completions/armc.bash; for line in "armc |" "armc check |--" "armc check f --method|" "armc gen |--w" "armc show |examples/tick"; do '
+        'read -ra COMP_WORDS <<<"${line/|/}"; [ "${line: -1}" = "|" ] && COMP_WORDS+=(""); COMP_CWORD=$((${#COMP_WORDS[@]}-1)); '
+        '_armc; echo "${COMPREPLY[*]}"; done'
+    )
+    found = run(["bash", "-c", ask], cwd=TOP)
+    files = " ".join(sorted(f"examples/{name}" for name in os.listdir(os.path.join(TOP, "examples")) if name.startswith("tick")))
+    wanted = [COMMANDS, OPTIONS, "predicates length", "--workers", files]
+    told = found.stdout.split("\n")[:-1]
+    return found.stderr.splitlines() + ([f"it answers {told}"] if len(told) != len(wanted) else sum(map(wrong_words, ["bash"] * 5, told, wanted), []))
+
+
+def completions_of_zsh():
+    if not shutil.which("zsh"):
+        return "zsh is not there"
+    # The functions of zsh that offer words are replaced by ones that print what they are given.
+    ask = '_describe() { for each in $commands; do echo ${each%%:*}; done }; _arguments() { print -l -- "$@" }; '
+    ask += "words=(armc {}); CURRENT={}; source completions/_armc"
+    told = [run(["zsh", "-fc", ask.replace("{}", words, 1).replace("{}", at)], cwd=TOP) for words, at in (("''", "2"), ("check ''", "3"), ("gen ''", "3"))]
+    wrong = [line for found in told for line in found.stderr.splitlines()] + wrong_words("zsh", told[0].stdout, COMMANDS)
+    wrong += wrong_words("zsh", " ".join(re.findall(r"^--\w+", told[1].stdout, re.M)), OPTIONS)
+    return wrong + wrong_words("zsh", " ".join(re.findall(r"^--\w+", told[2].stdout, re.M)), "--workers")
+
+
+def completions_of_fish():
+    if not shutil.which("fish"):
+        return "fish is not there"
+    wrong = []
+    for line, wanted in (("armc ", COMMANDS), ("armc check --", OPTIONS), ("armc check --method ", "predicates length"), ("armc gen --", "--workers")):
+        found = run(["fish", "--no-config", "-c", f"source completions/armc.fish; complete -C '{line}'"], cwd=TOP)
+        wrong += found.stderr.splitlines() + wrong_words("fish", " ".join(each.split("\t")[0] for each in found.stdout.splitlines()), wanted)
+    return wrong
+
+
+KINDS = {
+    "Declaration": "protocol cell array channel stack rule",
+    "Row": "init bad",
+    "Move": "at pair ring two set send recv pop push",
+    "Guard": "when all some in",
+    "Region": "left right others",
+    "Table": "map",
+    "Pattern": "any empty",
+}
+KIND_OF = {word: kind for kind, words in KINDS.items() for word in words.split()}
+# The kinds of the Vim syntax file, and the scopes of the TextMate grammar that stand for them.
+SCOPES = {
+    "Declaration": "keyword.declaration.armc",
+    "Row": "keyword.other.row.armc",
+    "Move": "support.function.move.armc",
+    "Guard": "keyword.control.guard.armc",
+    "Region": "variable.language.region.armc",
+    "Table": "keyword.other.table.armc",
+    "Pattern": "constant.language.pattern.armc",
+    "Declared": "entity.name.armc",
+    "Section": "entity.name.type.section.armc",
+    "Letter": "variable.other.letter.armc",
+    "Arrow": "keyword.operator.arrow.armc",
+    "Repeat": "keyword.operator.repeat.armc",
+    "Sign": "punctuation.separator.armc",
+    "Comment": "comment.line.number-sign.armc",
+}
+
+
+def kinds_of(line):
+    """The tokens of a line of a protocol, each with its column and its kind."""
+    found, before = [], None
+    for token in re.finditer(r"#.*|\w+|->|[*+]|[{}:;]", line):
+        text = token[0]
+        if text.startswith("#"):
+            kind = "Comment"
+        elif text in KIND_OF:
+            kind = KIND_OF[text]
+        elif re.match(r"\w", text):
+            kind = "Declared" if before == "Declaration" else "Section" if re.match(r"\s*:", line[token.end():]) else "Letter"
+        else:
+            kind = "Arrow" if text == "->" else "Repeat" if text in "*+" else "Sign"
+        found.append((token.start(), text, kind))
+        before = kind
+    return found
+
+
+def protocols():
+    return sorted(glob.glob(os.path.join(TOP, "examples", "**", "*.armc"), recursive=True))
+
+
+def scopes_of(grammar, line):
+    """The scope of each column of the line by a TextMate grammar of match rules alone: the earliest match wins, then the first rule."""
+    rules, scopes, at = [], [None] * len(line), 0
+
+    def add(patterns):
+        for rule in patterns:
+            if "include" in rule:
+                inner = grammar["repository"][rule["include"][1:]]
+                add(inner.get("patterns", [inner]))
+            else:
+                rules.append((re.compile(rule["match"], re.A), rule))
+
+    add(grammar["patterns"])
+    while at < len(line):
+        found = [(match.start(), number) for number, (regex, _) in enumerate(rules) for match in [regex.search(line, at)] if match and match[0]]
+        if not found:
+            break
+        regex, rule = rules[min(found)[1]]
+        match = regex.search(line, at)
+        parts = [(match.span(int(group)), each["name"]) for group, each in rule.get("captures", {}).items()] or [(match.span(), rule["name"])]
+        for (begin, end), name in parts:
+            scopes[begin:end] = [name] * (end - begin)
+        at = match.end()
+    return scopes
+
+
+def syntax_of_textmate():
+    wrong, grammar = [], json.loads(read("editors", "textmate", "armc.tmLanguage.json"))
+    for name in ("package.json", "language-configuration.json"):
+        json.loads(read("editors", "textmate", name))
+    for path in protocols():
+        with open(path, encoding="ascii") as file:
+            for number, line in enumerate(file.read().splitlines(), 1):
+                scopes = scopes_of(grammar, line)
+                for column, text, kind in kinds_of(line):
+                    if set(scopes[column:column + len(text)]) != {SCOPES[kind]}:
+                        wrong.append(f"{os.path.basename(path)} line {number}: {text} is {set(scopes[column:column + len(text)])}, and must be {SCOPES[kind]}")
+    bad = scopes_of(grammar, "lossy @ -")
+    return wrong + ([] if bad[0] == "invalid.illegal.reserved.armc" and bad[6] == bad[8] == "invalid.illegal.byte.armc" else [f"bad words are {bad}"])
+
+
+VIM = """set nocompatible noswapfile shortmess+=A
+set runtimepath^={folder}
+syntax on
+let out = []
+for path in {paths}
+  execute 'edit ' . path
+  set filetype=armc
+  call add(out, 'file ' . path)
+  for number in range(1, line('$'))
+    call add(out, join(map(range(1, max([len(getline(number)), 1])), 'synIDattr(synID(number, v:val, 1), "name")'), ' '))
+  endfor
+endfor
+call writefile(out, '{result}')
+qall!
+"""
+
+
+def syntax_of_vim():
+    vim = next((name for name in ("vim", "nvim") if shutil.which(name)), None)
+    if not vim:
+        return "vim is not there"
+    with tempfile.TemporaryDirectory() as folder:
+        bad = os.path.join(folder, "bad.armc")
+        with open(bad, "w") as file:
+            file.write("lossy @ -\n")
+        script, result, paths = os.path.join(folder, "script.vim"), os.path.join(folder, "result"), [*protocols(), bad]
+        with open(script, "w") as file:
+            file.write(VIM.format(folder=os.path.join(TOP, "editors", "vim"), paths=json.dumps(paths), result=result))
+        words = [vim, "-es", "-i", "NONE", "-u", script] if vim == "vim" else [vim, "--headless", "-es", "-i", "NONE", "-u", script]
+        found = run(words, cwd=folder, env={**os.environ, "HOME": folder})
+        if not os.path.exists(result):
+            # Some builds of Vim are without syntax files.
+            return "vim has no syntax highlighting" if "+syntax" not in run([vim, "--version"]).stdout else [f"vim gives no answer: {found.stderr[:200]}"]
+        with open(result) as file:
+            told = file.read().split("\n")
+    wrong, at = [], 0
+    for path in paths:
+        at += 1
+        with open(path, encoding="ascii") if os.path.exists(path) else open(os.devnull) as file:
+            lines = file.read().splitlines()
+        for number, line in enumerate(lines, 1):
+            groups = told[at].split(" ")
+            at += 1
+            for column, text, kind in kinds_of(line):
+                group = groups[column] if column < len(groups) else ""
+                if group not in (f"armc{kind}", "armcExpect" if kind == "Comment" else ""):
+                    wrong.append(f"{os.path.basename(path)} line {number}: {text} is {group or 'nothing'}, and must be armc{kind}")
+    groups = told[at].split(" ") if at < len(told) else []
+    return wrong + ([] if groups[:1] == ["armcUnused"] and groups[6:7] == groups[8:9] == ["armcBadByte"] else [f"bad words are {groups}"])
+
+
+def check_of_folders(program):
+    """tools/check-folder on all of examples, and on folders with a wrong expectation, without one, and without a protocol."""
+    tool = os.path.join(TOP, "tools", "check-folder")
+    found = run([tool, "--program", program, "--jobs", "4", os.path.join(TOP, "examples")])
+    wrong = [] if found.returncode == 0 else [line for line in found.stdout.splitlines() + found.stderr.splitlines() if "<--" in line or "check-folder" in line]
+    wrong += [f"examples: status {found.returncode}"] if found.returncode else []
+    with tempfile.TemporaryDirectory() as folder:
+        if run([tool, "--program", program, folder]).returncode != 2:
+            wrong.append("a folder without a protocol does not end with 2")
+        protocol = read("examples", "first.armc")
+        for text, wanted in ((protocol.replace("expect: safe", "expect: unsafe"), 1), (protocol.replace("expect: safe", ""), 2), (protocol, 0)):
+            with open(os.path.join(folder, "p.armc"), "w") as file:
+                file.write(text)
+            status = run([tool, "--program", program, folder]).returncode
+            wrong += [] if status == wanted else [f"the status is {status}, and must be {wanted}"]
+    return wrong
+
+
+def pages_for_newcomers():
+    """The protocols that the pages show stand in a file of examples, and the files that they name are there."""
+    wrong, shown = [], set()
+    for path in protocols():
+        with open(path, encoding="ascii") as file:
+            shown.add("".join(line for line in file if not line.startswith("#")))
+    for page in ("TUTORIAL.md", "MODELLING.md", "CI.md"):
+        text = read("docs", page)
+        for block in re.findall(r"^```\n(protocol .*?)^```$", text, re.M | re.S):
+            wrong += [] if block in shown else [f"{page}: {block.splitlines()[0]} is in no file of examples"]
+        for path in re.findall(r"`((?:examples|docs|tools|tests)/[\w/.-]+)", text):
+            wrong += [] if os.path.exists(os.path.join(TOP, path)) or "NAME" in path else [f"{page}: {path} is not there"]
+        if page == "TUTORIAL.md":
+            for name in re.findall(r"`(tutorial_\w+)`", text):
+                wrong += [] if os.path.isdir(os.path.join(TOP, "tests", "cases", name)) else [f"{page}: tests/cases has no {name}"]
+    patterns = {os.path.basename(path)[:-5] for path in glob.glob(os.path.join(TOP, "examples", "patterns", "*.armc"))}
+    named = set(re.findall(r"\(`(\w+)`[,)]", read("docs", "MODELLING.md"))) | {"pointer"}
+    wrong += [f"MODELLING.md does not name {name}" for name in sorted(patterns - named)]
+    return wrong + [f"there is no pattern {name}" for name in sorted(named - patterns)]
+
+
+def checks(program):
+    """Each check with its name."""
+    yield "launcher", launcher()
+    yield "launcher, without proofs", launcher_unproved()
+    yield "launcher, interrupted", launcher_interrupted()
+    yield "install", installed()
+    yield "manual pages", manual_pages()
+    yield "completions of bash", completions_of_bash()
+    yield "completions of zsh", completions_of_zsh()
+    yield "completions of fish", completions_of_fish()
+    yield "syntax file of Vim", syntax_of_vim()
+    yield "syntax file of TextMate", syntax_of_textmate()
+    yield "pages for newcomers", pages_for_newcomers()
+    if program:
+        yield "check of folders", check_of_folders(program)
+
+
+if __name__ == "__main__":
+    for name, lines in checks(os.path.abspath(sys.argv[1]) if len(sys.argv) > 1 else None):
+        print(f"{name}: skipped, since {lines}" if isinstance(lines, str) else f"{name}: {'ok' if not lines else lines[:5]}", flush=True)
