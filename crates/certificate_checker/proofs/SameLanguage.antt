@@ -46,14 +46,14 @@ module _ (s : SystemData) (m n : Automaton) (same : SameLanguage m n) where
     earlier_rules = λ q e less left. h.earlier_rules q e less (left_alike s n m (reversed m n same) q e left);
     after = least_alike s (IsLeft s n r) (IsLeft s m r) (left_alike s m n same r) (left_alike s n m (reversed m n same) r) d h.after;
     before = least_alike s (IsAcceptedBefore s n r d) (IsAcceptedBefore s m r d) (before_alike s m n same r d)
-      (before_alike s n m (reversed m n same) r d) c h.before
+        (before_alike s n m (reversed m n same) r d) c h.before;
   }
 
   proves_alike : Proves s n → Proves s m
   proves_alike h = record {
     initial = λ c is. accepted_alike s m n same c (h.initial c is);
     closed = λ r c d accepted step. accepted_alike s m n same d (h.closed r c d (accepted_alike s n m (reversed m n same) c accepted) step);
-    no_bad = λ c is accepted. h.no_bad c is (accepted_alike s n m (reversed m n same) c accepted)
+    no_bad = λ c is accepted. h.no_bad c is (accepted_alike s n m (reversed m n same) c accepted);
   }
 
   none_missing : HasNone (IsMissing s n) → HasNone (IsMissing s m)
@@ -66,8 +66,10 @@ module _ (s : SystemData) (m n : Automaton) (same : SameLanguage m n) where
   answers_alike Valid h = proves_alike h
   answers_alike (InitialMissing c) h =
       least_alike s (IsMissing s n) (IsMissing s m) (missing_alike s m n same) (missing_alike s n m (reversed m n same)) c h
-  answers_alike (BadHeld c) h = (none_missing h.0,
-      least_alike s (IsHeld s n) (IsHeld s m) (held_alike s m n same) (held_alike s n m (reversed m n same)) c h.1)
+  answers_alike (BadHeld c) h = (
+    none_missing h.0,
+    least_alike s (IsHeld s n) (IsHeld s m) (held_alike s m n same) (held_alike s n m (reversed m n same)) c h.1,
+  )
   answers_alike (Leaves r c d) h = (none_missing h.0, none_held h.1, exit_alike r c d h.2)
   answers_alike NotInitial h = h
   answers_alike (NotStep k) h = h
