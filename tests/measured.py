@@ -12,7 +12,7 @@ import time
 # `processor` is user and system time and `wall` the time that passed, in seconds; `memory` is in bytes, at least some 9 MB, the small process's
 # own; `size` is the length of standard output; `out` and `err` are the beginnings of both texts.
 Answer = collections.namedtuple("Answer", "status processor wall memory size out err")
-KEPT = 1 << 16
+KEPT = 1 << 18
 
 
 def run(program, words, folder=".", seconds=120, memory=4 << 30, stdin=subprocess.DEVNULL):
