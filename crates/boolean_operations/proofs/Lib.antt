@@ -1,3 +1,4 @@
+pub mod CommonWalks
 pub mod Complements
 pub mod EdgeTargets
 pub mod Letters

@@ -86,21 +86,21 @@ not_true true turned = absurd (false≢true turned)
 not_true false turned = refl
 
 -- a walk over pairs, without the second parts
-abbrev strip : List (Option ℕ × (ℕ × Option ℕ)) → List (Option ℕ × ℕ)
+abbrev pub strip : List (Option ℕ × (ℕ × Option ℕ)) → List (Option ℕ × ℕ)
 strip [] = []
 strip (move ∷ moves) = (move.0, move.1.0) ∷ strip moves
 
 module _ (n : NondeterministicAutomaton) (m : Automaton) where
   -- a walk with them
-  abbrev lift : Option ℕ → List (Option ℕ × ℕ) → List (Option ℕ × (ℕ × Option ℕ))
+  abbrev pub lift : Option ℕ → List (Option ℕ × ℕ) → List (Option ℕ × (ℕ × Option ℕ))
   lift q [] = []
   lift q (move ∷ moves) = (move.0, (move.1, advance m q move.0)) ∷ lift (advance m q move.0) moves
 
-  abbrev after : Option ℕ → List (Option ℕ × ℕ) → Option ℕ
+  abbrev pub after : Option ℕ → List (Option ℕ × ℕ) → Option ℕ
   after q [] = q
   after q (move ∷ moves) = after (advance m q move.0) moves
 
-  down : (moves : List (Option ℕ × (ℕ × Option ℕ))) (s t : ℕ × Option ℕ) → Leads (PairEdge n m) s moves t
+  pub down : (moves : List (Option ℕ × (ℕ × Option ℕ))) (s t : ℕ × Option ℕ) → Leads (PairEdge n m) s moves t
       → IsPath n.states s.0 (strip moves) t.0 × (spelled (λ l. l) (strip moves) ≡ letters_of moves) × (accepts_option m s.1 (letters_of moves) ≡ accepts_at m t.1)
   down [] s t same = (ap (λ (x : ℕ × Option ℕ). x.0) same, refl, accepts_option-nil m s.1 ∙ ap (λ (x : ℕ × Option ℕ). accepts_at m x.1) same)
   down ((None, r) ∷ moves) s t goes =
@@ -110,7 +110,7 @@ module _ (n : NondeterministicAutomaton) (m : Automaton) where
       let rest = down moves r t goes.1 in
       ((goes.0.0, rest.0), ap (λ w. a ∷ w) rest.1, accepts_option-cons m s.1 a (letters_of moves) ∙ ap (λ q. accepts_option m q (letters_of moves)) (sym goes.0.1) ∙ rest.2)
 
-  up : (moves : List (Option ℕ × ℕ)) (p e : ℕ) (q : Option ℕ) → IsPath n.states p moves e
+  pub up : (moves : List (Option ℕ × ℕ)) (p e : ℕ) (q : Option ℕ) → IsPath n.states p moves e
       → Leads (PairEdge n m) (p, q) (lift q moves) (e, after q moves) × (letters_of (lift q moves) ≡ spelled (λ l. l) moves)
       × (accepts_option m q (spelled (λ l. l) moves) ≡ accepts_at m (after q moves))
   up [] p e q same = (ap (λ x. (x, q)) same, refl, accepts_option-nil m q)

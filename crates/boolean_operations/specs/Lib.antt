@@ -1,3 +1,4 @@
+pub mod CommonWords
 pub mod Complements
 pub mod Equality
 pub mod Inclusion

@@ -26,6 +26,10 @@ PairEdge n m s l r = Contains (edges_of n.states s.0) (l, r.0) × (r.1 ≡ advan
 abbrev pub is_outside_pair : NondeterministicAutomaton → Automaton → ℕ × Option ℕ → Bool
 is_outside_pair n m pair = is_accepting n.states pair.0 && not (accepts_at m pair.1)
 
+-- both accept
+abbrev pub is_common_pair : NondeterministicAutomaton → Automaton → ℕ × Option ℕ → Bool
+is_common_pair n m pair = is_accepting n.states pair.0 && accepts_at m pair.1
+
 -- what the first k starts or edges become
 abbrev pub IsStartAmong : Automaton → List ℕ → ℕ → ℕ × Option ℕ → Type 0
 IsStartAmong m starts k s = (i : ℕ) × (i < k) × (slice_get starts i ≡ Some s.0) × (s.1 ≡ start_of m.states)

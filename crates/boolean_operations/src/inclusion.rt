@@ -17,13 +17,13 @@ use word_automata::{Dfa, Nfa};
 
 /// The pairs of states of two automata, as a graph.
 #[derive(Drop)]
-struct PairGraph<'a> {
-    left: &'a Nfa,
-    right: &'a Dfa,
+pub(crate) struct PairGraph<'a> {
+    pub(crate) left: &'a Nfa,
+    pub(crate) right: &'a Dfa,
 }
 
 /// A state of the left automaton, and one of the right automaton or none.
-type LeftPair = (usize, Option<usize>);
+pub(crate) type LeftPair = (usize, Option<usize>);
 
 impl Graph for PairGraph<'_> {
     type State = LeftPair;

@@ -1,0 +1,5 @@
+use Rattle.boolean_operations.proofs.CommonWalks.{common}
+use Rattle.boolean_operations.proofs.common_words.least_common_word.Goals as goal
+
+pub returns : goal.returns
+returns c = common c.args.a.now c.args.b.now (λ v. v.items) c.in_ok-least_word_to_goal.field-0 c.in_ok-least_word_to_goal.ensures

@@ -1,0 +1,66 @@
+//! The least word that a nondeterministic and a deterministic automaton accept: a walk over pairs of their states, breadth first, which
+//! ends at the first pair where both accept, so that neither automaton is made deterministic nor their product kept. It takes time
+//! linear in the edges that leave the pairs that are reached, up to sorting and searching, on average.
+
+ghost use Rattle.std.specs.Prelude.{◌≡◌, ℕ, List, MatchOption, IfOk};
+ghost use Rattle.sequence.specs.WordOrder.{IsLeastWord};
+ghost use Rattle.boolean_operations.specs.CommonWords.{IsCommonWord};
+ghost use Rattle.boolean_operations.specs.PairGraph.{IsPair, IsStartPair, PairEdge, is_common_pair};
+ghost use Rattle.boolean_operations.specs.Equality.{same_left_pairs};
+
+use crate::graph::Graph;
+use crate::inclusion::{LeftPair, PairGraph};
+use crate::optional_states::accepts_at;
+use crate::search::least_word_to_goal;
+use std::alloc::{AllocError, Global};
+use word_automata::{Dfa, Nfa};
+
+/// The pairs of states of two automata, of which those are goals where both accept.
+#[derive(Drop)]
+struct CommonGraph<'a> {
+    pairs: PairGraph<'a>,
+}
+
+impl Graph for CommonGraph<'_> {
+    type State = LeftPair;
+
+    ghost is_state = { λ g. IsPair g.pairs.left.now g.pairs.right.now };
+
+    ghost is_start = { λ g. IsStartPair g.pairs.left.now g.pairs.right.now };
+
+    ghost edge = { λ g. PairEdge g.pairs.left.now g.pairs.right.now };
+
+    ghost goal = { λ g. is_common_pair g.pairs.left.now g.pairs.right.now };
+
+    fn starts(&self, alloc: Global) -> Result<Vec<LeftPair>, AllocError> {
+        self.pairs.starts(alloc)
+    }
+
+    fn is_goal(&self, state: &LeftPair) -> bool {
+        self.pairs.left.accepting(state.0) && accepts_at(self.pairs.right, state.1)
+    }
+
+    fn silent_targets(&self, alloc: Global, state: &LeftPair) -> Result<Vec<LeftPair>, AllocError> {
+        self.pairs.silent_targets(alloc, state)
+    }
+
+    fn add_steps(
+        &self,
+        state: &LeftPair,
+        steps: &mut Vec<(u32, LeftPair)>,
+    ) -> Result<(), AllocError> {
+        self.pairs.add_steps(state, steps)
+    }
+
+    ghost equality = { same_left_pairs };
+}
+
+/// The least word that both accept, or `None` where there is none. Both have the same letters.
+pub fn least_common_word(alloc: Global, a: &Nfa, b: &Dfa) -> Result<Option<Vec<u32>>, AllocError>
+    requires { a.now.letters ≡ b.now.letters }
+    ensures { IfOk result (λ word. MatchOption word ((w : List ℕ) → IsCommonWord a.now b.now w → ⊥)
+        (λ w. IsLeastWord (IsCommonWord a.now b.now) w.items)) }
+{
+    let pairs = PairGraph { left: a, right: b };
+    Ok(least_word_to_goal(alloc, &CommonGraph { pairs })?)
+}
