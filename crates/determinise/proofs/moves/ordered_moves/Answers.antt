@@ -1,4 +1,4 @@
-use Rattle.std.proofs.Common.{rules, ◌≡◌, ◌+◌, subst, arith, get_or, IsPermutation}
+use Rattle.std.proofs.Common.{rules, ◌+◌, subst, arith, get_or, IsPermutation}
 use Rattle.std.proofs.lemmas.List.Sorted.{Contains-permutation, IsPermutation-sym, IsNonDecreasingBy-from_sort_by_key}
 use Rattle.determinise.specs.Subsets.{moves_from, order_key}
 use Rattle.determinise.proofs.MoveLists.{letter_from_key}
