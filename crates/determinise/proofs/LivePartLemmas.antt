@@ -9,16 +9,16 @@ use Rattle.word_automata.proofs.Members.{Contains-none}
 use Rattle.word_automata.proofs.Rows.{All-edges_of, is_accepting-get_or}
 use Rattle.word_automata.proofs.StateSets.{move_within}
 use Rattle.determinise.specs.Emptiness.{AreRejecting}
-use Rattle.determinise.specs.LivePart.{without_edges, AddsLiveStarts, AddsLiveEdges, IsLivePart}
+use Rattle.determinise.specs.LivePart.{without_edges, states_alone, AddsLiveStarts, AddsLiveEdges, IsLivePart}
 use Rattle.determinise.proofs.Rejection.{no_path}
 
 -- the first k states, without edges and without a start state
-abbrev pub states_alone : NondeterministicAutomaton → ℕ → NondeterministicAutomaton
-states_alone n k = record { letters = n.letters; starts = []; states = map without_edges (take k n.states) }
+abbrev pub first_alone : NondeterministicAutomaton → ℕ → NondeterministicAutomaton
+first_alone n k = record { letters = n.letters; starts = []; states = map without_edges (take k n.states) }
 
-pub states_alone_more : (n : NondeterministicAutomaton) (k : ℕ) (accepting : Bool) → k < length n.states → accepting ≡ is_accepting n.states k
-    → with_nondeterministic_state (states_alone n k) accepting ≡ states_alone n (k + 1)
-states_alone_more n k accepting within is =
+pub first_alone_more : (n : NondeterministicAutomaton) (k : ℕ) (accepting : Bool) → k < length n.states → accepting ≡ is_accepting n.states k
+    → with_nondeterministic_state (first_alone n k) accepting ≡ first_alone n (k + 1)
+first_alone_more n k accepting within is =
     let none : Node (Option ℕ) = record { accepting = false; edges = [] } in
     let node = get_or n.states k none in
     let flag : accepting ≡ node.accepting = is ∙ is_accepting-get_or n.states k none within in
@@ -171,10 +171,10 @@ module _ (flags : List Bool) (state : ℕ) (old mid : NondeterministicAutomaton)
 
 -- state by state
 pub live_part_none : (n : NondeterministicAutomaton) (flags : List Bool) (alone m : NondeterministicAutomaton)
-    → alone ≡ record { letters = n.letters; starts = []; states = map without_edges n.states } → AddsLiveStarts flags n.starts alone m → IsLivePart n flags m 0
+    → alone ≡ states_alone n → AddsLiveStarts flags n.starts alone m → IsLivePart n flags m 0
 live_part_none n flags alone m is adds = by (subst (λ (x : NondeterministicAutomaton). AddsLiveStarts flags n.starts x m) is adds)
   where
-    by : AddsLiveStarts flags n.starts (record { letters = n.letters; starts = []; states = map without_edges n.states }) m → IsLivePart n flags m 0
+    by : AddsLiveStarts flags n.starts (states_alone n) m → IsLivePart n flags m 0
     by so = record {
       same_letters = so.same_letters;
       same_size = ap length so.same_states ∙ length-map n.states without_edges;

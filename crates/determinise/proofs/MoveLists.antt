@@ -114,7 +114,8 @@ module _ (moves : List (ℕ × ℕ)) (ordered : HasOrderedLetters moves) where
   letters_ordered i j h l = let e : i + (j - i) ≡ j = omega arith in subst (λ k. letter_of moves i ≤ letter_of moves k) e (letters_le i (j - i) (omega arith))
 
   -- a run ends where another letter comes
-  pub run_ends : (at end : ℕ) → at < end → end < length moves → ((k : ℕ) → at ≤ k → k < end → letter_of moves k ≡ letter_of moves at) → (letter_of moves end ≡ letter_of moves at → ⊥) → IsRun moves at end
+  pub run_ends : (at end : ℕ) → at < end → end < length moves → ((k : ℕ) → at ≤ k → k < end → letter_of moves k ≡ letter_of moves at)
+      → (letter_of moves end ≡ letter_of moves at → ⊥) → IsRun moves at end
   run_ends at end some within same other = record {
     some = some;
     within = omega arith;

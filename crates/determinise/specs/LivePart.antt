@@ -1,11 +1,15 @@
 -- What the construction of the part of an automaton that accepting runs pass through adds. Only private functions cite it.
-use Rattle.std.specs.Prelude.{◌≡◌, ◌<◌, ◌⊎◌, ℕ, Bool, false, List, [], Option, Contains, length, slice_index_or}
+use Rattle.std.specs.Prelude.{◌≡◌, ◌<◌, ◌⊎◌, ℕ, Bool, false, List, [], map, Option, Contains, length, slice_index_or}
 use Rattle.word_automata.specs.Path.{Node, edges_of, is_accepting}
 use Rattle.word_automata.specs.Nondeterministic.{NondeterministicAutomaton}
 
 -- the state without its edges
 abbrev pub without_edges : Node (Option ℕ) → Node (Option ℕ)
 without_edges node = record { accepting = node.accepting; edges = [] }
+
+-- the automaton without its edges and start states
+abbrev pub states_alone : NondeterministicAutomaton → NondeterministicAutomaton
+states_alone n = record { letters = n.letters; starts = []; states = map without_edges n.states }
 
 -- of the states those without a flag became start states
 pub record AddsLiveStarts (flags : List Bool) (starts : List ℕ) (old new : NondeterministicAutomaton) : Type 0 where

@@ -1,11 +1,11 @@
 //! The part of an automaton whose edges lead to states from which some word is accepted (S. Eilenberg, 1974: the coaccessible part),
 //! with the same states. It takes time linear in the states and edges.
 
-ghost use Rattle.std.specs.Prelude.{◌≡◌, ◌↔◌, ◌<◌, ℕ, List, [], false, map, IsTrue, IfOk, OnOk, length, slice_index_or};
+ghost use Rattle.std.specs.Prelude.{◌≡◌, ◌↔◌, ◌<◌, ℕ, List, false, IsTrue, IfOk, OnOk, length, slice_index_or};
 ghost use Rattle.word_automata.specs.Path.{edges_of};
 ghost use Rattle.word_automata.specs.Nondeterministic.{Accepts};
 ghost use Rattle.determinise.specs.Emptiness.{AreRejecting};
-ghost use Rattle.determinise.specs.LivePart.{without_edges, AddsLiveStarts, AddsLiveEdges};
+ghost use Rattle.determinise.specs.LivePart.{states_alone, AddsLiveStarts, AddsLiveEdges};
 
 use std::alloc::{AllocError, Global};
 use word_automata::{Nfa, NfaBuilder};
@@ -27,7 +27,7 @@ pub fn live_part(alloc: Global, automaton: &Nfa, dead: &[bool]) -> Result<Nfa, A
 
 /// The states of the automaton without their edges, none of them a start state.
 fn states_alone(alloc: Global, automaton: &Nfa) -> Result<NfaBuilder, AllocError>
-    ensures { IfOk result (λ built. built ≡ record { letters = automaton.now.letters; starts = []; states = map without_edges automaton.now.states }) }
+    ensures { IfOk result (λ built. built ≡ states_alone automaton.now) }
 {
     let mut builder = NfaBuilder::new(alloc, automaton.letters());
     'states: for state in 0..automaton.states() {

@@ -55,6 +55,7 @@ fn add_moves(
 ) -> Result<(), AllocError>
     ensures { OnOk result (moves.new.items ≡ moves.old.items ++ filter_map lettered_move edges.now) }
 {
+    moves.reserve(edges.len())?;
     'edges: for &(letter, to) in edges {
         if let Some(letter) = letter {
             moves.push((letter, to))?;
