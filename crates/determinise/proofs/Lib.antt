@@ -1,4 +1,5 @@
 pub mod Closures
 pub mod Grouping
+pub mod LivePartLemmas
 pub mod MoveLists
 pub mod Rejection

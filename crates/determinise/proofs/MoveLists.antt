@@ -1,16 +1,15 @@
 -- The moves out of a set of states, edge by edge and in the order of their letters.
-use Rattle.std.proofs.Common.{◌≡◌, ◌+◌, ◌-◌, ◌<◌, ◌≤◌, ◌⊎◌, ℕ, zero, suc, false, List, [], ◌∷◌, ◌++◌, Option, None, Some, Contains, length, take, get_or, cond, eqb, refl, sym, ap, subst, ◌∙◌, inl, inr, arith}
-use Rattle.std.proofs.lemmas.Bool.{cases_lt, true≢false, lt-ltb}
-use Rattle.std.specs.declared.cmp.Ordering.TheVariants.{Less, Equal, Greater}
+use Rattle.std.proofs.Common.{◌≡◌, ◌+◌, ◌-◌, ◌<◌, ◌≤◌, ◌⊎◌, ℕ, zero, suc, List, [], ◌∷◌, ◌++◌, Option, None, Some, Contains, length, take, get_or, refl, sym, ap, subst, ◌∙◌, inl, inr, arith}
+use Rattle.std.proofs.lemmas.Bool.{cases_lt}
+use Rattle.std.proofs.lemmas.Nat.{mod_below}
 use Rattle.std.proofs.lemmas.List.{take_more, append_assoc, append-nil}
 use Rattle.std.proofs.lemmas.List.Elements.{filter_map-append, Contains-push, Contains-push_cases, Contains-append_left, Contains-append_right, Contains-append_cases}
 use Rattle.std.proofs.lemmas.Option.{some_pair_parts}
 use Rattle.std.specs.List.{filter_map, flat_map, cons_option}
-use Rattle.std.specs.Ordering.{is_lt, ordering_then, nat_cmp}
 use Rattle.word_automata.specs.Path.{edges_of}
 use Rattle.word_automata.specs.Nondeterministic.{NondeterministicAutomaton}
 use Rattle.word_automata.proofs.Members.{Contains-cases, Contains-here, Contains-there, Contains-none}
-use Rattle.determinise.specs.Subsets.{lettered_move, moves_from, letter_of, HasOrderedLetters, IsRun}
+use Rattle.determinise.specs.Subsets.{lettered_move, moves_from, order_key, letter_of, HasOrderedLetters, IsRun}
 
 -- one more edge
 module _ (pre : List (ℕ × ℕ)) (edges : List (Option ℕ × ℕ)) (i : ℕ) (l : i < length edges) (done : List (ℕ × ℕ)) (h : done ≡ pre ++ filter_map lettered_move (take i edges)) where
@@ -95,12 +94,12 @@ module _ (n : NondeterministicAutomaton) (states : List ℕ) (a q : ℕ) where
       let edge = filter_map-cases lettered_move (edges_of n.states state.0) (a, q) state.2 in
       (state.0, state.1, subst (Contains (edges_of n.states state.0)) (lettered_move-edge edge.0 a q edge.2) edge.1)
 
--- what a sort by letter, then target says of the letters
-pub letter_from_sorted : (a b x y : ℕ) → is_lt (ordering_then (nat_cmp a b) (nat_cmp x y)) ≡ false → b ≤ a
-letter_from_sorted a b x y h = elim (cases_lt a b) [
-  | inl less ↦ absurd (true≢false (sym (ap (λ t. is_lt (ordering_then (cond t Less (cond (eqb a b) Equal Greater)) (nat_cmp x y))) (lt-ltb a b less)) ∙ h))
-  | inr more ↦ more
-]
+-- what the order of keys says of the letters
+pub letter_from_key : (m n : ℕ × ℕ) → order_key m ≤ order_key n → m.0 ≤ n.0
+letter_from_key m n h =
+    let low = mod_below m.1 4294967296 (omega arith) in
+    let high = mod_below n.1 4294967296 (omega arith) in
+    omega arith
 
 module _ (moves : List (ℕ × ℕ)) (ordered : HasOrderedLetters moves) where
   letters_le : (i d : ℕ) → i + d < length moves → letter_of moves i ≤ letter_of moves (i + d)
@@ -115,7 +114,8 @@ module _ (moves : List (ℕ × ℕ)) (ordered : HasOrderedLetters moves) where
   letters_ordered i j h l = let e : i + (j - i) ≡ j = omega arith in subst (λ k. letter_of moves i ≤ letter_of moves k) e (letters_le i (j - i) (omega arith))
 
   -- a run ends where another letter comes
-  pub run_ends : (at end : ℕ) → at < end → end < length moves → ((k : ℕ) → at ≤ k → k < end → letter_of moves k ≡ letter_of moves at) → (letter_of moves end ≡ letter_of moves at → ⊥) → IsRun moves at end
+  pub run_ends : (at end : ℕ) → at < end → end < length moves → ((k : ℕ) → at ≤ k → k < end → letter_of moves k ≡ letter_of moves at)
+      → (letter_of moves end ≡ letter_of moves at → ⊥) → IsRun moves at end
   run_ends at end some within same other = record {
     some = some;
     within = omega arith;

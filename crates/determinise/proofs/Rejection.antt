@@ -1,22 +1,15 @@
 -- No word is accepted from states that do not accept and lead to such states alone.
-use Rattle.std.proofs.Common.{◌≡◌, ◌<◌, ◌≤◌, ℕ, Bool, true, false, List, [], ◌∷◌, Option, None, Contains, length, get_or, IsTrue, sym, subst, ◌∙◌}
+use Rattle.std.proofs.Common.{◌≡◌, ◌<◌, ◌≤◌, ℕ, zero, suc, replicate, refl, Bool, true, false, List, [], ◌∷◌, Option, None, Contains, length, get_or, IsTrue, sym, subst, ◌∙◌}
 use Rattle.std.proofs.lemmas.Bool.{true≢false}
 use Rattle.std.proofs.lemmas.List.{get_or_default, get_or_past}
 use Rattle.word_automata.specs.Path.{is_accepting, IsPath}
-use Rattle.word_automata.specs.Nondeterministic.{NondeterministicAutomaton, Accepts}
-use Rattle.determinise.specs.Emptiness.{IsRejectingAt, IsRejecting}
+use Rattle.word_automata.specs.Nondeterministic.{NondeterministicAutomaton}
+use Rattle.determinise.specs.Emptiness.{IsRejectingAt, AreRejecting}
 
-module _ (n : NondeterministicAutomaton) (flags : List Bool) (r : IsRejecting n flags) where
-  no_path : (moves : List (Option ℕ × ℕ)) (p end : ℕ) → get_or flags p false ≡ true → IsPath n.states p moves end → IsTrue (is_accepting n.states end) → ⊥
-  no_path [] p end flag path accepting = true≢false (sym (subst (λ q. IsTrue (is_accepting n.states q)) (sym path) accepting) ∙ (r.each p).rejects flag)
-  no_path (move ∷ moves) p end flag path accepting = no_path moves move.1 end ((r.each p).leads flag move.0 move.1 path.0) path.1 accepting
-
-  pub no_word_accepted : (w : List ℕ) → Accepts n w → ⊥
-  no_word_accepted w run = no_path run.1 run.0 run.2 (r.starts run.0 run.3) run.4 run.5
-
--- what is flagged at each place is flagged at each member
-pub flagged_members : (flags : List Bool) (states : List ℕ) → ((k : ℕ) → k < length states → get_or flags (get_or states k 0) false ≡ true) → (q : ℕ) → Contains states q → get_or flags q false ≡ true
-flagged_members flags states each q (k, l, is) = subst (λ x. get_or flags x false ≡ true) (get_or_default states k 0 q l ∙ is) (each k l)
+module _ (n : NondeterministicAutomaton) (flags : List Bool) (r : AreRejecting n flags) where
+  pub no_path : (moves : List (Option ℕ × ℕ)) (p end : ℕ) → get_or flags p false ≡ true → IsPath n.states p moves end → IsTrue (is_accepting n.states end) → ⊥
+  no_path [] p end flag path accepting = true≢false (sym (subst (λ q. IsTrue (is_accepting n.states q)) (sym path) accepting) ∙ (r p).rejects flag)
+  no_path (move ∷ moves) p end flag path accepting = no_path moves move.1 end ((r p).leads flag move.0 move.1 path.0) path.1 accepting
 
 pub flagged_targets : (flags : List Bool) (edges : List (Option ℕ × ℕ)) → ((k : ℕ) → k < length edges → get_or flags (get_or edges k (None, 0)).1 false ≡ true)
     → (label : Option ℕ) (q : ℕ) → Contains edges (label, q) → get_or flags q false ≡ true
@@ -29,3 +22,15 @@ rejecting_past n flags p past = record {
   rejects = λ e. absurd (true≢false (sym e ∙ get_or_past flags p false past));
   leads = λ e. absurd (true≢false (sym e ∙ get_or_past flags p false past));
 }
+
+-- no flag at all
+pub rejecting_none : (n : NondeterministicAutomaton) (flags : List Bool) → ((p : ℕ) → get_or flags p false ≡ false) → AreRejecting n flags
+rejecting_none n flags none p = record {
+  rejects = λ e. absurd (true≢false (sym e ∙ none p));
+  leads = λ e. absurd (true≢false (sym e ∙ none p));
+}
+
+pub get_or-replicate : (count p : ℕ) → get_or (replicate count false) p false ≡ false
+get_or-replicate zero p = refl
+get_or-replicate (suc count) zero = refl
+get_or-replicate (suc count) (suc p) = get_or-replicate count p

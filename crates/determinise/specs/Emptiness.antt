@@ -8,7 +8,6 @@ pub record IsRejectingAt (n : NondeterministicAutomaton) (flags : List Bool) (p 
   pub rejects : slice_index_or flags p false ≡ true → is_accepting n.states p ≡ false
   pub leads : slice_index_or flags p false ≡ true → (label : Option ℕ) (q : ℕ) → Contains (edges_of n.states p) (label, q) → slice_index_or flags q false ≡ true
 
--- so do all states, and the start states have the flag
-pub record IsRejecting (n : NondeterministicAutomaton) (flags : List Bool) : Type 0 where
-  pub starts : (q : ℕ) → Contains n.starts q → slice_index_or flags q false ≡ true
-  pub each : (p : ℕ) → IsRejectingAt n flags p
+-- so do all states
+abbrev pub AreRejecting : NondeterministicAutomaton → List Bool → Type 0
+AreRejecting n flags = (p : ℕ) → IsRejectingAt n flags p

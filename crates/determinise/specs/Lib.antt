@@ -1,2 +1,3 @@
 pub mod Subsets
 pub mod Emptiness
+pub mod LivePart

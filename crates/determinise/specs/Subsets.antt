@@ -1,5 +1,5 @@
 -- Sets of states of a nondeterministic automaton, and the moves that lead out of them.
-use Rattle.std.specs.Prelude.{◌≡◌, ◌+◌, ◌<◌, ◌≤◌, ℕ, Bool, true, false, List, Option, None, Some, Contains, length, slice_index_or}
+use Rattle.std.specs.Prelude.{◌≡◌, ◌+◌, ◌*◌, ◌%◌, ◌<◌, ◌≤◌, ℕ, Bool, true, false, List, Option, None, Some, Contains, length, slice_index_or}
 use Rattle.std.specs.List.{filter_map, flat_map}
 use Rattle.word_automata.specs.Path.{edges_of}
 use Rattle.word_automata.specs.Nondeterministic.{NondeterministicAutomaton, IsInRange}
@@ -31,6 +31,10 @@ lettered_move edge = elim edge.0 [ None ↦ None | Some a ↦ Some (a, edge.1) ]
 -- the moves out of the states
 abbrev pub moves_from : NondeterministicAutomaton → List ℕ → List (ℕ × ℕ)
 moves_from n states = flat_map (λ p. filter_map lettered_move (edges_of n.states p)) states
+
+-- the letter above the last 32 bits of the target
+abbrev pub order_key : ℕ × ℕ → ℕ
+order_key move = move.0 * 4294967296 + move.1 % 4294967296
 
 -- the letter of the move at place k
 abbrev pub letter_of : List (ℕ × ℕ) → ℕ → ℕ

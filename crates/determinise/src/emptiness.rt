@@ -1,79 +1,125 @@
-//! Whether an automaton accepts a word at all: a search from the start states that stops at the first accepting state.
+//! The states from which no word is accepted: all but those that a search finds backward from the accepting states, along the edges
+//! listed by their targets. It takes time linear in the states and edges. What it found is then tested in one pass.
 
-ghost use Rattle.std.specs.Prelude.{◌≡◌, ◌<◌, ℕ, List, true, false, All, Option, Contains, IsTrue, IfOk, length, slice_index_or};
-ghost use Rattle.word_automata.specs.Nondeterministic.{Accepts};
-ghost use Rattle.determinise.specs.Emptiness.{IsRejectingAt, IsRejecting};
+ghost use Rattle.std.specs.Prelude.{◌≡◌, ◌<◌, ℕ, true, false, Option, Contains, IsTrue, IfOk, length, slice_index_or};
+ghost use Rattle.determinise.specs.Emptiness.{IsRejectingAt, AreRejecting};
 
 use std::alloc::{AllocError, Global};
 use word_automata::Nfa;
 
-/// Whether some word is accepted. Where the answer is no, none is. It takes time linear in the edges at most.
-pub fn accepts_a_word(alloc: Global, automaton: &Nfa) -> Result<bool, AllocError>
-    ensures { IfOk result (λ some. some ≡ false → (w : List ℕ) → Accepts automaton.now w → ⊥) }
+/// For each state a flag, which is true only where no word is accepted from the state. It is true of each such state.
+pub fn dead_flags(alloc: Global, automaton: &Nfa) -> Result<Vec<bool>, AllocError>
+    ensures count { IfOk result (λ flags. length flags.items ≡ length automaton.now.states) }
+    ensures dead { IfOk result (λ flags. AreRejecting automaton.now flags.items) }
 {
-    let mut reached = vec![in alloc; false; automaton.states()]?;
-    if search(alloc, automaton, &mut reached)? {
-        return Ok(true);
+    let flags = unreaching(alloc, automaton)?;
+    if are_rejecting(automaton, &flags) {
+        return Ok(flags);
     }
-    Ok(!is_rejecting(automaton, &reached))
+    Ok(vec![in alloc; false; automaton.states()]?)
 }
 
-/// Whether an accepting state is found from the start states. Flags tell which states were found.
-fn search(alloc: Global, automaton: &Nfa, reached: &mut Vec<bool>) -> Result<bool, AllocError>
-    ensures { length reached.new.items ≡ length reached.old.items }
+/// Whether one of the states has the flag.
+pub fn is_flagged(flags: &[bool]) -> bool {
+    flags.contains(&true)
+}
+
+/// The edges by their targets: for each state the place of one edge to it, and for each edge its source and the place of another edge
+/// to the same state. A place past the edges ends a list.
+#[derive(Drop)]
+struct Sources {
+    first: Vec<usize>,
+    links: Vec<(usize, usize)>,
+}
+
+/// For each state a flag, which is false where the search back from the accepting states finds it.
+fn unreaching(alloc: Global, automaton: &Nfa) -> Result<Vec<bool>, AllocError>
+    ensures { IfOk result (λ flags. length flags.items ≡ length automaton.now.states) }
 {
+    let sources = sources_of(alloc, automaton)?;
+    let mut flags = vec![in alloc; true; automaton.states()]?;
     let mut found = Vec::new(alloc);
-    'starts: for start in automaton.starts() {
-        find(reached, &mut found, *start)?;
-    }
-    'states: for _ in 0..automaton.states() {
-        let Some(state) = found.pop() else {
-            return Ok(false);
-        };
-        if state >= automaton.states() {
-            return Ok(true);
-        }
+    'accepting: for state in 0..automaton.states() {
         if automaton.accepting(state) {
-            return Ok(true);
+            find(&mut flags, &mut found, state)?;
         }
-        find_targets(reached, &mut found, automaton.edges_from(state))?;
     }
-    Ok(false)
+    'found: for _ in 0..automaton.states() {
+        let Some(state) = found.pop() else {
+            return Ok(flags);
+        };
+        find_sources(&mut flags, &mut found, &sources, state)?;
+    }
+    Ok(flags)
 }
 
-/// Finds the targets of the edges.
-fn find_targets(
-    reached: &mut Vec<bool>,
-    found: &mut Vec<usize>,
+/// The edges by their targets.
+fn sources_of(alloc: Global, automaton: &Nfa) -> Result<Sources, AllocError> {
+    let mut first = vec![in alloc; usize::MAX; automaton.states()]?;
+    let mut links = Vec::new(alloc);
+    'states: for state in 0..automaton.states() {
+        add_sources(&mut first, &mut links, automaton.edges_from(state), state)?;
+    }
+    Ok(Sources { first, links })
+}
+
+/// Adds the edges of the state to the lists of their targets.
+fn add_sources(
+    first: &mut Vec<usize>,
+    links: &mut Vec<(usize, usize)>,
     edges: &[(Option<u32>, usize)],
+    state: usize,
+) -> Result<(), AllocError> {
+    'edges: for &(_, to) in edges {
+        if to < first.len() {
+            let place = links.len();
+            links.push((state, first[to]))?;
+            first[to] = place;
+        }
+    }
+    Ok(())
+}
+
+/// Finds the sources of the edges to the state.
+fn find_sources(
+    flags: &mut Vec<bool>,
+    found: &mut Vec<usize>,
+    sources: &Sources,
+    state: usize,
 ) -> Result<(), AllocError>
-    ensures { length reached.new.items ≡ length reached.old.items }
+    ensures { length flags.new.items ≡ length flags.old.items }
 {
-    'edges: for (_, to) in edges {
-        find(reached, found, *to)?;
+    if state >= sources.first.len() {
+        return Ok(());
+    }
+    let mut place = sources.first[state];
+    'links: for _ in 0..sources.links.len() {
+        if place >= sources.links.len() {
+            return Ok(());
+        }
+        let (source, next) = sources.links[place];
+        find(flags, found, source)?;
+        place = next;
     }
     Ok(())
 }
 
 /// Finds the state, if it was not found before.
-fn find(reached: &mut Vec<bool>, found: &mut Vec<usize>, state: usize) -> Result<(), AllocError>
-    ensures { length reached.new.items ≡ length reached.old.items }
+fn find(flags: &mut Vec<bool>, found: &mut Vec<usize>, state: usize) -> Result<(), AllocError>
+    ensures { length flags.new.items ≡ length flags.old.items }
 {
-    if state < reached.len() && !reached[state] {
-        reached[state] = true;
+    if state < flags.len() && flags[state] {
+        flags[state] = false;
         found.push(state)?;
     }
     Ok(())
 }
 
-/// Whether the flagged states have the start states among them, do not accept, and lead to flagged states alone.
-fn is_rejecting(automaton: &Nfa, flags: &[bool]) -> bool
+/// Whether the flagged states do not accept, and lead to flagged states alone.
+fn are_rejecting(automaton: &Nfa, flags: &[bool]) -> bool
     requires { length flags.now ≡ length automaton.now.states }
-    ensures { IsTrue result → IsRejecting automaton.now flags.now }
+    ensures { IsTrue result → AreRejecting automaton.now flags.now }
 {
-    if !are_flagged(flags, automaton.starts()) {
-        return false;
-    }
     'states: for state in 0..automaton.states() {
         if !rejects_at(automaton, flags, state) {
             return false;
@@ -95,18 +141,6 @@ fn rejects_at(automaton: &Nfa, flags: &[bool], state: usize) -> bool
         return false;
     }
     lead_to_flagged(flags, automaton.edges_from(state))
-}
-
-/// Whether the states have the flag.
-fn are_flagged(flags: &[bool], states: &[usize]) -> bool
-    ensures { IsTrue result → (q : ℕ) → Contains states.now q → slice_index_or flags.now q false ≡ true }
-{
-    'states: for state in states {
-        if *state >= flags.len() || !flags[*state] {
-            return false;
-        }
-    }
-    true
 }
 
 /// Whether the edges lead to states with the flag.

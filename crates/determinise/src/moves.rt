@@ -3,10 +3,13 @@
 ghost use Rattle.std.specs.Prelude.{◌≡◌, ◌↔◌, ◌<◌, ◌++◌, ℕ, Contains, IsTrue, length, map, IfOk, OnOk};
 ghost use Rattle.std.specs.List.{filter_map};
 ghost use Rattle.word_automata.specs.StateSets.{AreStates};
-ghost use Rattle.determinise.specs.Subsets.{lettered_move, moves_from, HasOrderedLetters, AreOrderedMoves, IsRun};
+ghost use Rattle.determinise.specs.Subsets.{lettered_move, moves_from, order_key, HasOrderedLetters, AreOrderedMoves, IsRun};
 
 use std::alloc::{AllocError, Global};
 use word_automata::Nfa;
+
+/// Targets below this number are told apart by the order of moves.
+const TARGETS: u64 = 1 << 32;
 
 /// The moves out of the states, by letters that do not decrease.
 pub fn ordered_moves(
@@ -18,8 +21,15 @@ pub fn ordered_moves(
     ensures { IfOk result (λ moves. AreOrderedMoves automaton.now states.now moves.items) }
 {
     let mut moves = moves_from(alloc, automaton, states)?;
-    moves.sort()?;
+    moves.sort_unstable_by_key(|&(letter, to)| order_key(letter, to));
     Ok(moves)
+}
+
+/// The letter above the last 32 bits of the target: one number, so that moves are compared at once.
+fn order_key(letter: u32, to: usize) -> u64
+    ensures { result ≡ order_key (letter, to) }
+{
+    u64::from(letter) * TARGETS + to as u64 % TARGETS
 }
 
 /// The moves out of the states, one state after another.
@@ -45,6 +55,7 @@ fn add_moves(
 ) -> Result<(), AllocError>
     ensures { OnOk result (moves.new.items ≡ moves.old.items ++ filter_map lettered_move edges.now) }
 {
+    moves.reserve(edges.len())?;
     'edges: for &(letter, to) in edges {
         if let Some(letter) = letter {
             moves.push((letter, to))?;

@@ -5,7 +5,6 @@ ghost use Rattle.std.specs.Cmp.Lexicographic.{bytes_decides};
 ghost use Rattle.word_automata.specs.Nondeterministic.{Accepts, AcceptsFromAny};
 ghost use Rattle.determinise.specs.Subsets.{IsSubset, ArePlainWhereFalse};
 
-use crate::emptiness::accepts_a_word;
 use crate::moves::{end_of_run, ordered_moves, targets};
 use crate::subset::{accepts_some, subset_from, subset_of};
 use exploration::{LanguageSystem, StateList};
@@ -49,7 +48,7 @@ impl<'a> LanguageSystem for Subsets<'a> {
 
     fn start(&self, alloc: Global) -> Result<Option<StateList>, AllocError> {
         let starts = self.automaton.starts();
-        if !accepts_a_word(alloc, self.automaton)? {
+        if starts.is_empty() {
             return Ok(None);
         }
         Ok(Some(subset_from(alloc, self.automaton, self.silent, starts)?))

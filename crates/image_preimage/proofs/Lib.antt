@@ -1,4 +1,5 @@
 mod GraphLemmas
 mod PairLemmas
+mod PlaceLemmas
 mod ImageLemmas
 mod SamePairs

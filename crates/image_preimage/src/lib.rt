@@ -3,5 +3,6 @@
 
 mod images;
 mod pairs;
+mod places;
 
 pub use images::{image, image_automaton, preimage, preimage_automaton};

@@ -7,6 +7,7 @@ ghost use Rattle.word_automata.specs.Automaton.{target};
 ghost use Rattle.transducers.specs.Transducer.{IsValid, IsEdge};
 ghost use Rattle.image_preimage.specs.Pairs.{advance, IsReached, Numbers, Follows, Expands};
 
+use crate::places::place_of;
 use indexmap::IndexSet;
 use std::alloc::AllocError;
 use transducers::{Label, Transducer};
@@ -33,15 +34,25 @@ pub(crate) fn expand(
     ensures { OnOk result (Expands t.now a.now found.old.keys found.new.keys builder.old builder.new from) }
 {
     let pair = pair_at(found, from);
-    let mut last = from;
+    let mut near = Near {
+        number: from,
+        place: 0,
+    };
     'edges: for edge in t.edges(pair.left) {
-        follow(t, a, found, builder, from, pair, *edge, &mut last)?;
+        follow(t, a, found, builder, from, pair, *edge, &mut near)?;
     }
     Ok(())
 }
 
+/// What the last edge of a pair met: the number of the pair to which it led, and a place among the edges of the right state.
+#[derive(Drop)]
+struct Near {
+    number: usize,
+    place: usize,
+}
+
 /// Adds the edge of the pair to which an edge of its left state leads, where its right state goes on with the letter that is read.
-/// `last` is the number of the pair to which the last edge led, which is looked at first.
+/// What is near the last edge is looked at first.
 fn follow(
     t: &Transducer,
     a: &Dfa,
@@ -50,7 +61,7 @@ fn follow(
     from: usize,
     pair: Pair,
     edge: (Label, usize),
-    last: &mut usize,
+    near: &mut Near,
 ) -> Result<(), AllocError>
     requires in_range { IsEdge t.now.letters (length t.now.states) edge }
     requires is_edge { Contains (edges_of t.now.states pair.left) edge }
@@ -58,14 +69,14 @@ fn follow(
     requires reached { IsReached t.now a.now found.old.keys builder.old }
     ensures { OnOk result (Follows t.now a.now found.old.keys found.new.keys builder.old builder.new from pair edge) }
 {
-    if let Some(right) = advance(a, pair.right, edge.0.read) {
+    if let Some(right) = advance(a, pair.right, edge.0.read, &mut near.place) {
         let next = Pair {
             left: edge.1,
             right,
         };
-        let to = number(t, a, found, builder, next, *last)?;
+        let to = number(t, a, found, builder, next, near.number)?;
         builder.edge(from, edge.0.write, to)?;
-        *last = to;
+        near.number = to;
     }
     Ok(())
 }
@@ -111,30 +122,35 @@ fn find(
 }
 
 /// The state to which the letter leads, if it leads anywhere; without a letter the state itself.
-fn advance(a: &Dfa, state: usize, letter: Option<u32>) -> Option<usize>
+fn advance(a: &Dfa, state: usize, letter: Option<u32>, near: &mut usize) -> Option<usize>
     requires { state < length a.now.states }
     ensures value { result ≡ advance a.now state letter }
     ensures in_range { IfSome result (λ to. to < length a.now.states) }
 {
     match letter {
         None => Some(state),
-        Some(letter) => target_of(a, state, letter),
+        Some(letter) => target_of(a, state, letter, near),
     }
 }
 
-/// Where the letter leads from the state, if anywhere. Where the state has an edge for each letter, it stands at the place of the letter
-/// and is not searched for.
-fn target_of(a: &Dfa, state: usize, letter: u32) -> Option<usize>
+/// Where the letter leads from the state, if anywhere. `near` is a place among the edges of the state, at which and behind which the
+/// edge is looked for first: letters that come in increasing order then cost no search.
+fn target_of(a: &Dfa, state: usize, letter: u32, near: &mut usize) -> Option<usize>
     requires { state < length a.now.states }
     ensures value { result ≡ target a.now state letter }
     ensures in_range { IfSome result (λ to. to < length a.now.states) }
 {
     let edges = a.edges_from(state);
-    let place = letter as usize;
-    if place < edges.len() && edges[place].0 == letter {
-        return Some(edges[place].1);
+    match place_of(edges, letter, *near) {
+        Ok(place) => {
+            *near = place;
+            Some(edges[place].1)
+        }
+        Err(place) => {
+            *near = place;
+            None
+        }
     }
-    a.target(state, letter)
 }
 
 /// The pair with this number.

@@ -1,6 +1,7 @@
-use Rattle.std.proofs.Common.{List, Bool, sym, subst}
-use Rattle.determinise.specs.Subsets.{ArePlainWhereFalse}
 use Rattle.determinise.proofs.determinise.Goals as goal
 
-pub new-requires-clause-plain : goal.new-requires-clause-plain
-new-requires-clause-plain c = subst (λ (xs : List Bool). ArePlainWhereFalse c.args.automaton.now xs) (sym c.deref.ensures.value) c.in_ok-silent.ensures.plain
+pub returns-then-is_flagged-clause-language : goal.returns-then-is_flagged-clause-language
+returns-then-is_flagged-clause-language c w =
+    let made = c.in_ok-dfa.ensures.language w in
+    let kept = c.in_ok-live.ensures.language w in
+    (λ accepted. kept.0 (made.0 accepted), λ accepted. made.1 (kept.1 accepted))
