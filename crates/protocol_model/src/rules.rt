@@ -1,4 +1,5 @@
 //! Rules by number.
+//! Each move is checked against the kind of its section, and each letter is looked up once; time is linear in the names of a rule.
 
 ghost use Rattle.std.specs.Prelude.{◌≡◌, ◌≤◌, [], length, map};
 ghost use Rattle.std.specs.List.{list_any};
