@@ -1,27 +1,11 @@
 -- Words that are cut at separators.
+pub use Rattle.sequence.proofs.Cuts.{cut_unique}
 use Rattle.std.proofs.Common.{◌≡◌, ◌==◌, ◌<◌, ◌+◌, ℕ, suc, false, List, [], ◌∷◌, ◌++◌, None, Some, length, take, drop, not, cond, refl, sym, ap, subst, ◌∙◌}
 use Rattle.std.proofs.Common.{inl, inr, arith, eqb-true, eq-eqb, true≢false, nat_lt, position, lt-ltb, one-add, add-one, length-drop, ◌-◌}
 use Rattle.std.specs.List.{position_or_len}
 use Rattle.std.proofs.lemmas.Bool.{cases_Bool, cases_lt}
 use Rattle.std.proofs.lemmas.List.{take_all}
 use Rattle.configuration_words.specs.Cuts.{Lacks, IsCut}
-
--- a word has one first separator
-pub cut_unique : (separator : ℕ) (a b x y : List ℕ) → Lacks separator a → Lacks separator b → a ++ separator ∷ x ≡ b ++ separator ∷ y
-    → (a ≡ b) × (x ≡ y)
-cut_unique separator [] [] x y la lb e = (refl, cc)
-cut_unique separator [] (c ∷ b) x y la lb e = absurd (lb.0 cc)
-cut_unique separator (c ∷ a) [] x y la lb e = absurd (la.0 cc)
-cut_unique separator (c ∷ a) (d ∷ b) x y la lb e =
-    let tails : a ++ separator ∷ x ≡ b ++ separator ∷ y = cc in
-    let same_heads : c ≡ d = cc in
-    let rest = cut_unique separator a b x y la.1 lb.1 tails in
-    (cc (rest.0, same_heads), rest.1)
-
--- a word that is cut somewhere has the separator
-pub no_cut : (separator : ℕ) (a x : List ℕ) → Lacks separator (a ++ separator ∷ x) → ⊥
-no_cut separator [] x h = h.0 refl
-no_cut separator (c ∷ a) x h = no_cut separator a x h.1
 
 -- the word is cut at so many letters
 abbrev IsCutAfter : ℕ → List ℕ → ℕ → Type 0

@@ -1,4 +1,4 @@
--- The reader of configurations: a deterministic automaton that takes the tokens, each by its bytes, one after the other.
+-- The reader of configurations: a deterministic automaton that takes the tokens, each by its bytes, one after the other. Only private contracts speak of this.
 use Rattle.std.specs.Prelude.{◌≡◌, ◌≤◌, ℕ, List, [], ◌∷◌, ◌++◌, Option, Some, None, if◌then◌else◌, codes, position, slice_get}
 use Rattle.std.specs.Str.{bytes_eq}
 use Rattle.std.specs.Option.{option_map}

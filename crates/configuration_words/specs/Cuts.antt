@@ -1,10 +1,6 @@
--- Words that are cut at separators.
-use Rattle.std.specs.Prelude.{◌≡◌, ◌≢◌, ℕ, List, ◌∷◌, ◌++◌, Option, MatchOption}
-use Rattle.std.specs.List.{AllByRecursion}
-
--- the letter is none of the word's
-abbrev pub Lacks : ℕ → List ℕ → Type 0
-Lacks letter word = AllByRecursion (λ a. a ≢ letter) word
+-- Words that are cut at separators. Only private contracts speak of this.
+pub use Rattle.sequence.specs.Cuts.{Lacks}
+use Rattle.std.specs.Prelude.{◌≡◌, ℕ, List, ◌∷◌, ◌++◌, Option, MatchOption}
 
 -- the word is cut at its first separator, if it has one: what stands before it, and what stands behind it
 pub record IsCut (separator : ℕ) (word front : List ℕ) (behind : Option (List ℕ)) : Type 0 where

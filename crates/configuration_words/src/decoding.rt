@@ -1,4 +1,5 @@
 //! From words to configurations.
+//! The word is cut at its separators from the left, and each part is lowered and judged; time is linear in the word.
 
 ghost use Rattle.std.specs.Prelude.{◌≡◌, ◌≢◌, ◌==◌, ◌||◌, ◌+◌, ◌<◌, ◌≤◌, ℕ, List, IfOk, IfSome, MatchOption, IsTrue, Some, length, nat_lt, option_copied, position};
 ghost use Rattle.std.specs.List.{list_all};
@@ -8,9 +9,7 @@ ghost use Rattle.protocol_model.specs.Patterns.{fits, has_any_length, list_fits}
 ghost use Rattle.protocol_model.specs.Words.{raised, word_of};
 ghost use Rattle.configuration_words.specs.Cuts.{IsCut};
 
-use crate::alphabet::{has_any_length, letter_count, separator};
 use protocol_model::{Configuration, Section, System};
-use protocol_syntax::Kind;
 use sequence::Sequence;
 use std::alloc::{AllocError, Global};
 
@@ -26,7 +25,7 @@ pub fn decode(
     ensures unique { (c : Configuration) → IsTrue (fits system.now c) → word.now ≡ word_of system.now c
         → IfOk result (λ found. found ≡ Some c) }
 {
-    let separator = separator(system);
+    let separator = system.separator();
     let mut lists = Vec::new(alloc);
     let mut offset = 0;
     let mut rest = Some(word);
@@ -39,7 +38,7 @@ pub fn decode(
             return Ok(None);
         };
         lists.push(list)?;
-        offset += letter_count(section);
+        offset += section.letter_count();
         rest = behind;
     }
     if rest.is_some() {
@@ -80,20 +79,20 @@ fn lowered(
         ((list : List ℕ) → IsTrue (list_fits section.now list) → letters.now ≡ raised offset list → ⊥)
         (λ list. IsTrue (list_fits section.now list) × (letters.now ≡ raised offset list))) }
 {
-    if !may_have_length(section.kind, letters.len()) {
+    if !may_have_length(section, letters.len()) {
         return Ok(None);
     }
-    match lowered_letters(alloc, letters, offset, letter_count(section))? {
+    match lowered_letters(alloc, letters, offset, section.letter_count())? {
         Some(list) => Ok(Some(Sequence::from_vec(list))),
         None => Ok(None),
     }
 }
 
-/// Whether a section of this kind may have a list of this length.
-fn may_have_length(kind: Kind, length: usize) -> bool
-    ensures { result ≡ (has_any_length kind || (length == 1)) }
+/// Whether the section may have a list of this length.
+fn may_have_length(section: &Section, length: usize) -> bool
+    ensures { result ≡ (has_any_length section.now.kind || (length == 1)) }
 {
-    has_any_length(kind) || length == 1
+    section.has_any_length() || length == 1
 }
 
 /// The letters below the count that are raised by the offset to these letters, if they are.

@@ -1,10 +1,10 @@
 //! From configurations to words.
+//! One pass over the lists, in time linear in the word.
 
 ghost use Rattle.std.specs.Prelude.{◌≡◌, ◌+◌, ◌^◌, ◌<◌, ◌++◌, All, IfOk, OnOk, IsTrue};
 ghost use Rattle.protocol_model.specs.Patterns.{fits};
 ghost use Rattle.protocol_model.specs.Words.{raised, word_of};
 
-use crate::alphabet::{letter_count, separator};
 use protocol_model::{Configuration, System};
 use std::alloc::{AllocError, Global};
 
@@ -18,7 +18,7 @@ pub fn encode(
     requires { IsTrue (fits system.now configuration.now) }
     ensures { IfOk result (λ word. word.items ≡ word_of system.now configuration.now) }
 {
-    let separator = separator(system);
+    let separator = system.separator();
     let lists = configuration.lists.as_slice();
     let mut word = Vec::new(alloc);
     let mut offset = 0;
@@ -27,7 +27,7 @@ pub fn encode(
             word.push(separator)?;
         }
         push_raised(&mut word, lists[index].as_slice(), offset)?;
-        offset += letter_count(section);
+        offset += section.letter_count();
     }
     Ok(word)
 }

@@ -1,4 +1,5 @@
 //! What every text says of itself.
+//! The function does nothing; its contract is the law.
 
 ghost use Rattle.configuration_words.specs.OneReading.{ConfigurationIsDetermined, FaultIsDetermined, FaultExcludesConfiguration};
 

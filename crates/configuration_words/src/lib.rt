@@ -1,7 +1,7 @@
 //! Configurations as words over the letters of a system's automata, and as texts.
+//! Words and texts are read and written in one pass.
 #![tactic(auto)]
 
-mod alphabet;
 mod decoding;
 mod encoding;
 mod fault;

@@ -1,4 +1,6 @@
 //! From texts to configurations: one pass over the tokens.
+//! A deterministic automaton takes the tokens by their bytes. Its state tells what can still be completed, so the first wrong token is the
+//! first that it cannot take.
 
 ghost use Rattle.std.specs.Prelude.{◌≡◌, ◌≢◌, ◌↔◌, ◌++◌, ◌∷◌, [], OnOk, ◌<◌, ◌≤◌, IfErr, IfOk, IfSome, IsTrue, Some, None, if◌then◌else◌, length, position};
 ghost use Rattle.std.specs.List.{AllByRecursion};
@@ -7,13 +9,12 @@ ghost use Rattle.std.specs.Str.{bytes_eq};
 ghost use Rattle.protocol_lexer.specs.Tokens.{LiesIn};
 ghost use Rattle.protocol_syntax.specs.Symbol.{spelled};
 ghost use Rattle.protocol_model.specs.declared.system.Configuration.{Configuration};
-ghost use Rattle.protocol_model.specs.System.{letter_count};
+ghost use Rattle.protocol_model.specs.System.{IsValid, letter_count};
 ghost use Rattle.protocol_model.specs.Patterns.{fits};
 ghost use Rattle.configuration_words.specs.ConfigurationText.{AreTokensOf, IsFirstFault, MeansConfiguration, spelled_tokens};
 ghost use Rattle.configuration_words.specs.ConfigurationReader.{HasFewLetters, IsAtWrongToken, advance, effect_of, letter_effect, letter_number, reader_of, take_effect, whole_lists};
 ghost use Rattle.configuration_words.specs.declared.reading.Stage.TheVariants as Stages;
 
-use crate::alphabet::{has_any_length, sections};
 use crate::fault::ConfigFault;
 use protocol_lexer::{LexFault, Place, Token, one_reading, tokens};
 use protocol_model::{Configuration, Section, System};
@@ -183,7 +184,7 @@ fn first_effect(section: &Section, token: &[u8]) -> Option<Effect>
     requires { letter_count section.now ≤ 256 }
     ensures { result ≡ effect_of section.now Stages.First token.now }
 {
-    let any = has_any_length(section.kind);
+    let any = section.has_any_length();
     if is(token, b"empty") {
         return if any {
             Some(Effect::To(Stage::Behind))
@@ -287,4 +288,12 @@ pub fn read_configuration(
     Ok(Configuration {
         lists: Sequence::from_vec(lists),
     })
+}
+
+/// The sections of the system, which is valid.
+pub(crate) fn sections(system: &System) -> &[Section]
+    ensures sections { result.now ≡ system.now.sections }
+    ensures valid { IsValid system.now }
+{
+    system.sections.as_slice()
 }

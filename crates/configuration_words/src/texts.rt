@@ -1,4 +1,5 @@
 //! From configurations to texts.
+//! One pass over the lists, in time linear in the text.
 
 ghost use Rattle.std.specs.Prelude.{◌≡◌, ◌++◌, ◌<◌, ◌∷◌, [], All, IfOk, OnOk, IsTrue, codes, flat_map};
 ghost use Rattle.protocol_model.specs.System.{letter_count};

@@ -119,7 +119,20 @@ four_tokens : (word : List ℕ) → IsToken word → (a b c d : Name) → IsName
 four_tokens word h a b c d v w x y = (h, (name_token a v, (name_token b w, (IsToken-arrow, (name_token c x, (name_token d y, tt))))))
 
 move_tokens : (b : MoveBody) → IsMove b → AllTokens (move_words b)
-move_tokens (Moves.At from to guards table) v = (IsToken-word (codes "at") refl, (name_token from v.0, (IsToken-arrow, (name_token to v.1, both_tokens (flat_map guard_words guards) (table_words table) (all_tokens guard_words _ (λ _ g h. guard_tokens g h.1) guards [] v.2) (table_tokens table v.3)))))
+move_tokens (Moves.At from to guards table) v = (
+  IsToken-word (codes "at") refl,
+  (
+    name_token from v.0,
+    (
+      IsToken-arrow,
+      (
+        name_token to v.1,
+        both_tokens (flat_map guard_words guards) (table_words table)
+            (all_tokens guard_words _ (λ _ g h. guard_tokens g h.1) guards [] v.2) (table_tokens table v.3),
+      ),
+    ),
+  ),
+)
 move_tokens (Moves.Pair a b c d) v = four_tokens (codes "pair") (IsToken-word (codes "pair") refl) a b c d v.0 v.1 v.2 v.3
 move_tokens (Moves.Ring a b c d) v = four_tokens (codes "ring") (IsToken-word (codes "ring") refl) a b c d v.0 v.1 v.2 v.3
 move_tokens (Moves.Two a b c d) v = four_tokens (codes "two") (IsToken-word (codes "two") refl) a b c d v.0 v.1 v.2 v.3

@@ -18,7 +18,7 @@ use Rattle.protocol_syntax.specs.declared.symbol.Symbol.{Symbol}
 use Rattle.protocol_syntax.specs.declared.symbol.Symbol.TheVariants.{Unreserved, Reserved, Sign}
 use Rattle.protocol_syntax.specs.Symbol.{Source, spelling}
 use Rattle.protocol_syntax.specs.Form.{optional, up_to}
-use Rattle.protocol_syntax.specs.Grammar.{quantifier, region, guard, entry, table, at_move, four_names, pair_move, ring_move, two_move, set_move, send_move, recv_move, pushed, pop_move, push_move, queue_move, move, step, rule}
+use Rattle.protocol_syntax.specs.Grammar.{quantifier, region, guard, entry, table, at_move, four_names, pair_move, ring_move, two_move, set_move, send_move, recv_move, pushed, pop_move, push_move, channel_or_stack_move, move, step, rule}
 use Rattle.protocol_layout.specs.Layout.{region_word, guard_words, entry_words, table_words, pushed_words, four_words, move_words, step_words, rule_words}
 use Rattle.protocol_layout.specs.Places.{name_without_place, guard_without_places, entry_without_places, move_without_places, step_without_places, rule_without_places}
 use Rattle.protocol_layout.proofs.Openings.{StartsIn, outside, moved, larger, Opens, opens_token, opens_bind, opens_or, MayOpen, may_gives, may_optional, may_bind}
@@ -244,13 +244,13 @@ opens_push h = opens_bind _ (opens_pushed h)
 
 -- the choices of a move from one on
 opens_queue : {S : Source} {set : Symbol → Bool} → set (Reserved Words.Send) ≡ true → set (Reserved Words.Recv) ≡ true
-    → set (Reserved Words.Pop) ≡ true → set (Reserved Words.Push) ≡ true → Opens S queue_move set
-unfolding queue_move
+    → set (Reserved Words.Pop) ≡ true → set (Reserved Words.Push) ≡ true → Opens S channel_or_stack_move set
+unfolding channel_or_stack_move
 opens_queue s r o u = opens_or (opens_send s) (opens_or (opens_recv r) (opens_or (opens_pop o) (opens_push u)))
 
 -- a move of a channel or a stack is no other move
 queue_is_move : {S : Source} {after : Symbol → Bool} {i k : ℕ} {b : MoveBody} (word : Keyword) → HasWord S i (spelling word) → at_most 5 (Reserved word) ≡ false
-    → Reads S queue_move after i k b → Reads S move after i k b
+    → Reads S channel_or_stack_move after i k b → Reads S move after i k b
 unfolding move
 queue_is_move word h e r =
     let at = at_keyword word h in
@@ -262,7 +262,7 @@ queue_is_move word h e r =
 
 pub move_again : {S : Source} (b : MoveBody) → IsMove b → (i k : ℕ) → HasWords S i (move_words b) k → (StartsIn (above 1) S k → ⊥)
     → Again S move_without_places move (above 1) i k b
-unfolding move pair_move ring_move two_move set_move queue_move send_move recv_move pop_move push_move
+unfolding move pair_move ring_move two_move set_move channel_or_stack_move send_move recv_move pop_move push_move
 move_again {S} (Moves.At from to guards entries) v i k h stop =
     let found = at_again from to guards entries v i k h stop in
     record {

@@ -1,15 +1,15 @@
 -- What holds of each protocol that some text says.
-use Rattle.std.proofs.Common.{◌≡◌, ℕ, ◌+◌, ◌-◌, ◌≤◌, ◌<◌, List, [], ◌∷◌, Bool, true, false, Option, Some, None, length, refl, sym, subst, inl, inr, arith, suc, zero}
+use Rattle.std.proofs.Common.{◌≡◌, ℕ, ◌+◌, ◌-◌, ◌≤◌, ◌<◌, List, [], ◌∷◌, Bool, true, false, Option, Some, None, length, refl, sym, subst, inl, inr, arith}
 use Rattle.std.proofs.lemmas.List.{length-take, length-drop}
 use Rattle.std.proofs.lemmas.Bool.{cases_order}
 use Rattle.std.specs.Prelude.{nat_le, slice_get, ⊤}
-use Rattle.std.specs.List.{list_all, AllByRecursion, slice_range}
+use Rattle.std.specs.List.{list_all, slice_range}
 use Rattle.protocol_lexer.specs.declared.Token.{Token}
 use Rattle.protocol_lexer.specs.declared.TokenKind.{TokenKind}
 use Rattle.protocol_lexer.specs.declared.TokenKind.TheVariants as Kinds
 use Rattle.protocol_lexer.specs.Piece.{is_word_byte}
 use Rattle.protocol_lexer.specs.Tokens.{LiesIn}
-use Rattle.protocol_lexer.proofs.Lying.{LieInOrder-taken}
+use Rattle.protocol_lexer.proofs.Lying.{LieInOrder-taken, lies_at}
 use Rattle.protocol_syntax.specs.declared.fault.What.TheVariants as Limits
 use Rattle.protocol_syntax.specs.declared.protocol.Name.{Name}
 use Rattle.protocol_syntax.specs.declared.protocol.Protocol.{Protocol}
@@ -30,7 +30,7 @@ use Rattle.protocol_syntax.specs.declared.symbol.Symbol.{Symbol}
 use Rattle.protocol_syntax.specs.declared.symbol.Symbol.TheVariants.{Unreserved, Reserved, Sign}
 use Rattle.protocol_syntax.specs.Symbol.{Source, keyword_of, symbol_of_kind, symbol_of_keyword, spelled}
 use Rattle.protocol_syntax.specs.Form.{Form, token, name}
-use Rattle.protocol_syntax.specs.Grammar.{IsProtocol, means, kind, section, more_sections, set, letter_base, set_base, base, atom, atoms, pattern, part, row, guard, entry, table, at_move, four_names, pair_move, ring_move, two_move, set_move, send_move, recv_move, pushed, pop_move, push_move, queue_move, move, step, rule, protocol, letters_of}
+use Rattle.protocol_syntax.specs.Grammar.{IsProtocol, means, kind, section, more_sections, set, letter_base, set_base, base, atom, atoms, pattern, part, row, guard, entry, table, at_move, four_names, pair_move, ring_move, two_move, set_move, send_move, recv_move, pushed, pop_move, push_move, channel_or_stack_move, move, step, rule, protocol, letters_of}
 use Rattle.protocol_syntax.proofs.Lexing.{is_word}
 use Rattle.protocol_layout.proofs.Openings.{Opens, opens_token, opens_bind, opens_or, token_is, within}
 use Rattle.protocol_layout.proofs.Ensured.{Ensures, ensures_any, ensures_gives, ensures_bind, ensures_or, ensures_optional, ensures_many_by, ensures_item, ensures_many, ensures_up_to, AllAfter, Each, UpTo}
@@ -115,11 +115,6 @@ pub record IsSaid (p : Protocol) : Type 0 where
 -- the tokens of a source lie in its text
 abbrev pub Lies : Source → Type 0
 Lies S = (i : ℕ) (t : Token) → slice_get S.tokens i ≡ Some t → LiesIn S.text t
-
-lies_at : (text : List ℕ) (tokens : List Token) → AllByRecursion (LiesIn text) tokens → (i : ℕ) (t : Token) → slice_get tokens i ≡ Some t → LiesIn text t
-lies_at text [] all i t e = absurd (cc)
-lies_at text (u ∷ tokens) all zero t e = let same : u ≡ t = cc in subst (λ (v : Token). LiesIn text v) same all.0
-lies_at text (u ∷ tokens) all (suc i) t e = lies_at text tokens all.1 i t e
 
 free_keyword : (found : Option Keyword) → symbol_of_keyword found ≡ Unreserved → found ≡ None
 free_keyword None e = refl
@@ -337,8 +332,8 @@ may_be_pushed (n ∷ rest) h = h
 ensures_weaker : {S : Source} {A : Type 0} {x : Form A} {P Q : A → Type 0} → ((a : A) → P a → Q a) → Ensures S x P → Ensures S x Q
 ensures_weaker f e = record { ensures = λ i j a s n. f a (e.ensures i j a s n) }
 
-pub ensures_queue : {S : Source} → Lies S → Ensures S queue_move IsMove
-unfolding queue_move send_move recv_move pop_move push_move
+pub ensures_queue : {S : Source} → Lies S → Ensures S channel_or_stack_move IsMove
+unfolding channel_or_stack_move send_move recv_move pop_move push_move
 ensures_queue l =
     ensures_or (ensures_bind ensures_any (λ _ _. ensures_bind (ensures_name l) (λ n v. ensures_gives (Moves.Send n) v)))
     (ensures_or (ensures_bind ensures_any (λ _ _. ensures_bind (ensures_name l) (λ n v. ensures_gives (Moves.Recv n) v)))

@@ -1,5 +1,5 @@
 -- The canonical layout of a protocol: its words, and how they stand on lines.
-use Rattle.std.specs.Prelude.{◌≡◌, ℕ, List, [], ◌∷◌, ◌++◌, Option, Some, None, codes, map, if◌then◌else◌}
+use Rattle.std.specs.Prelude.{ℕ, List, [], ◌∷◌, ◌++◌, Option, Some, None, codes, map, if◌then◌else◌}
 use Rattle.std.specs.List.{flat_map}
 use Rattle.protocol_syntax.specs.declared.protocol.Name.{Name}
 use Rattle.protocol_syntax.specs.declared.protocol.Protocol.{Protocol}
@@ -125,15 +125,3 @@ items p =
 -- the canonical layout
 abbrev pub layout : Protocol → List ℕ
 layout p = flat_map line (items p)
-
--- the words were written behind what was written before
-abbrev pub Adds : List ℕ → List ℕ → List Word → Type 0
-Adds old new words = new ≡ old ++ flat_map spaced words
-
--- a line of these words was written
-abbrev pub AddsLine : List ℕ → List ℕ → List Word → Type 0
-AddsLine old new words = new ≡ old ++ line words
-
--- lines of these words were written
-abbrev pub AddsLines : List ℕ → List ℕ → List (List Word) → Type 0
-AddsLines old new lines = new ≡ old ++ flat_map line lines

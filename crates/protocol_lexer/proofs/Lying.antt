@@ -1,5 +1,5 @@
 -- The tokens that are taken lie in the text, one after the other.
-use Rattle.std.proofs.Common.{◌≡◌, ℕ, ◌+◌, ◌-◌, ◌≤◌, List, [], ◌∷◌, Option, Some, None, take, drop, length, refl, sym, ap, subst, arith, cond, Bool, true, false, eqb, one-add}
+use Rattle.std.proofs.Common.{◌≡◌, ℕ, zero, suc, slice_get, ◌+◌, ◌-◌, ◌≤◌, List, [], ◌∷◌, Option, Some, None, take, drop, length, refl, sym, ap, subst, arith, cond, Bool, true, false, eqb, one-add}
 use Rattle.std.proofs.lemmas.List.{drop-drop, length-drop}
 use Rattle.std.specs.List.{prefix_len, list_all, AllByRecursion}
 use Rattle.protocol_lexer.specs.declared.Place.{Place}
@@ -136,3 +136,10 @@ pub LieInOrder-taken : (text : List ℕ) (ts : List Token) → AreTokens text ts
 LieInOrder-taken text ts t =
     let l = Takes-lie text text 0 _ ts [] t.0 t.1 refl (omega arith) in
     record { each = l.0; in_order = l.1 }
+
+-- a token of a list whose tokens all lie in the text
+pub lies_at : (text : List ℕ) (tokens : List Token) → AllByRecursion (LiesIn text) tokens → (i : ℕ) (t : Token)
+    → slice_get tokens i ≡ Some t → LiesIn text t
+lies_at text [] each i t e = absurd (cc e)
+lies_at text (u ∷ tokens) each zero t e = let same : u ≡ t = cc e in subst (LiesIn text) same each.0
+lies_at text (u ∷ tokens) each (suc i) t e = lies_at text tokens each.1 i t e

@@ -1,3 +1,4 @@
-pub mod Place
+pub mod Found
 pub mod Piece
+pub mod Place
 pub mod Tokens

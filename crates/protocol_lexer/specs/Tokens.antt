@@ -5,7 +5,6 @@ use Rattle.protocol_lexer.specs.declared.Place.{Place}
 use Rattle.protocol_lexer.specs.declared.Token.{Token}
 use Rattle.protocol_lexer.specs.declared.TokenKind.{TokenKind}
 use Rattle.protocol_lexer.specs.Place.{start_place, place_after}
-use Rattle.protocol_lexer.specs.declared.Piece.{Piece}
 use Rattle.protocol_lexer.specs.declared.TokenKind.TheVariants.{Word}
 use Rattle.protocol_lexer.specs.Piece.{piece, is_word_byte}
 
@@ -23,11 +22,6 @@ pub data Takes : List ℕ → ℕ → Place → List Token → List ℕ → Plac
       → token ≡ record { kind = kind; start = offset; end = offset + n; place = place }
       → Takes (drop n bytes) (offset + n) (place_after place (take n bytes)) tokens rest end
       → Takes bytes offset place (token ∷ tokens) rest end
-
--- the token that a piece at this offset and place is, in a list of its own; no token at white space or a comment
-abbrev pub tokens_of_piece : Piece → ℕ → Place → List Token
-tokens_of_piece found offset place = elim found.kind
-    [ None ↦ [] | Some kind ↦ record { kind = kind; start = offset; end = offset + found.length; place = place } ∷ [] ]
 
 -- the tokens of a text: taking them leaves nothing
 abbrev pub AreTokens : List ℕ → List Token → Type 0

@@ -1,11 +1,13 @@
 //! The tokens of a protocol text, with their places.
+//! One pass from the left takes the longest piece at each place; time and memory are linear in the text.
 #![tactic(auto)]
 
 ghost use Rattle.std.specs.Prelude.{◌≡◌, ◌≢◌, ◌+◌, ◌^◌, ◌<◌, ◌≤◌, ◌++◌, length, [], IfOk, IfSome, OnErr, OnOk};
 ghost use Rattle.protocol_lexer.specs.Place.{place_after, place_after_byte, start_place};
 ghost use Rattle.protocol_lexer.specs.Piece.{arrow, is_comment_byte, is_word_byte, is_white_space, kind_of_byte, piece};
-ghost use Rattle.std.specs.List.{prefix_len};
-ghost use Rattle.protocol_lexer.specs.Tokens.{AreTokens, IsBadByte, LieInOrder, tokens_of_piece};
+ghost use Rattle.std.specs.List.{list_all, prefix_len};
+ghost use Rattle.protocol_lexer.specs.Tokens.{AreTokens, IsBadByte, LieInOrder};
+ghost use Rattle.protocol_lexer.specs.Found.{tokens_of_piece};
 ghost use Rattle.protocol_lexer.specs.Tokens.{BadByteIsDetermined, TokensAreDetermined, TokensExcludeBadByte};
 
 use std::alloc::Global;
@@ -88,12 +90,11 @@ pub struct Token {
 
 /// Why a text has no list of tokens.
 #[derive(Clone, Copy, Debug, PartialEq, Eq, Error)]
+#[error("{:?}", self)]
 pub enum LexFault {
     /// The byte at this place is the first that begins no token, white space or comment.
-    #[error("line {} column {}: bad byte", .place.line, .place.column)]
     BadByte { place: Place },
     /// There is no memory for the list.
-    #[error("out of memory")]
     Memory,
 }
 
@@ -202,6 +203,13 @@ fn is_comment_byte(b: u8) -> bool
     ensures { result ≡ is_comment_byte b }
 {
     b != b'\n'
+}
+
+/// Whether each byte is a letter of ASCII, a digit or `_`, as those of words are.
+pub fn are_word_bytes(bytes: &[u8]) -> bool
+    ensures { result ≡ list_all is_word_byte bytes.now }
+{
+    bytes.iter().all(|b| is_word_byte(*b))
 }
 
 /// The length of the word that the bytes begin with.

@@ -1,6 +1,6 @@
 -- A text that is a protocol within the limits says one that the language allows.
-use Rattle.std.proofs.Common.{◌≡◌, ◌<◌, ◌≤◌, ◌+◌, ◌-◌, ◌&&◌, ℕ, zero, suc, Bool, true, List, [], ◌∷◌, ◌++◌, Option, None, Some, refl, sym, ◌∙◌, ap, subst, inl, inr, arith, length, drop, slice_get, is_none, nat_le, append_assoc, length-drop, append-nil, length-append}
-use Rattle.std.proofs.lemmas.Bool.{lt-ltb, le-leb, cases_lt}
+use Rattle.std.proofs.Common.{◌≡◌, ◌<◌, ◌≤◌, ◌+◌, ◌-◌, ℕ, zero, suc, true, List, [], ◌∷◌, ◌++◌, Option, None, Some, refl, sym, ◌∙◌, ap, subst, inl, inr, arith, length, drop, slice_get, is_none, nat_le, append_assoc, length-drop, append-nil, length-append}
+use Rattle.std.proofs.lemmas.Bool.{lt-ltb, le-leb, cases_lt, and_from}
 use Rattle.std.proofs.lemmas.List.{length-take-le}
 use Rattle.std.proofs.lemmas.List.Sums.{sum_by-cons, sum_by_push}
 use Rattle.std.specs.Option.{option_map}
@@ -9,7 +9,7 @@ use Rattle.protocol_lexer.specs.declared.Token.{Token}
 use Rattle.protocol_lexer.specs.declared.TokenKind.{TokenKind}
 use Rattle.protocol_lexer.specs.declared.TokenKind.TheVariants.{Word, BraceLeft, BraceRight, Colon, Semicolon, Star, Plus, Arrow}
 use Rattle.protocol_lexer.specs.Tokens.{LiesIn}
-use Rattle.protocol_lexer.proofs.Lying.{LieInOrder-taken}
+use Rattle.protocol_lexer.proofs.Lying.{LieInOrder-taken, lies_at}
 use Rattle.protocol_syntax.specs.declared.fault.What.{What}
 use Rattle.protocol_syntax.specs.declared.fault.What.TheVariants as Limits
 use Rattle.protocol_syntax.specs.declared.protocol.Name.{Name}
@@ -30,7 +30,7 @@ use Rattle.protocol_syntax.specs.declared.symbol.Symbol.{Symbol}
 use Rattle.protocol_syntax.specs.declared.symbol.Symbol.TheVariants.{Unreserved}
 use Rattle.protocol_syntax.specs.Symbol.{Source, source_of, keyword_of, symbol, symbol_of_keyword, symbol_of_kind, spelled}
 use Rattle.protocol_syntax.specs.Form.{Form, token, name, gives, ◌>>=◌, ◌or◌, optional, many, many_by, item, up_to, SaysMany}
-use Rattle.protocol_syntax.specs.Grammar.{means, kind, section, letters_of, more_sections, set, letter_base, set_base, base, atom, atoms, pattern, part, row, guard, at_move, pair_move, ring_move, two_move, set_move, send_move, recv_move, pushed, pop_move, push_move, queue_move, move, step, rule, protocol, IsProtocol}
+use Rattle.protocol_syntax.specs.Grammar.{means, kind, section, letters_of, more_sections, set, letter_base, set_base, base, atom, atoms, pattern, part, row, guard, at_move, pair_move, ring_move, two_move, set_move, send_move, recv_move, pushed, pop_move, push_move, channel_or_stack_move, move, step, rule, protocol, IsProtocol}
 use Rattle.protocol_model.specs.Names.{IsName}
 use Rattle.protocol_model.specs.Allowed.{IsAllowed, IsAllowedSection, IsAllowedRule, IsAllowedRow, IsAllowedBody}
 
@@ -48,16 +48,13 @@ there [] i t h = absurd (cc h)
 there (x ∷ tokens) zero t h = omega arith
 there (x ∷ tokens) (suc i) t h = let later = there tokens i t h in omega (arith, later)
 
--- a token with its symbol
-abbrev with_symbol : List ℕ → Token → Symbol × Token
-with_symbol text t = (symbol text t, t)
-
 token-at : (s : Source) (found : Option Token) (x : Symbol) (t : Token)
-    → option_map (with_symbol s.text) found ≡ Some (x, t) → (found ≡ Some t) × (symbol s.text t ≡ x)
+    → option_map {U = Symbol × Token} (λ u. (symbol s.text u, u)) found ≡ Some (x, t) → (found ≡ Some t) × (symbol s.text t ≡ x)
 token-at s None x t h = absurd (cc h)
 token-at s (Some u) x t h =
     let p : Symbol × Token = (x, t) in
-    let e : with_symbol s.text u ≡ p = cc h in
+    let q : Symbol × Token = (symbol s.text u, u) in
+    let e : q ≡ p = cc h in
     let second : Symbol × Token → Token = λ p. p.1 in
     let first : Symbol × Token → Symbol = λ p. p.0 in
     let same : u ≡ t = ap second e in
@@ -96,9 +93,6 @@ length-range text a b h g =
 not_more : (a b : ℕ) → (b < a → ⊥) → a ≤ b
 not_more a b h = elim (cases_lt b a) [ inl lt ↦ absurd (h lt) | inr le ↦ le ]
 
-both : (p q : Bool) → p ≡ true → q ≡ true → (p && q) ≡ true
-both p q h g = rw h g
-
 -- a name that is read and is not too long is a name
 IsName-read : (s : Source) → AllLie s → (i j : ℕ) (a : Name) → name.Says s i j a → Clean s name i → IsName a.text
 unfolding token
@@ -112,7 +106,7 @@ IsName-read s lie i j a (e, (t, at, is)) clean =
     let short : t.end - t.start ≤ 32
     = not_more (t.end - t.start) 32 (λ long. clean Limits.NameBytes (i + 1) (omega arith) (refl, (t, at, (refl, long), refl))) in
     subst (λ (n : Name). IsName n.text) (sym is)
-    (both _ _ (both _ _ (both _ _ (lt-ltb 0 (length (spelled s.text t)) (omega (arith, size, lies.some)))
+    (and_from _ _ (and_from _ _ (and_from _ _ (lt-ltb 0 (length (spelled s.text t)) (omega (arith, size, lies.some)))
     (le-leb (length (spelled s.text t)) 32 (omega (arith, size, short))))
     (lies.word word))
     (unreserved_name (spelled s.text t) t.kind found.1))
@@ -375,8 +369,8 @@ push_read s i j a (k1, push, h1, (e, is)) clean =
     let of_pushed : Clean s pushed i = λ w k h p. clean w k h (inl p) in
     subst IsAllowedBody (sym is) (pushed_read s i k1 push h1 of_pushed)
 
-queue_read : (s : Source) (i j : ℕ) (a : MoveBody) → queue_move.Says s i j a → Clean s queue_move i → IsAllowedBody a
-unfolding queue_move send_move recv_move ◌or◌ ◌>>=◌ gives
+queue_read : (s : Source) (i j : ℕ) (a : MoveBody) → channel_or_stack_move.Says s i j a → Clean s channel_or_stack_move i → IsAllowedBody a
+unfolding channel_or_stack_move send_move recv_move ◌or◌ ◌>>=◌ gives
 queue_read s i j a (inl (k1, u1, h1, (k2, letter, h2, (e, is)))) clean = subst IsAllowedBody (sym is) tt
 queue_read s i j a (inr (inl (k1, u1, h1, (k2, letter, h2, (e, is))))) clean = subst IsAllowedBody (sym is) tt
 queue_read s i j a (inr (inr (inl says))) clean = pop_read s i j a says (λ w k h p. clean w k h (inr (inr (inl p))))
@@ -451,13 +445,6 @@ protocol_read s lie j p
       each_rule = each.0;
       each_bad = rows_bad.0;
     })
-
--- a token of a list whose tokens all lie in the text
-lies_at : (text : List ℕ) (tokens : List Token) → AllByRecursion (LiesIn text) tokens → (i : ℕ) (t : Token)
-    → slice_get tokens i ≡ Some t → LiesIn text t
-lies_at text [] each i t e = absurd (cc e)
-lies_at text (u ∷ tokens) each zero t e = let same : u ≡ t = cc e in subst (LiesIn text) same each.0
-lies_at text (u ∷ tokens) each (suc i) t e = lies_at text tokens each.1 i t e
 
 pub IsAllowed-read : (text : List ℕ) (p : Protocol) → IsProtocol text p → IsAllowed p
 IsAllowed-read text p (tokens, are, within) =

@@ -1,5 +1,5 @@
 -- Items that have no fault: each has none with the items before it, and none is named as an earlier one.
-use Rattle.std.proofs.Common.{◌≡◌, ℕ, Bool, true, false, List, [], ◌∷◌, ◌++◌, Option, None, Some, map, refl, ap, sym, ◌∙◌, arith, ◌||◌}
+use Rattle.std.proofs.Common.{◌≡◌, ℕ, true, false, List, [], ◌∷◌, ◌++◌, Option, None, Some, map, refl, ap, sym, ◌∙◌, arith}
 use Rattle.std.specs.Prelude.{AllPairs, All}
 use Rattle.std.specs.List.{list_any, AllByRecursion}
 use Rattle.std.specs.Option.{option_or}
@@ -9,6 +9,7 @@ use Rattle.std.proofs.lemmas.List.{map-append}
 use Rattle.std.proofs.lemmas.List.Folds.{list_any-append}
 use Rattle.std.proofs.lemmas.List.Elements.{All-cons, All-nil}
 use Rattle.std.proofs.lemmas.List.Kept.{AllPairs-cons}
+use Rattle.std.proofs.Math.Bool.{or-true}
 use Rattle.protocol_model.specs.declared.fault.ModelFault.{ModelFault}
 use Rattle.protocol_model.specs.Faults.{first_fault_of}
 
@@ -49,10 +50,6 @@ bytes_eq_refl k = (bytes_eq-Decides k k).1 refl
 true_is_false : true ≡ false → ⊥
 true_is_false h = cc
 
-or_true : (b : Bool) → (b || true) ≡ true
-or_true true = refl
-or_true false = refl
-
 -- a name that is before the items is that of none of them
 none_has : {X Y : Type 0} (key : X → List ℕ) (v : X → Y) (fault : List X → X → Option ModelFault) (R : Y → Type 0) (k : List ℕ) →
     ((earlier : List X) (x : X) → fault earlier x ≡ None → list_any (bytes_eq (key x)) (map key earlier) ≡ false) →
@@ -80,7 +77,7 @@ named_apart key v fault R fresh apart earlier (x ∷ xs) h =
     let rest = none_second (fault earlier x) (first_fault_of fault (earlier ++ x ∷ []) xs) h in
     let there : list_any (bytes_eq (key x)) (map key (earlier ++ x ∷ [])) ≡ true =
     rw (map-append key earlier (x ∷ []), list_any-append (bytes_eq (key x)) (map key earlier) (key x ∷ []), bytes_eq_refl (key x))
-    (or_true (list_any (bytes_eq (key x)) (map key earlier))) in
+    (or-true (list_any (bytes_eq (key x)) (map key earlier))) in
     AllPairs-cons R (v x) (map v xs)
     (none_has key v fault (R (v x)) (key x) fresh (λ y before none differs. apart x y earlier before clean none differs)
     (earlier ++ x ∷ []) xs there rest)

@@ -1,4 +1,5 @@
 //! Copies of configurations and of systems.
+//! Each function copies one level, so a copy costs what the value holds; the copy is equal to it.
 
 ghost use Rattle.std.specs.Prelude.{◌≡◌, IfOk};
 ghost use Rattle.protocol_model.specs.declared.system.Move.TheVariants.{At};

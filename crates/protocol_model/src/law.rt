@@ -1,4 +1,5 @@
 //! What holds of every protocol that a text says.
+//! The function does nothing; its contract is the law.
 
 ghost use Rattle.std.specs.Prelude.{◌≡◌, ℕ, List, None};
 ghost use Rattle.protocol_syntax.specs.declared.protocol.Protocol.{Protocol};

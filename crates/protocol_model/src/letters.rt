@@ -1,4 +1,5 @@
 //! Letters of a section by number.
+//! A letter is looked up once for each name; sets of letters keep the order of the text.
 
 ghost use Rattle.std.specs.Prelude.{◌≡◌, IfOk, map};
 ghost use Rattle.std.specs.List.{range_with_len};

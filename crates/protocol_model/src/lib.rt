@@ -2,6 +2,7 @@
 #![tactic(auto)]
 
 mod copies;
+mod facts;
 mod fault;
 mod law;
 mod letters;
@@ -12,6 +13,7 @@ mod rules;
 mod sections;
 mod system;
 
+pub use facts::{is_in, table_value};
 pub use fault::ModelFault;
 pub use law::texts_say_allowed_protocols;
 pub use names::{is_name, is_word};

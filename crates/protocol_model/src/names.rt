@@ -1,12 +1,13 @@
 //! Names by number.
+//! Names are numbered in the order in which they come, in a set with constant expected time for each name.
 
 ghost use Rattle.std.specs.Prelude.{◌≡◌, ◌+◌, ◌<◌, ◌≤◌, ℕ, List, [], ◌∷◌, ◌++◌, IfOk, length, map, not, None, Some, if◌then◌else◌};
-ghost use Rattle.std.specs.List.{list_all, list_any, position_or_len};
+ghost use Rattle.std.specs.List.{list_any, position_or_len};
 ghost use Rattle.std.specs.Str.{bytes_eq};
-ghost use Rattle.protocol_lexer.specs.Piece.{is_word_byte};
 ghost use Rattle.protocol_model.specs.Names.{is_name, is_word};
 
 use indexmap::IndexSet;
+use protocol_lexer::are_word_bytes;
 use protocol_syntax::keyword_of;
 use std::alloc::{AllocError, Global};
 use std::marker::Model;
@@ -75,16 +76,4 @@ pub fn is_word(text: &[u8]) -> bool
     ensures { result ≡ is_word text.now }
 {
     !text.is_empty() && text.len() <= 32 && are_word_bytes(text)
-}
-
-fn are_word_bytes(text: &[u8]) -> bool
-    ensures { result ≡ list_all is_word_byte text.now }
-{
-    text.iter().all(|b| is_word_byte(*b))
-}
-
-fn is_word_byte(b: u8) -> bool
-    ensures { result ≡ is_word_byte b }
-{
-    (b >= b'A' && b <= b'Z') || (b >= b'a' && b <= b'z') || (b >= b'0' && b <= b'9') || b == b'_'
 }

@@ -1,4 +1,5 @@
 //! Systems of protocols.
+//! The parts are resolved in the order of the text, so that the first fault that is met is the first fault of the protocol.
 
 ghost use Rattle.std.specs.Prelude.{◌≡◌, ◌⊎◌, None, Some, IfErr, IfOk, map};
 ghost use Rattle.protocol_model.specs.Numbering.{texts_of, section_of, system_of};

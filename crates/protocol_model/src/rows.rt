@@ -1,4 +1,5 @@
 //! Rows of patterns by number.
+//! Each name is looked up once; whether an earlier part names the section is a search through them, so a row costs the square of its parts.
 
 ghost use Rattle.std.specs.Prelude.{◌≡◌, [], map};
 ghost use Rattle.protocol_model.specs.Numbering.{base_numbers, atom_of, part_of, row_of};

@@ -1,4 +1,6 @@
 //! Rules by number.
+//! Each move is checked against the kind of its section, and each letter is looked up once; what a rule or a table names before is searched
+//! through, so a rule costs the square of its names at most.
 
 ghost use Rattle.std.specs.Prelude.{◌≡◌, ◌≤◌, [], length, map};
 ghost use Rattle.std.specs.List.{list_any};

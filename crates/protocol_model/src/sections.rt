@@ -1,4 +1,5 @@
 //! The sections of a protocol, found by their names.
+//! A section is found by its name in constant expected time, and keeps the numbers of its letters.
 
 ghost use Rattle.std.specs.Prelude.{◌≡◌, ◌<◌, ◌≤◌, [], IfOk, IfSome, IfNone, length, false};
 ghost use Rattle.std.specs.List.{AllByRecursion};

@@ -1,4 +1,5 @@
 //! The data of systems, configurations and runs.
+//! A system is seen as its data, with its validity as the invariant: whoever has one knows that numbers are in range and names distinct.
 
 use protocol_syntax::{Kind, Many, Region};
 use sequence::{Sequence, Text};

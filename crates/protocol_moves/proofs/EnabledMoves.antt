@@ -1,15 +1,15 @@
 -- Whether a move leads anywhere.
 use Rattle.std.proofs.Common.{◌≡◌, ◌==◌, ◌↔◌, inl, inr, ℕ, zero, suc, ◌+◌, ◌-◌, ◌<◌, ◌≤◌, Bool, true, false, List, [], ◌∷◌, ◌++◌, length, refl, ap, sym, subst, ◌∙◌, ◌&&◌, not, arith, set, get_or, map, Option}
 use Rattle.std.specs.List.{Contains}
-use Rattle.std.proofs.lemmas.Bool.{ne_eqb, eq-eqb, cases_lt, false_from_ne_true}
+use Rattle.std.proofs.lemmas.Bool.{ne_eqb, eq-eqb, cases_lt, false_from_ne_true, or_cases, or_left, or_right}
 use Rattle.std.proofs.lemmas.List.Folds.{list_any_at}
 use Rattle.protocol_model.specs.declared.system.Guard.{Guard}
 use Rattle.protocol_moves.specs.declared.extent.Extent.{Extent}
 use Rattle.protocol_model.specs.Moves.{is_in, table_value, popped, IsAtMove, IsPairMove, IsRingMove, IsTwoMove, IsStackMove}
 use Rattle.protocol_moves.specs.Extents.{HaveExtents, all_hold}
-use Rattle.protocol_moves.specs.Results.{AreExactly, gathered, alone_if, at_changed, two_changed, some_below, can_change_at, can_change_two}
+use Rattle.protocol_moves.specs.Results.{AreExactly}
+use Rattle.protocol_moves.specs.Gathering.{gathered, alone_if, at_changed, two_changed, some_below, can_change_at, can_change_two}
 use Rattle.std.proofs.Math.Bool.{and-false}
-use Rattle.protocol_moves.proofs.Bools.{either, or_left, or_right}
 use Rattle.protocol_moves.proofs.Gathered.{gathered_to, gathered_from, alone_to, alone_from}
 use Rattle.protocol_moves.proofs.EndMove.{never, ring_old_empty}
 use Rattle.protocol_moves.proofs.TestedMove.{all_hold_is}
@@ -39,7 +39,7 @@ record IsFound (test : ℕ → Bool) (n : ℕ) : Type 0 where
 found_below : (test : ℕ → Bool) (n : ℕ) → some_below test n ≡ true → IsFound test n
 found_below test zero h = cc
 found_below test (suc n) h =
-    elim (either (some_below test n) (test n) h) [
+    elim (or_cases (some_below test n) (test n) h) [
       | inl earlier ↦
           let m = found_below test n earlier in
           record { place = m.place; within = omega (arith, m.within); found = m.found }

@@ -3,8 +3,8 @@ use Rattle.std.proofs.Common.{◌≡◌, ◌==◌, ◌↔◌, ℕ, suc, ◌≤�
 use Rattle.std.proofs.lemmas.Bool.Decides.{Decides-eqb}
 use Rattle.std.proofs.lemmas.List.{take-append-drop}
 use Rattle.std.proofs.Math.Seq.{take-append_seam, drop-append_seam}
+use Rattle.std.proofs.lemmas.Bool.{and_parts, and_from}
 use Rattle.protocol_model.specs.Moves.{IsRingMove}
-use Rattle.protocol_moves.proofs.Bools.{and_first, and_second, both_hold}
 
 pub never : {P : Type 0} → (P → ⊥) → (false ≡ true) ↔ P
 never h = (λ e. absurd (false_true e), λ p. absurd (h p))
@@ -49,16 +49,16 @@ ring_is a b c d old new old_rest new_rest old_between new_between x y u v e o n 
   where
     there : ((((x == b) && (y == d)) && ((u == a) && (v == c))) && e) ≡ true → IsRingMove a b c d old new
     there h =
-        let ends = and_first (((x == b) && (y == d)) && ((u == a) && (v == c))) e h in
-        let firsts = and_first ((x == b) && (y == d)) ((u == a) && (v == c)) ends in
-        let lasts = and_second ((x == b) && (y == d)) ((u == a) && (v == c)) ends in
-        let same = w.0 (and_second (((x == b) && (y == d)) && ((u == a) && (v == c))) e h) in
+        let ends = (and_parts (((x == b) && (y == d)) && ((u == a) && (v == c))) e h).0 in
+        let firsts = (and_parts ((x == b) && (y == d)) ((u == a) && (v == c)) ends).0 in
+        let lasts = (and_parts ((x == b) && (y == d)) ((u == a) && (v == c)) ends).1 in
+        let same = w.0 ((and_parts (((x == b) && (y == d)) && ((u == a) && (v == c))) e h).1) in
         record {
           between = old_between;
-          was = o ∙ ap (λ z. z ∷ old_rest) (eq_of x b (and_first (x == b) (y == d) firsts)) ∙ ap (λ zs. b ∷ zs) s
-              ∙ ap (λ z. b ∷ (old_between ++ z ∷ [])) (eq_of u a (and_first (u == a) (v == c) lasts));
-          becomes = n ∙ ap (λ z. z ∷ new_rest) (eq_of y d (and_second (x == b) (y == d) firsts)) ∙ ap (λ zs. d ∷ zs) t
-              ∙ ap (λ z. d ∷ (new_between ++ z ∷ [])) (eq_of v c (and_second (u == a) (v == c) lasts))
+          was = o ∙ ap (λ z. z ∷ old_rest) (eq_of x b ((and_parts (x == b) (y == d) firsts).0)) ∙ ap (λ zs. b ∷ zs) s
+              ∙ ap (λ z. b ∷ (old_between ++ z ∷ [])) (eq_of u a ((and_parts (u == a) (v == c) lasts).0));
+          becomes = n ∙ ap (λ z. z ∷ new_rest) (eq_of y d ((and_parts (x == b) (y == d) firsts).1)) ∙ ap (λ zs. d ∷ zs) t
+              ∙ ap (λ z. d ∷ (new_between ++ z ∷ [])) (eq_of v c ((and_parts (u == a) (v == c) lasts).1))
               ∙ ap (λ zs. d ∷ (zs ++ c ∷ [])) (sym same);
         }
 
@@ -68,10 +68,10 @@ ring_is a b c d old new old_rest new_rest old_between new_between x y u v e o n 
         let new_is : y ∷ new_rest ≡ d ∷ (m.between ++ c ∷ []) = sym n ∙ m.becomes in
         let old_last = last_injective old_between m.between u a (sym s ∙ tail_of x b old_rest (m.between ++ a ∷ []) old_is) in
         let new_last = last_injective new_between m.between v c (sym t ∙ tail_of y d new_rest (m.between ++ c ∷ []) new_is) in
-        both_hold (((x == b) && (y == d)) && ((u == a) && (v == c))) e
-        (both_hold ((x == b) && (y == d)) ((u == a) && (v == c))
-        (both_hold (x == b) (y == d) (to_eq x b (head_of x b old_rest (m.between ++ a ∷ []) old_is)) (to_eq y d (head_of y d new_rest (m.between ++ c ∷ []) new_is)))
-        (both_hold (u == a) (v == c) (to_eq u a old_last.1) (to_eq v c new_last.1)))
+        and_from (((x == b) && (y == d)) && ((u == a) && (v == c))) e
+        (and_from ((x == b) && (y == d)) ((u == a) && (v == c))
+        (and_from (x == b) (y == d) (to_eq x b (head_of x b old_rest (m.between ++ a ∷ []) old_is)) (to_eq y d (head_of y d new_rest (m.between ++ c ∷ []) new_is)))
+        (and_from (u == a) (v == c) (to_eq u a old_last.1) (to_eq v c new_last.1)))
         (w.1 (old_last.0 ∙ sym new_last.0))
 
 pub ring_old_empty : (a b c d : ℕ) (old new : List ℕ) → length old ≡ 0 → IsRingMove a b c d old new → ⊥
@@ -95,24 +95,24 @@ ring_new_single a b c d y old new rest n h m =
 pub first_is : (a x : ℕ) (list rest below : List ℕ) (e : Bool) → list ≡ x ∷ rest → Decides e (rest ≡ below) →
     (((x == a) && e) ≡ true) ↔ (list ≡ a ∷ below)
 first_is a x list rest below e l w = (
-  λ h. l ∙ ap (λ z. z ∷ rest) (eq_of x a (and_first (x == a) e h)) ∙ ap (λ zs. a ∷ zs) (w.0 (and_second (x == a) e h)),
-  λ m. both_hold (x == a) e (to_eq x a (head_of x a rest below (sym l ∙ m))) (w.1 (tail_of x a rest below (sym l ∙ m))),
+  λ h. l ∙ ap (λ z. z ∷ rest) (eq_of x a ((and_parts (x == a) e h).0)) ∙ ap (λ zs. a ∷ zs) (w.0 ((and_parts (x == a) e h).1)),
+  λ m. and_from (x == a) e (to_eq x a (head_of x a rest below (sym l ∙ m))) (w.1 (tail_of x a rest below (sym l ∙ m))),
 )
 
 pub last_is : (a x : ℕ) (list rest below : List ℕ) (e : Bool) → list ≡ rest ++ x ∷ [] → Decides e (rest ≡ below) →
     (((x == a) && e) ≡ true) ↔ (list ≡ below ++ a ∷ [])
 last_is a x list rest below e l w = (
-  λ h. l ∙ ap (λ z. rest ++ z ∷ []) (eq_of x a (and_first (x == a) e h)) ∙ ap (λ zs. zs ++ a ∷ []) (w.0 (and_second (x == a) e h)),
-  λ m. both_hold (x == a) e (to_eq x a (last_injective rest below x a (sym l ∙ m)).1) (w.1 (last_injective rest below x a (sym l ∙ m)).0),
+  λ h. l ∙ ap (λ z. rest ++ z ∷ []) (eq_of x a ((and_parts (x == a) e h).0)) ∙ ap (λ zs. zs ++ a ∷ []) (w.0 ((and_parts (x == a) e h).1)),
+  λ m. and_from (x == a) e (to_eq x a (last_injective rest below x a (sym l ∙ m)).1) (w.1 (last_injective rest below x a (sym l ∙ m)).0),
 )
 
 pub joined_is : (first second list : List ℕ) (d e : Bool) → length first ≤ length list →
     Decides d (take (length first) list ≡ first) → Decides e (drop (length first) list ≡ second) →
     ((d && e) ≡ true) ↔ (list ≡ first ++ second)
 joined_is first second list d e h v w = (
-  λ k. sym (take-append-drop (length first) list) ∙ ap (λ zs. zs ++ drop (length first) list) (v.0 (and_first d e k))
-      ∙ ap (λ zs. first ++ zs) (w.0 (and_second d e k)),
-  λ m. both_hold d e
+  λ k. sym (take-append-drop (length first) list) ∙ ap (λ zs. zs ++ drop (length first) list) (v.0 ((and_parts d e k).0))
+      ∙ ap (λ zs. first ++ zs) (w.0 ((and_parts d e k).1)),
+  λ m. and_from d e
       (v.1 (ap (take (length first)) m ∙ take-append_seam first second))
       (w.1 (ap (drop (length first)) m ∙ drop-append_seam first second)),
 )

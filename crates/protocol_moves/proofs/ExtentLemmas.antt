@@ -3,6 +3,7 @@ use Rattle.std.proofs.Common.{◌≡◌, ◌⊎◌, inl, inr, ℕ, zero, suc, �
 use Rattle.std.proofs.lemmas.List.{length-take-le, take_more, take_all, drop_all, drop-append-le}
 use Rattle.std.proofs.lemmas.Bool.{cases_lt, lt-ltb, le-ltb}
 use Rattle.std.proofs.lemmas.List.Folds.{list_any-append}
+use Rattle.std.proofs.Math.Bool.{or-true, or-false}
 use Rattle.protocol_moves.specs.Extents.{is_marked, IsExtent}
 
 -- the marks before k have this extent
@@ -27,12 +28,6 @@ no_marks_yet marks =
 
 or_mark : (b mark : Bool) → (b || (mark || false)) ≡ (b || mark)
 or_mark b mark = grind arith
-
-or_true : (b : Bool) → (b || true) ≡ true
-or_true b = grind arith
-
-or_false : (b : Bool) → (b || false) ≡ b
-or_false b = grind arith
 
 take_mark : (marks : List Bool) (k : ℕ) → k < length marks → (mark : Bool) → get_or marks k false ≡ mark →
     take (k + 1) marks ≡ take k marks ++ mark ∷ []
@@ -77,10 +72,10 @@ more_marks marks k first last h mark e =
         | inl old ↦ e.before i (omega arith) ∙ lt_min first k i (omega arith)
         | inr now ↦
             let is : i ≡ k + 1 = omega arith in
-            rw is (before_more marks k h true mark ∙ or_true (is_marked (take k marks)) ∙ sym (lt_true (min first k) (k + 1) (omega arith)))
+            rw is (before_more marks k h true mark ∙ or-true (is_marked (take k marks)) ∙ sym (lt_true (min first k) (k + 1) (omega arith)))
       ];
       after = λ i l. elim (cases_lt i k) [
-        | inl old ↦ after_more marks i k old h true mark ∙ or_true (is_marked (drop (i + 1) (take k marks))) ∙ sym (lt_true i k old)
+        | inl old ↦ after_more marks i k old h true mark ∙ or-true (is_marked (drop (i + 1) (take k marks))) ∙ sym (lt_true i k old)
         | inr now ↦
             let is : i ≡ k = omega arith in
             rw is (after_last marks k h ∙ sym (lt_false k k (omega arith)))
@@ -98,11 +93,11 @@ no_more_marks marks k first last h mark e =
         | inl old ↦ e.before i (omega arith)
         | inr now ↦
             let is : i ≡ k + 1 = omega arith in
-            rw is (before_more marks k h false mark ∙ or_false (is_marked (take k marks)) ∙ e.before k (omega arith)
+            rw is (before_more marks k h false mark ∙ or-false (is_marked (take k marks)) ∙ e.before k (omega arith)
             ∙ first_later first k (length marks) h e.first_in)
       ];
       after = λ i l. elim (cases_lt i k) [
-        | inl old ↦ after_more marks i k old h false mark ∙ or_false (is_marked (drop (i + 1) (take k marks))) ∙ e.after i old
+        | inl old ↦ after_more marks i k old h false mark ∙ or-false (is_marked (drop (i + 1) (take k marks))) ∙ e.after i old
         | inr now ↦
             let is : i ≡ k = omega arith in
             rw is (after_last marks k h ∙ sym (lt_false k last e.last_in))

@@ -9,14 +9,11 @@ use Rattle.protocol_syntax.specs.declared.protocol.Region.{Region}
 use Rattle.protocol_syntax.specs.declared.protocol.Region.TheVariants.{Left, Right, Others}
 use Rattle.protocol_model.specs.declared.system.Guard.{Guard}
 use Rattle.protocol_model.specs.Moves.{is_in, table_value, guard_holds, region_letters, IsAtMove, IsPairMove}
+use Rattle.protocol_model.proofs.Lists.{list_any_map}
 use Rattle.protocol_moves.specs.Extents.{is_marked, IsExtent, is_hit, changes, is_region_hit, holds_at, is_at, is_pair_at}
-use Rattle.protocol_moves.proofs.Bools.{and_first, and_second}
 use Rattle.protocol_moves.proofs.Lists.{drop_more}
 use Rattle.std.proofs.lemmas.List.{length-map, length-take-le}
-
-list_any_map : {X Y : Type 0} (p : Y → Bool) (f : X → Y) (xs : List X) → list_any p (map f xs) ≡ list_any (λ x. p (f x)) xs
-list_any_map p f [] = refl
-list_any_map p f (x ∷ xs) = ap (λ b. p (f x) || b) (list_any_map p f xs)
+use Rattle.std.proofs.lemmas.Bool.{and_parts, not-true}
 
 pub take_map : {X Y : Type 0} (f : X → Y) (i : ℕ) (xs : List X) → take i (map f xs) ≡ map f (take i xs)
 take_map f zero xs = refl
@@ -124,10 +121,6 @@ length_drop (suc k) [] (y ∷ ys) h = absurd (omega arith)
 length_drop (suc k) (x ∷ xs) [] h = absurd (omega arith)
 length_drop (suc k) (x ∷ xs) (y ∷ ys) h = length_drop k xs ys (omega arith)
 
-not_true : (b : Bool) → not b ≡ true → b ≡ false
-not_true true h = cc
-not_true false h = refl
-
 is_true : (b : Bool) → b ≡ true → IsTrue b
 is_true b h = h
 
@@ -149,14 +142,14 @@ part_after table old new i h n =
 pub at_found : (f t : ℕ) (guards : List Guard) (table : List (ℕ × ℕ)) (old new : List ℕ) (i : ℕ) → length old ≡ length new → i < length old →
     is_at f t guards table old new i ≡ true → IsAtMove f t guards table old new
 at_found f t guards table old new i h l e =
-    let was : get_or old i 0 ≡ f = (Decides-eqb (get_or old i 0) f).0 (and_first (get_or old i 0 == f) _ e) in
-    let e1 = and_second (get_or old i 0 == f) _ e in
-    let becomes : get_or new i 0 ≡ t = (Decides-eqb (get_or new i 0) t).0 (and_first (get_or new i 0 == t) _ e1) in
-    let e2 = and_second (get_or new i 0 == t) _ e1 in
-    let none_before = not_true (is_marked (take i (changes table old new))) (and_first (not (is_marked (take i (changes table old new)))) _ e2) in
-    let e3 = and_second (not (is_marked (take i (changes table old new)))) _ e2 in
-    let none_after = not_true (is_marked (drop (i + 1) (changes table old new))) (and_first (not (is_marked (drop (i + 1) (changes table old new)))) _ e3) in
-    let guarded = and_second (not (is_marked (drop (i + 1) (changes table old new)))) _ e3 in
+    let was : get_or old i 0 ≡ f = (Decides-eqb (get_or old i 0) f).0 ((and_parts (get_or old i 0 == f) _ e).0) in
+    let e1 = (and_parts (get_or old i 0 == f) _ e).1 in
+    let becomes : get_or new i 0 ≡ t = (Decides-eqb (get_or new i 0) t).0 ((and_parts (get_or new i 0 == t) _ e1).0) in
+    let e2 = (and_parts (get_or new i 0 == t) _ e1).1 in
+    let none_before = not-true (is_marked (take i (changes table old new))) ((and_parts (not (is_marked (take i (changes table old new)))) _ e2).0) in
+    let e3 = (and_parts (not (is_marked (take i (changes table old new)))) _ e2).1 in
+    let none_after = not-true (is_marked (drop (i + 1) (changes table old new))) ((and_parts (not (is_marked (drop (i + 1) (changes table old new)))) _ e3).0) in
+    let guarded = (and_parts (not (is_marked (drop (i + 1) (changes table old new)))) _ e3).1 in
     record {
       before = take i old;
       after = drop (i + 1) old;
@@ -238,16 +231,16 @@ split_pair xs i h =
 pub pair_found : (a b c d : ℕ) (old new : List ℕ) (i : ℕ) → length old ≡ length new → i + 1 < length old →
     is_pair_at a b c d old new i ≡ true → IsPairMove a b c d old new
 pair_found a b c d old new i h l e =
-    let was_a : get_or old i 0 ≡ a = (Decides-eqb (get_or old i 0) a).0 (and_first (get_or old i 0 == a) _ e) in
-    let e1 = and_second (get_or old i 0 == a) _ e in
-    let was_b : get_or old (i + 1) 0 ≡ b = (Decides-eqb (get_or old (i + 1) 0) b).0 (and_first (get_or old (i + 1) 0 == b) _ e1) in
-    let e2 = and_second (get_or old (i + 1) 0 == b) _ e1 in
-    let is_c : get_or new i 0 ≡ c = (Decides-eqb (get_or new i 0) c).0 (and_first (get_or new i 0 == c) _ e2) in
-    let e3 = and_second (get_or new i 0 == c) _ e2 in
-    let is_d : get_or new (i + 1) 0 ≡ d = (Decides-eqb (get_or new (i + 1) 0) d).0 (and_first (get_or new (i + 1) 0 == d) _ e3) in
-    let e4 = and_second (get_or new (i + 1) 0 == d) _ e3 in
-    let none_before = not_true (is_marked (take i (changes [] old new))) (and_first (not (is_marked (take i (changes [] old new)))) _ e4) in
-    let none_after = not_true (is_marked (drop (i + 2) (changes [] old new))) (and_second (not (is_marked (take i (changes [] old new)))) _ e4) in
+    let was_a : get_or old i 0 ≡ a = (Decides-eqb (get_or old i 0) a).0 ((and_parts (get_or old i 0 == a) _ e).0) in
+    let e1 = (and_parts (get_or old i 0 == a) _ e).1 in
+    let was_b : get_or old (i + 1) 0 ≡ b = (Decides-eqb (get_or old (i + 1) 0) b).0 ((and_parts (get_or old (i + 1) 0 == b) _ e1).0) in
+    let e2 = (and_parts (get_or old (i + 1) 0 == b) _ e1).1 in
+    let is_c : get_or new i 0 ≡ c = (Decides-eqb (get_or new i 0) c).0 ((and_parts (get_or new i 0 == c) _ e2).0) in
+    let e3 = (and_parts (get_or new i 0 == c) _ e2).1 in
+    let is_d : get_or new (i + 1) 0 ≡ d = (Decides-eqb (get_or new (i + 1) 0) d).0 ((and_parts (get_or new (i + 1) 0 == d) _ e3).0) in
+    let e4 = (and_parts (get_or new (i + 1) 0 == d) _ e3).1 in
+    let none_before = not-true (is_marked (take i (changes [] old new))) ((and_parts (not (is_marked (take i (changes [] old new)))) _ e4).0) in
+    let none_after = not-true (is_marked (drop (i + 2) (changes [] old new))) ((and_parts (not (is_marked (take i (changes [] old new)))) _ e4).1) in
     record {
       before = take i old;
       after = drop (i + 2) old;

@@ -1,10 +1,10 @@
--- Moves at two positions in either order.
+-- Moves at two positions in or_cases order.
 use Rattle.std.proofs.Common.{◌≡◌, ◌==◌, inl, inr, ℕ, suc, ◌+◌, ◌<◌, Bool, true, false, List, [], ◌∷◌, ◌++◌, length, refl, ap, sym, ◌∙◌, ◌||◌, ◌&&◌, arith, drop, get_or}
 use Rattle.std.proofs.lemmas.List.{drop_all}
 use Rattle.std.proofs.lemmas.Bool.Decides.{Decides-eqb}
+use Rattle.std.proofs.lemmas.Bool.{and_parts, and_from, or_cases, or_left, or_right}
 use Rattle.protocol_model.specs.Moves.{ChangesTwo, IsTwoMove}
 use Rattle.protocol_moves.specs.Extents.{is_same, is_one_change, is_two_changes}
-use Rattle.protocol_moves.proofs.Bools.{and_first, and_second, both_hold, either, or_left, or_right}
 use Rattle.protocol_moves.proofs.Lists.{drop_more}
 
 -- n, p, q, b: none, the first, the second or both changes have been met; s, f, g: the letters are the same, or the first or second change
@@ -65,8 +65,8 @@ same_is [] [] h = refl
 same_is [] (y ∷ new) h = cc
 same_is (x ∷ old) [] h = cc
 same_is (x ∷ old) (y ∷ new) h =
-    ap (λ z. z ∷ old) (eq_of x y (and_first (x == y) (is_same old new) h))
-    ∙ ap (λ zs. y ∷ zs) (same_is old new (and_second (x == y) (is_same old new) h))
+    ap (λ z. z ∷ old) (eq_of x y ((and_parts (x == y) (is_same old new) h).0))
+    ∙ ap (λ zs. y ∷ zs) (same_is old new ((and_parts (x == y) (is_same old new) h).1))
 
 pub is_same_self : (xs : List ℕ) → is_same xs xs ≡ true
 is_same_self [] = refl
@@ -80,17 +80,17 @@ record IsOneChange (a c : ℕ) (old new : List ℕ) : Type 0 where
 
 two_parts : (x y a c : ℕ) (same : Bool) → (((x == a) && (y == c)) && same) ≡ true → (x ≡ a) × (y ≡ c) × (same ≡ true)
 two_parts x y a c same h =
-    let both = and_first ((x == a) && (y == c)) same h in
-    (eq_of x a (and_first (x == a) (y == c) both), eq_of y c (and_second (x == a) (y == c) both), and_second ((x == a) && (y == c)) same h)
+    let both = (and_parts ((x == a) && (y == c)) same h).0 in
+    (eq_of x a ((and_parts (x == a) (y == c) both).0), eq_of y c ((and_parts (x == a) (y == c) both).1), (and_parts ((x == a) && (y == c)) same h).1)
 
 one_found : (a c : ℕ) (old new : List ℕ) → is_one_change a c old new ≡ true → IsOneChange a c old new
 one_found a c [] new h = cc
 one_found a c (x ∷ old) [] h = cc
 one_found a c (x ∷ old) (y ∷ new) h =
-    elim (either ((x == y) && is_one_change a c old new) (((x == a) && (y == c)) && is_same old new) h) [
+    elim (or_cases ((x == y) && is_one_change a c old new) (((x == a) && (y == c)) && is_same old new) h) [
       | inl stays ↦
-          let later = one_found a c old new (and_second (x == y) (is_one_change a c old new) stays) in
-          let same = eq_of x y (and_first (x == y) (is_one_change a c old new) stays) in
+          let later = one_found a c old new ((and_parts (x == y) (is_one_change a c old new) stays).1) in
+          let same = eq_of x y ((and_parts (x == y) (is_one_change a c old new) stays).0) in
           record {
             before = x ∷ later.before;
             after = later.after;
@@ -111,15 +111,15 @@ pub two_found : (a b c d : ℕ) (old new : List ℕ) → is_two_changes a b c d 
 two_found a b c d [] new h = cc
 two_found a b c d (x ∷ old) [] h = cc
 two_found a b c d (x ∷ old) (y ∷ new) h =
-    elim (either ((x == y) && is_two_changes a b c d old new) _ h) [
+    elim (or_cases ((x == y) && is_two_changes a b c d old new) _ h) [
       | inl stays ↦
-          let same = eq_of x y (and_first (x == y) (is_two_changes a b c d old new) stays) in
-          elim (two_found a b c d old new (and_second (x == y) (is_two_changes a b c d old new) stays)) [
+          let same = eq_of x y ((and_parts (x == y) (is_two_changes a b c d old new) stays).0) in
+          elim (two_found a b c d old new ((and_parts (x == y) (is_two_changes a b c d old new) stays).1)) [
             | inl later ↦ inl (more a b c d x y old new same later)
             | inr later ↦ inr (more b a d c x y old new same later)
           ]
       | inr moves ↦
-          elim (either (((x == a) && (y == c)) && is_one_change b d old new) _ moves) [
+          elim (or_cases (((x == a) && (y == c)) && is_one_change b d old new) _ moves) [
             | inl first ↦
                 let parts = two_parts x y a c (is_one_change b d old new) first in
                 inl (begins a b c d x y old new parts.0 parts.1 (one_found b d old new parts.2))
@@ -152,28 +152,28 @@ two_found a b c d (x ∷ old) (y ∷ new) h =
 one_given : (a c : ℕ) (before after : List ℕ) → is_one_change a c (before ++ a ∷ after) (before ++ c ∷ after) ≡ true
 one_given a c [] after =
     or_right _ (((a == a) && (c == c)) && is_same after after)
-    (both_hold ((a == a) && (c == c)) (is_same after after) (both_hold (a == a) (c == c) (eq_self a) (eq_self c)) (is_same_self after))
+    (and_from ((a == a) && (c == c)) (is_same after after) (and_from (a == a) (c == c) (eq_self a) (eq_self c)) (is_same_self after))
 one_given a c (x ∷ before) after =
     or_left ((x == x) && is_one_change a c (before ++ a ∷ after) (before ++ c ∷ after)) _
-    (both_hold (x == x) _ (eq_self x) (one_given a c before after))
+    (and_from (x == x) _ (eq_self x) (one_given a c before after))
 
 first_given : (a b c d : ℕ) (before between after : List ℕ) →
     is_two_changes a b c d (before ++ a ∷ (between ++ b ∷ after)) (before ++ c ∷ (between ++ d ∷ after)) ≡ true
 first_given a b c d [] between after =
     or_right _ _ (or_left (((a == a) && (c == c)) && is_one_change b d (between ++ b ∷ after) (between ++ d ∷ after)) _
-    (both_hold ((a == a) && (c == c)) _ (both_hold (a == a) (c == c) (eq_self a) (eq_self c)) (one_given b d between after)))
+    (and_from ((a == a) && (c == c)) _ (and_from (a == a) (c == c) (eq_self a) (eq_self c)) (one_given b d between after)))
 first_given a b c d (x ∷ before) between after =
     or_left ((x == x) && is_two_changes a b c d (before ++ a ∷ (between ++ b ∷ after)) (before ++ c ∷ (between ++ d ∷ after))) _
-    (both_hold (x == x) _ (eq_self x) (first_given a b c d before between after))
+    (and_from (x == x) _ (eq_self x) (first_given a b c d before between after))
 
 second_given : (a b c d : ℕ) (before between after : List ℕ) →
     is_two_changes a b c d (before ++ b ∷ (between ++ a ∷ after)) (before ++ d ∷ (between ++ c ∷ after)) ≡ true
 second_given a b c d [] between after =
     or_right _ _ (or_right _ (((b == b) && (d == d)) && is_one_change a c (between ++ a ∷ after) (between ++ c ∷ after))
-    (both_hold ((b == b) && (d == d)) _ (both_hold (b == b) (d == d) (eq_self b) (eq_self d)) (one_given a c between after)))
+    (and_from ((b == b) && (d == d)) _ (and_from (b == b) (d == d) (eq_self b) (eq_self d)) (one_given a c between after)))
 second_given a b c d (x ∷ before) between after =
     or_left ((x == x) && is_two_changes a b c d (before ++ b ∷ (between ++ a ∷ after)) (before ++ d ∷ (between ++ c ∷ after))) _
-    (both_hold (x == x) _ (eq_self x) (second_given a b c d before between after))
+    (and_from (x == x) _ (eq_self x) (second_given a b c d before between after))
 
 pub two_given : (a b c d : ℕ) (old new : List ℕ) → IsTwoMove a b c d old new → is_two_changes a b c d old new ≡ true
 two_given a b c d old new (inl m) = rw (m.was, m.becomes) (first_given a b c d m.before m.between m.after)

@@ -1,4 +1,5 @@
-pub mod Simulation
 pub mod Extents
+pub mod Gathering
 pub mod Limits
 pub mod Results
+pub mod Simulation

@@ -1,14 +1,15 @@
 //! Whether a move leads anywhere from a list.
+//! The positions are tried one after the other, and for a move of two positions the first only where its letter stands; no memory is taken.
 
 ghost use Rattle.std.specs.Prelude.{◌≡◌, ◌≤◌, ◌<◌, ◌-◌, ◌+◌, ◌↔◌, ◌++◌, ◌∷◌, [], ℕ, List, IsTrue, length};
 ghost use Rattle.protocol_model.specs.Moves.{popped};
 ghost use Rattle.protocol_moves.specs.Limits.{HasFewGuards};
-ghost use Rattle.protocol_moves.specs.Results.{some_below, can_change_at, can_change_two, IsEnabled};
+ghost use Rattle.protocol_moves.specs.Results.{IsEnabled};
+ghost use Rattle.protocol_moves.specs.Gathering.{some_below, can_change_at, can_change_two};
 
 use crate::moves::{guard_extents, guards_hold, is_single};
-use crate::patterns::is_in;
 use crate::results::below;
-use protocol_model::{Guard, Move};
+use protocol_model::{Guard, Move, is_in};
 
 /// Whether some position has this letter where the guards hold.
 fn has_start(from: u32, guards: &[Guard], list: &[u32]) -> bool

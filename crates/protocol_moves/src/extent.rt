@@ -1,4 +1,5 @@
 //! Some positions of a list.
+//! Of the positions only the first and the last are kept: that tells whether one of them lies before, or after, any position.
 
 ghost use Rattle.std.specs.Prelude.{◌≡◌, ◌&&◌, min, not, nat_lt, if◌then◌else◌};
 

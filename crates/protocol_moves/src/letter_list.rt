@@ -1,4 +1,5 @@
 //! Lists of letters that are compared letter by letter.
+//! The first letter in which two lists differ orders them, and a list comes after its beginnings.
 
 ghost use Rattle.std.specs.Prelude.{◌≡◌, nat_eq, Some, refl};
 ghost use Rattle.std.specs.Ordering.{nat_cmp};

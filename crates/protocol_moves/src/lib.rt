@@ -1,4 +1,5 @@
 //! Moves and patterns on one list of letters: which lists a pattern matches, and from which list a move leads to which.
+//! What only tests takes no memory.
 #![tactic(auto)]
 
 mod enabled;

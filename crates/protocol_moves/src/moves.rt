@@ -1,27 +1,15 @@
 //! Whether a move leads from one list to another.
+//! The extents of guards and of changes are found first, so that each position is judged in constant time; no memory is taken.
 
 ghost use Rattle.std.specs.Prelude.{◌≡◌, ◌≤◌, ◌↔◌, [], ◌∷◌, ◌++◌, IsTrue, length, map};
 ghost use Rattle.std.specs.Bool.{Decides};
-ghost use Rattle.protocol_model.specs.Moves.{table_value as value_of_table, IsAtMove, IsPairMove, IsTwoMove, IsRingMove, IsStackMove, IsMove};
+ghost use Rattle.protocol_model.specs.Moves.{IsAtMove, IsPairMove, IsTwoMove, IsRingMove, IsStackMove, IsMove};
 ghost use Rattle.protocol_moves.specs.Extents.{is_hit as hits, is_region_hit as hits_region, holds_at as holds, changes, IsExtent, HaveExtents, all_hold};
 ghost use Rattle.protocol_moves.specs.Limits.{HasFewGuards};
 
 use crate::extent::Extent;
-use crate::patterns::is_in;
-use protocol_model::{Guard, Move};
+use protocol_model::{Guard, Move, is_in, table_value};
 use protocol_syntax::Region;
-
-/// What the table makes of the letter.
-pub fn table_value(table: &[(u32, u32)], letter: u32) -> u32
-    ensures { result ≡ value_of_table table.now letter }
-{
-    for entry in table {
-        if entry.0 == letter {
-            return entry.1;
-        }
-    }
-    letter
-}
 
 /// Whether the letter decides the guard: one outside of its set where all must belong to it, and else one of the set.
 fn is_hit(guard: &Guard, letter: u32) -> bool

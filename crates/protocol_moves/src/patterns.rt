@@ -1,19 +1,13 @@
 //! Which lists a pattern matches.
+//! The atoms are simulated on the list letter by letter, as a nondeterministic automaton (Thompson's simulation): time is the product of
+//! the numbers of letters and of atoms, and no memory is taken.
 
 ghost use Rattle.std.specs.Prelude.{◌≡◌, ◌<◌, ◌≤◌, false, length};
-ghost use Rattle.protocol_model.specs.Moves.{is_in as is_letter_in};
 ghost use Rattle.protocol_model.specs.Patterns.{atoms_match as is_matched};
 ghost use Rattle.protocol_moves.specs.Simulation.{is_passed as passed, is_kept as kept, is_left as left, begun_after, going_after, reaches_end as reached_end};
 
-use protocol_model::Atom;
+use protocol_model::{Atom, is_in};
 use protocol_syntax::Many;
-
-/// Whether the letter is in the set.
-pub fn is_in(letters: &[u32], letter: u32) -> bool
-    ensures { result ≡ is_letter_in letters.now letter }
-{
-    letters.iter().any(|x| *x == letter)
-}
 
 /// Whether the next atom is reached without a letter, where this one is begun and going on so.
 fn is_passed(many: Many, begun: bool, going: bool) -> bool

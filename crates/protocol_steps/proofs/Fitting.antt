@@ -1,22 +1,19 @@
 -- Lists that fit sections, and patterns of valid rows.
-use Rattle.std.proofs.Common.{◌≡◌, ℕ, ◌≤◌, Bool, true, false, List, [], ◌∷◌, length, refl, ap, ◌&&◌, suc}
+use Rattle.std.proofs.Common.{◌≡◌, ℕ, ◌≤◌, false, List, [], ◌∷◌, length, refl, ap, suc}
 use Rattle.std.specs.List.{AllByRecursion}
+use Rattle.std.proofs.Math.Bool.{and-false}
 use Rattle.protocol_model.specs.declared.system.Section.{Section}
 use Rattle.protocol_model.specs.declared.system.Row.{Row}
 use Rattle.protocol_model.specs.declared.system.Pattern.{Pattern}
 use Rattle.protocol_model.specs.System.{IsValidRow, IsValidPattern, letter_count_at}
 use Rattle.protocol_model.specs.Patterns.{lists_fit, list_fits}
 
-and_false : (b : Bool) → (b && false) ≡ false
-and_false true = refl
-and_false false = refl
-
 pub lists_fit_lengths : (sections : List Section) (lists : List (List ℕ)) → (length sections ≡ length lists → ⊥) → lists_fit sections lists ≡ false
 lists_fit_lengths [] [] h = absurd (h refl)
 lists_fit_lengths [] (list ∷ lists) h = refl
 lists_fit_lengths (section ∷ sections) [] h = refl
 lists_fit_lengths (section ∷ sections) (list ∷ lists) h =
-    rw (lists_fit_lengths sections lists (λ e. h (ap suc e))) (and_false (list_fits section list))
+    rw (lists_fit_lengths sections lists (λ e. h (ap suc e))) (and-false (list_fits section list))
 
 -- the patterns of a row have 32 atoms at most
 abbrev pub HasShortPatterns : Row → Type 0

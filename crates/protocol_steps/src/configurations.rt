@@ -1,24 +1,12 @@
 //! Configurations that fit a system.
+//! One pass over the lists; no memory is taken.
 
 ghost use Rattle.std.specs.Prelude.{◌≡◌, nat_lt};
-ghost use Rattle.protocol_model.specs.Patterns.{fits as is_fitting, list_fits as is_list_fitting, lists_fit as are_lists_fitting, has_any_length as is_of_any_length};
+ghost use Rattle.protocol_model.specs.Patterns.{fits as is_fitting, list_fits as is_list_fitting, lists_fit as are_lists_fitting};
 ghost use Rattle.std.specs.List.{list_all};
 
 use protocol_model::{Configuration, Section, System};
-use protocol_syntax::Kind;
 use sequence::Sequence;
-
-/// Whether a section of this kind has lists of any length.
-fn has_any_length(kind: Kind) -> bool
-    ensures { result ≡ is_of_any_length kind }
-{
-    match kind {
-        Kind::Cell => false,
-        Kind::Array => true,
-        Kind::Channel => true,
-        Kind::Stack => true,
-    }
-}
 
 /// Whether each letter is below the count.
 fn are_below(list: &[u32], count: usize) -> bool
@@ -31,7 +19,7 @@ fn are_below(list: &[u32], count: usize) -> bool
 fn list_fits(section: &Section, list: &[u32]) -> bool
     ensures { result ≡ is_list_fitting section.now list.now }
 {
-    are_below(list, section.letters.len()) && (has_any_length(section.kind) || list.len() == 1)
+    are_below(list, section.letters.len()) && (section.has_any_length() || list.len() == 1)
 }
 
 /// Whether there is one list for each section, and each fits its section.

@@ -1,4 +1,5 @@
 //! What holds of every list of successors and of every answer to a run.
+//! The function does nothing; its contract is the law.
 
 ghost use Rattle.protocol_steps.specs.OneAnswer.{SuccessorsAreDetermined, RunAnswerIsDetermined};
 

@@ -1,4 +1,5 @@
 //! The move of a section by a rule.
+//! A rule names few sections, which are looked at one after the other.
 
 ghost use Rattle.std.specs.Prelude.{◌≡◌, IfSome, option_map};
 ghost use Rattle.std.specs.List.{AllByRecursion};

@@ -1,4 +1,5 @@
 //! Which configurations are initial and which are bad.
+//! Each row is tried in turn, and each pattern on the list of its section; no memory is taken.
 
 ghost use Rattle.std.specs.Prelude.{◌≡◌, ◌≤◌, length};
 ghost use Rattle.std.specs.List.{list_any, AllByRecursion};

@@ -1,4 +1,5 @@
 //! The check of a run.
+//! The steps are tested from the first on, so that the first wrong one is told; no memory is taken.
 
 ghost use Rattle.protocol_steps.specs.Answers.{IsRunAnswer};
 

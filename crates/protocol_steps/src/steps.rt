@@ -1,4 +1,5 @@
 //! Steps of a system.
+//! A step is one where each section's list changes by the rule's move of it, or stays; no memory is taken.
 
 ghost use Rattle.std.specs.Prelude.{◌≡◌, ◌<◌, ◌↔◌, ℕ, IsTrue, option_copied};
 ghost use Rattle.std.specs.List.{AllByRecursion};
@@ -43,8 +44,7 @@ pub fn is_step(system: &System, rule: u32, c: &Configuration, d: &Configuration)
     match system.rules.as_slice().get(rule as usize) {
         Some(rule) => {
             let sections = system.sections.len() as u32;
-            let change = all_change(rule.moves.as_slice(), sections, c, d);
-            fits(system, c) & fits(system, d) & change
+            fits(system, c) && fits(system, d) && all_change(rule.moves.as_slice(), sections, c, d)
         }
         None => false,
     }

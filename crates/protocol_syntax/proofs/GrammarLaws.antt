@@ -15,9 +15,9 @@ use Rattle.protocol_syntax.specs.declared.symbol.Symbol.{Symbol}
 use Rattle.protocol_syntax.specs.declared.symbol.Symbol.TheVariants.{Unreserved, Reserved, Sign}
 use Rattle.protocol_syntax.specs.Symbol.{Source}
 use Rattle.protocol_syntax.specs.Form.{name, many, up_to}
-use Rattle.protocol_syntax.specs.Grammar.{means, kind, section, more_sections, set, letter_base, set_base, base, count, atom, atoms, pattern, part, row, quantifier, region, guard, entry, table, at_move, four_names, pair_move, ring_move, two_move, set_move, send_move, recv_move, pushed, pop_move, push_move, queue_move, move, step, rule, protocol, letters_of}
+use Rattle.protocol_syntax.specs.Grammar.{means, kind, section, more_sections, set, letter_base, set_base, base, count, atom, atoms, pattern, part, row, quantifier, region, guard, entry, table, at_move, four_names, pair_move, ring_move, two_move, set_move, send_move, recv_move, pushed, pop_move, push_move, channel_or_stack_move, move, step, rule, protocol, letters_of}
 use Rattle.protocol_syntax.specs.Reading.{code, code_of_keyword, code_of_sign, code_at, next_is, begins_name, read_item, read_names}
-use Rattle.protocol_syntax.specs.GrammarReading.{read_means, read_kind, read_section, read_more_sections, read_set, read_letter_base, read_set_base, read_base, read_count, read_atom, read_atoms, read_pattern, read_part, read_row, read_quantifier, read_region, read_guard, read_entry, read_table, read_at_move, read_four_names, read_pair_move, read_ring_move, read_two_move, read_set_move, read_send_move, read_recv_move, read_pushed, read_pop_move, read_push_move, read_queue_move, read_move, read_step, read_rule, read_protocol, read_set_names, read_more_atoms, read_parts, read_entries, read_guards, read_steps, read_rows, read_rules, begins_kind, begins_count, begins_atom, starts_atom}
+use Rattle.protocol_syntax.specs.GrammarReading.{read_means, read_kind, read_section, read_more_sections, read_set, read_letter_base, read_set_base, read_base, read_count, read_atom, read_atoms, read_pattern, read_part, read_row, read_quantifier, read_region, read_guard, read_entry, read_table, read_at_move, read_four_names, read_pair_move, read_ring_move, read_two_move, read_set_move, read_send_move, read_recv_move, read_pushed, read_pop_move, read_push_move, read_channel_or_stack_move, read_move, read_step, read_rule, read_protocol, read_set_names, read_more_atoms, read_parts, read_entries, read_guards, read_steps, read_rows, read_rules, begins_kind, begins_count, begins_atom, starts_atom}
 use Rattle.protocol_syntax.proofs.Sets.{is_in, are_apart}
 use Rattle.protocol_syntax.proofs.Laws.{Reads, bind_reads, bind_reads_maybe, gives_reads}
 use Rattle.protocol_syntax.proofs.TokenLaws.{sign_reads, name_reads}
@@ -35,21 +35,34 @@ means_opens {s} x a other = let head = sign_reads {s = s} x other in opens_bind 
 pub kind_reads : {s : Source} → Reads s kind true (code (Reserved Words.Cell) ∷ code (Reserved Words.Array) ∷ code (Reserved Words.Channel) ∷ code (Reserved Words.Stack) ∷ []) [] (read_kind s)
 unfolding kind read_kind code code_of_keyword code_of_sign
 kind_reads {s} =
-    or_reads (means_reads (Reserved Words.Cell) Kinds.Cell (λ e. cc)) (or_reads (means_reads (Reserved Words.Array) Kinds.Array (λ e. cc)) (or_reads (means_reads (Reserved Words.Channel) Kinds.Channel (λ e. cc)) (means_reads (Reserved Words.Stack) Kinds.Stack (λ e. cc)) (one_symbol s (Reserved Words.Channel)) refl) (one_symbol s (Reserved Words.Array)) refl) (one_symbol s (Reserved Words.Cell)) refl
+    or_reads (means_reads (Reserved Words.Cell) Kinds.Cell (λ e. cc)) (or_reads (means_reads (Reserved Words.Array) Kinds.Array (λ e. cc))
+    (or_reads (means_reads (Reserved Words.Channel) Kinds.Channel (λ e. cc)) (means_reads (Reserved Words.Stack) Kinds.Stack (λ e. cc)) (one_symbol s (Reserved Words.Channel)) refl)
+    (one_symbol s (Reserved Words.Array)) refl) (one_symbol s (Reserved Words.Cell)) refl
 
-begins_kind_test : (s : Source) (i : ℕ) → begins_kind s i ≡ is_in (code (Reserved Words.Cell) ∷ code (Reserved Words.Array) ∷ code (Reserved Words.Channel) ∷ code (Reserved Words.Stack) ∷ []) (code_at s i)
+begins_kind_test : (s : Source) (i : ℕ)
+    → begins_kind s i ≡ is_in (code (Reserved Words.Cell) ∷ code (Reserved Words.Array) ∷ code (Reserved Words.Channel) ∷ code (Reserved Words.Stack) ∷ []) (code_at s i)
 unfolding begins_kind
-begins_kind_test s = (λ (i : ℕ). or_test s (Reserved Words.Cell) (code (Reserved Words.Array) ∷ code (Reserved Words.Channel) ∷ code (Reserved Words.Stack) ∷ []) i _ ((λ (i : ℕ). or_test s (Reserved Words.Array) (code (Reserved Words.Channel) ∷ code (Reserved Words.Stack) ∷ []) i _ ((λ (i : ℕ). or_test s (Reserved Words.Channel) (code (Reserved Words.Stack) ∷ []) i _ (one_symbol s (Reserved Words.Stack) i)) i)) i))
+begins_kind_test s = (λ (i : ℕ). or_test s (Reserved Words.Cell) (code (Reserved Words.Array) ∷ code (Reserved Words.Channel) ∷ code (Reserved Words.Stack) ∷ []) i _
+    ((λ (i : ℕ). or_test s (Reserved Words.Array) (code (Reserved Words.Channel) ∷ code (Reserved Words.Stack) ∷ []) i _
+    ((λ (i : ℕ). or_test s (Reserved Words.Channel) (code (Reserved Words.Stack) ∷ []) i _ (one_symbol s (Reserved Words.Stack) i)) i)) i))
 
 kind_opens : {s : Source} → Opens s kind (begins_kind s)
 unfolding kind begins_kind code code_of_keyword code_of_sign
-kind_opens {s} = opens_or (means_reads (Reserved Words.Cell) Kinds.Cell (λ e. cc)) (or_reads (means_reads (Reserved Words.Array) Kinds.Array (λ e. cc)) (or_reads (means_reads (Reserved Words.Channel) Kinds.Channel (λ e. cc)) (means_reads (Reserved Words.Stack) Kinds.Stack (λ e. cc)) (one_symbol s (Reserved Words.Channel)) refl) (one_symbol s (Reserved Words.Array)) refl) refl (means_opens (Reserved Words.Cell) Kinds.Cell (λ e. cc)) (opens_or (means_reads (Reserved Words.Array) Kinds.Array (λ e. cc)) (or_reads (means_reads (Reserved Words.Channel) Kinds.Channel (λ e. cc)) (means_reads (Reserved Words.Stack) Kinds.Stack (λ e. cc)) (one_symbol s (Reserved Words.Channel)) refl) refl (means_opens (Reserved Words.Array) Kinds.Array (λ e. cc)) (opens_or (means_reads (Reserved Words.Channel) Kinds.Channel (λ e. cc)) (means_reads (Reserved Words.Stack) Kinds.Stack (λ e. cc)) refl (means_opens (Reserved Words.Channel) Kinds.Channel (λ e. cc)) (means_opens (Reserved Words.Stack) Kinds.Stack (λ e. cc))))
+kind_opens {s} = opens_or (means_reads (Reserved Words.Cell) Kinds.Cell (λ e. cc))
+    (or_reads (means_reads (Reserved Words.Array) Kinds.Array (λ e. cc))
+    (or_reads (means_reads (Reserved Words.Channel) Kinds.Channel (λ e. cc)) (means_reads (Reserved Words.Stack) Kinds.Stack (λ e. cc)) (one_symbol s (Reserved Words.Channel)) refl)
+    (one_symbol s (Reserved Words.Array)) refl) refl (means_opens (Reserved Words.Cell) Kinds.Cell (λ e. cc))
+    (opens_or (means_reads (Reserved Words.Array) Kinds.Array (λ e. cc))
+    (or_reads (means_reads (Reserved Words.Channel) Kinds.Channel (λ e. cc)) (means_reads (Reserved Words.Stack) Kinds.Stack (λ e. cc)) (one_symbol s (Reserved Words.Channel)) refl) refl
+    (means_opens (Reserved Words.Array) Kinds.Array (λ e. cc)) (opens_or (means_reads (Reserved Words.Channel) Kinds.Channel (λ e. cc))
+    (means_reads (Reserved Words.Stack) Kinds.Stack (λ e. cc)) refl (means_opens (Reserved Words.Channel) Kinds.Channel (λ e. cc)) (means_opens (Reserved Words.Stack) Kinds.Stack (λ e. cc))))
 
 names_reads : {s : Source} (limit : ℕ) (what : What) → Reads s (up_to limit what name) false (code Unreserved ∷ []) (code Unreserved ∷ []) (read_names s limit what)
 unfolding read_names code
 names_reads {s} limit what = up_to_reads limit what name_reads opens_name (one_symbol s Unreserved) refl refl
 
-pub section_reads : {s : Source} (used : ℕ) → Reads s (section used) true (code (Reserved Words.Cell) ∷ code (Reserved Words.Array) ∷ code (Reserved Words.Channel) ∷ code (Reserved Words.Stack) ∷ []) [] (read_section s used)
+pub section_reads : {s : Source} (used : ℕ)
+    → Reads s (section used) true (code (Reserved Words.Cell) ∷ code (Reserved Words.Array) ∷ code (Reserved Words.Channel) ∷ code (Reserved Words.Stack) ∷ []) [] (read_section s used)
 unfolding section read_section code code_of_keyword code_of_sign
 section_reads {s} used =
     bind_reads (kind_reads) (λ _.
@@ -72,7 +85,8 @@ section_opens {s} used =
     gives_reads _) refl) refl) refl) refl) refl).lawful) kind_opens
 
 pub more_sections_reads : {s : Source} (first : SectionText)
-    → Reads s (more_sections first) false (code (Reserved Words.Cell) ∷ code (Reserved Words.Array) ∷ code (Reserved Words.Channel) ∷ code (Reserved Words.Stack) ∷ []) (code (Reserved Words.Cell) ∷ code (Reserved Words.Array) ∷ code (Reserved Words.Channel) ∷ code (Reserved Words.Stack) ∷ []) (read_more_sections s first)
+    → Reads s (more_sections first) false (code (Reserved Words.Cell) ∷ code (Reserved Words.Array) ∷ code (Reserved Words.Channel) ∷ code (Reserved Words.Stack) ∷ [])
+    (code (Reserved Words.Cell) ∷ code (Reserved Words.Array) ∷ code (Reserved Words.Channel) ∷ code (Reserved Words.Stack) ∷ []) (read_more_sections s first)
 unfolding more_sections read_more_sections code code_of_keyword code_of_sign
 more_sections_reads {s} first =
     many_reads [] (λ before. read_item s (nat_le 15 (length before)) (begins_kind s) Limits.Sections (read_section s (letters_of (first ∷ before))))
@@ -148,21 +162,27 @@ atom_opens : {s : Source} → Opens s atom (starts_atom s)
 unfolding atom code code_of_keyword code_of_sign
 atom_opens {s} =
     let head = base_reads {s = s} in
-    opens_bind head.lawful (head.growing refl) (λ _. (bind_reads_maybe (optional_reads Counts.One count_reads (λ (i : ℕ). or_test s (Sign Star) (code (Sign Plus) ∷ []) i _ (one_symbol s (Sign Plus) i))) (λ _.
+    opens_bind head.lawful (head.growing refl)
+    (λ _. (bind_reads_maybe (optional_reads Counts.One count_reads (λ (i : ℕ). or_test s (Sign Star) (code (Sign Plus) ∷ []) i _ (one_symbol s (Sign Plus) i))) (λ _.
     gives_reads _) refl).lawful) base_opens
 
-pub more_atoms_reads : {s : Source} → Reads s (up_to 31 Limits.Atoms atom) false (code Unreserved ∷ code (Reserved Words.Any) ∷ code (Sign BraceLeft) ∷ []) (code (Sign Star) ∷ code (Sign Plus) ∷ code Unreserved ∷ code (Reserved Words.Any) ∷ code (Sign BraceLeft) ∷ []) (read_more_atoms s)
+pub more_atoms_reads : {s : Source} → Reads s (up_to 31 Limits.Atoms atom) false (code Unreserved ∷ code (Reserved Words.Any) ∷ code (Sign BraceLeft) ∷ [])
+    (code (Sign Star) ∷ code (Sign Plus) ∷ code Unreserved ∷ code (Reserved Words.Any) ∷ code (Sign BraceLeft) ∷ []) (read_more_atoms s)
 unfolding read_more_atoms begins_atom code code_of_keyword code_of_sign
-more_atoms_reads {s} = up_to_reads 31 Limits.Atoms atom_reads atom_opens (λ (i : ℕ). or_test s Unreserved (code (Reserved Words.Any) ∷ code (Sign BraceLeft) ∷ []) i _ ((λ (i : ℕ). or_test s (Reserved Words.Any) (code (Sign BraceLeft) ∷ []) i _ (one_symbol s (Sign BraceLeft) i)) i)) refl refl
+more_atoms_reads {s} = up_to_reads 31 Limits.Atoms atom_reads atom_opens
+    (λ (i : ℕ). or_test s Unreserved (code (Reserved Words.Any) ∷ code (Sign BraceLeft) ∷ []) i _
+    ((λ (i : ℕ). or_test s (Reserved Words.Any) (code (Sign BraceLeft) ∷ []) i _ (one_symbol s (Sign BraceLeft) i)) i)) refl refl
 
-pub atoms_reads : {s : Source} → Reads s atoms true (code Unreserved ∷ code (Reserved Words.Any) ∷ code (Sign BraceLeft) ∷ []) (code (Sign Star) ∷ code (Sign Plus) ∷ code (Sign Star) ∷ code (Sign Plus) ∷ code Unreserved ∷ code (Reserved Words.Any) ∷ code (Sign BraceLeft) ∷ []) (read_atoms s)
+pub atoms_reads : {s : Source} → Reads s atoms true (code Unreserved ∷ code (Reserved Words.Any) ∷ code (Sign BraceLeft) ∷ [])
+    (code (Sign Star) ∷ code (Sign Plus) ∷ code (Sign Star) ∷ code (Sign Plus) ∷ code Unreserved ∷ code (Reserved Words.Any) ∷ code (Sign BraceLeft) ∷ []) (read_atoms s)
 unfolding atoms read_atoms code code_of_keyword code_of_sign
 atoms_reads {s} =
     bind_reads (atom_reads) (λ _.
     bind_reads_maybe (more_atoms_reads) (λ _.
     gives_reads _) refl) refl
 
-pub pattern_reads : {s : Source} → Reads s pattern true (code (Reserved Words.Empty) ∷ code Unreserved ∷ code (Reserved Words.Any) ∷ code (Sign BraceLeft) ∷ []) (code (Sign Star) ∷ code (Sign Plus) ∷ code (Sign Star) ∷ code (Sign Plus) ∷ code Unreserved ∷ code (Reserved Words.Any) ∷ code (Sign BraceLeft) ∷ []) (read_pattern s)
+pub pattern_reads : {s : Source} → Reads s pattern true (code (Reserved Words.Empty) ∷ code Unreserved ∷ code (Reserved Words.Any) ∷ code (Sign BraceLeft) ∷ [])
+    (code (Sign Star) ∷ code (Sign Plus) ∷ code (Sign Star) ∷ code (Sign Plus) ∷ code Unreserved ∷ code (Reserved Words.Any) ∷ code (Sign BraceLeft) ∷ []) (read_pattern s)
 unfolding pattern read_pattern code code_of_keyword code_of_sign
 pattern_reads {s} =
     or_reads (means_reads (Reserved Words.Empty) [] (λ e. cc)) (atoms_reads) (one_symbol s (Reserved Words.Empty)) refl
@@ -197,7 +217,9 @@ quantifier_reads {s} =
 pub region_reads : {s : Source} → Reads s region true (code (Reserved Words.Left) ∷ code (Reserved Words.Right) ∷ code (Reserved Words.Others) ∷ []) [] (read_region s)
 unfolding region read_region code code_of_keyword code_of_sign
 region_reads {s} =
-    or_reads (means_reads (Reserved Words.Left) Regions.Left (λ e. cc)) (or_reads (means_reads (Reserved Words.Right) Regions.Right (λ e. cc)) (means_reads (Reserved Words.Others) Regions.Others (λ e. cc)) (one_symbol s (Reserved Words.Right)) refl) (one_symbol s (Reserved Words.Left)) refl
+    or_reads (means_reads (Reserved Words.Left) Regions.Left (λ e. cc))
+    (or_reads (means_reads (Reserved Words.Right) Regions.Right (λ e. cc)) (means_reads (Reserved Words.Others) Regions.Others (λ e. cc)) (one_symbol s (Reserved Words.Right)) refl)
+    (one_symbol s (Reserved Words.Left)) refl
 
 pub guard_reads : {s : Source} → Reads s guard true (code (Reserved Words.When) ∷ []) [] (read_guard s)
 unfolding guard read_guard code code_of_keyword code_of_sign
@@ -330,15 +352,22 @@ push_move_reads {s} =
     bind_reads (pushed_reads) (λ _.
     gives_reads _) refl
 
-pub queue_move_reads : {s : Source} → Reads s queue_move true (code (Reserved Words.Send) ∷ code (Reserved Words.Recv) ∷ code (Reserved Words.Pop) ∷ code (Reserved Words.Push) ∷ []) (code Unreserved ∷ code (Reserved Words.Push) ∷ code Unreserved ∷ []) (read_queue_move s)
-unfolding queue_move read_queue_move code code_of_keyword code_of_sign
-queue_move_reads {s} =
-    or_reads (send_move_reads) (or_reads (recv_move_reads) (or_reads (pop_move_reads) (push_move_reads) (one_symbol s (Reserved Words.Pop)) refl) (one_symbol s (Reserved Words.Recv)) refl) (one_symbol s (Reserved Words.Send)) refl
+pub channel_or_stack_move_reads : {s : Source}
+    → Reads s channel_or_stack_move true (code (Reserved Words.Send) ∷ code (Reserved Words.Recv) ∷ code (Reserved Words.Pop) ∷ code (Reserved Words.Push) ∷ [])
+    (code Unreserved ∷ code (Reserved Words.Push) ∷ code Unreserved ∷ []) (read_channel_or_stack_move s)
+unfolding channel_or_stack_move read_channel_or_stack_move code code_of_keyword code_of_sign
+channel_or_stack_move_reads {s} =
+    or_reads (send_move_reads) (or_reads (recv_move_reads) (or_reads (pop_move_reads) (push_move_reads) (one_symbol s (Reserved Words.Pop)) refl) (one_symbol s (Reserved Words.Recv)) refl)
+    (one_symbol s (Reserved Words.Send)) refl
 
-pub move_reads : {s : Source} → Reads s move true (code (Reserved Words.At) ∷ code (Reserved Words.Pair) ∷ code (Reserved Words.Ring) ∷ code (Reserved Words.Two) ∷ code (Reserved Words.Set) ∷ code (Reserved Words.Send) ∷ code (Reserved Words.Recv) ∷ code (Reserved Words.Pop) ∷ code (Reserved Words.Push) ∷ []) (code (Reserved Words.When) ∷ code (Reserved Words.Map) ∷ code Unreserved ∷ code (Reserved Words.Push) ∷ code Unreserved ∷ []) (read_move s)
+pub move_reads : {s : Source} → Reads s move true (code (Reserved Words.At) ∷ code (Reserved Words.Pair) ∷ code (Reserved Words.Ring) ∷ code (Reserved Words.Two) ∷ code (Reserved Words.Set)
+    ∷ code (Reserved Words.Send) ∷ code (Reserved Words.Recv) ∷ code (Reserved Words.Pop) ∷ code (Reserved Words.Push) ∷ [])
+    (code (Reserved Words.When) ∷ code (Reserved Words.Map) ∷ code Unreserved ∷ code (Reserved Words.Push) ∷ code Unreserved ∷ []) (read_move s)
 unfolding move read_move code code_of_keyword code_of_sign
 move_reads {s} =
-    or_reads (at_move_reads) (or_reads (pair_move_reads) (or_reads (ring_move_reads) (or_reads (two_move_reads) (or_reads (set_move_reads) (queue_move_reads) (one_symbol s (Reserved Words.Set)) refl) (one_symbol s (Reserved Words.Two)) refl) (one_symbol s (Reserved Words.Ring)) refl) (one_symbol s (Reserved Words.Pair)) refl) (one_symbol s (Reserved Words.At)) refl
+    or_reads (at_move_reads) (or_reads (pair_move_reads)
+    (or_reads (ring_move_reads) (or_reads (two_move_reads) (or_reads (set_move_reads) (channel_or_stack_move_reads) (one_symbol s (Reserved Words.Set)) refl)
+    (one_symbol s (Reserved Words.Two)) refl) (one_symbol s (Reserved Words.Ring)) refl) (one_symbol s (Reserved Words.Pair)) refl) (one_symbol s (Reserved Words.At)) refl
 
 pub step_reads : {s : Source} → Reads s step true (code Unreserved ∷ []) [] (read_step s)
 unfolding step read_step code code_of_keyword code_of_sign
@@ -391,7 +420,9 @@ pub rules_reads : {s : Source} → Reads s (up_to 256 Limits.Rules rule) false (
 unfolding read_rules code code_of_keyword code_of_sign
 rules_reads {s} = up_to_reads 256 Limits.Rules rule_reads rule_opens (one_symbol s (Reserved Words.Rule)) refl refl
 
-pub protocol_reads : {s : Source} → Reads s protocol true (code (Reserved Words.Protocol) ∷ []) (code (Reserved Words.Cell) ∷ code (Reserved Words.Array) ∷ code (Reserved Words.Channel) ∷ code (Reserved Words.Stack) ∷ code (Reserved Words.Init) ∷ code (Reserved Words.Rule) ∷ code (Reserved Words.Bad) ∷ []) (read_protocol s)
+pub protocol_reads : {s : Source}
+    → Reads s protocol true (code (Reserved Words.Protocol) ∷ []) (code (Reserved Words.Cell) ∷ code (Reserved Words.Array) ∷ code (Reserved Words.Channel) ∷ code (Reserved Words.Stack)
+    ∷ code (Reserved Words.Init) ∷ code (Reserved Words.Rule) ∷ code (Reserved Words.Bad) ∷ []) (read_protocol s)
 unfolding protocol read_protocol code code_of_keyword code_of_sign
 protocol_reads {s} =
     bind_reads (sign_reads _ (λ e. cc)) (λ _.

@@ -98,7 +98,8 @@ module _ (s : Source) (A B : Type 0) (X : Form A) (Y : A → Form B) (fX cX fY c
       shorter = λ k b h p.
           let y = (ly p.1).said p.0 k b p.3 in
           elim (eq-or-lt_of_le ((ly p.1).order p.0 k y)) [
-            | inl g ↦ on.left k p.1 b (subst (λ (n : ℕ). (Y p.1).Says s n k b) g p.3) (code_at s k) (subst (λ (n : ℕ). is_in cX (code_at s n) ≡ true) g (f.begun.shorter p.0 p.1 (omega (arith, g)) p.2))
+            | inl g ↦ on.left k p.1 b (subst (λ (n : ℕ). (Y p.1).Says s n k b) g p.3) (code_at s k)
+                (subst (λ (n : ℕ). is_in cX (code_at s n) ≡ true) g (f.begun.shorter p.0 p.1 (omega (arith, g)) p.2))
             | inr g ↦ absurd (early i j (j + 1) k p.0 f.begun p.1 p.2 (omega (arith, g)) y g)
           ];
     };

@@ -1,6 +1,6 @@
 -- The first tokens of forms, as the reader tests them.
 use Rattle.std.proofs.Common.{◌≡◌, ℕ, ◌-◌, ◌<◌, Bool, true, false, not, cond, ◌||◌, eqb, List, [], ◌∷◌, Option, Some, None, refl, sym, ap, subst, ◌∙◌, inl, inr, arith}
-use Rattle.std.proofs.lemmas.Bool.{ltb-true, ltb-false}
+use Rattle.std.proofs.lemmas.Bool.{ltb-true, ltb-false, not-true, not-false}
 use Rattle.protocol_lexer.specs.declared.Token.{Token}
 use Rattle.protocol_syntax.specs.declared.symbol.Symbol.{Symbol}
 use Rattle.protocol_syntax.specs.declared.symbol.Symbol.TheVariants.{Unreserved, Reserved, Sign}
@@ -40,18 +40,10 @@ opens_sign {s} x other = record {
   ];
 }
 
-not_true : (b : Bool) → not b ≡ true → b ≡ false
-not_true true h = cc
-not_true false h = refl
-
-not_false : (b : Bool) → not b ≡ false → b ≡ true
-not_false true h = refl
-not_false false h = cc
-
 short_name : (s : Source) (i : ℕ) (o : Option (Symbol × Token)) → token_at s i ≡ o → is_short_name o ≡ true
     → (t : Token) × IsAt s i Unreserved t × (is_too_long t ≡ false)
 short_name s i None e h = absurd (let g : false ≡ true = h in cc)
-short_name s i (Some (Unreserved, t)) e h = (t, e, not_true (is_too_long t) h)
+short_name s i (Some (Unreserved, t)) e h = (t, e, not-true (is_too_long t) h)
 short_name s i (Some (Reserved k, t)) e h = absurd (let g : false ≡ true = h in cc)
 short_name s i (Some (Sign k, t)) e h = absurd (let g : false ≡ true = h in cc)
 
@@ -70,6 +62,6 @@ opens_name {s} = record {
     | inl e ↦ omega (arith, e)
     | inr p ↦
         let e : not (is_too_long p.1.0) ≡ false = sym (ap is_short_name p.1.1) ∙ h in
-        g (refl, (p.1.0, p.1.1, (refl, ltb-true max_name_bytes (p.1.0.end - p.1.0.start) (not_false (is_too_long p.1.0) e)), refl))
+        g (refl, (p.1.0, p.1.1, (refl, ltb-true max_name_bytes (p.1.0.end - p.1.0.start) (not-false (is_too_long p.1.0) e)), refl))
   ];
 }

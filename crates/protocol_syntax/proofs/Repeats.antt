@@ -3,7 +3,7 @@ use Rattle.std.proofs.Common.{◌≡◌, ℕ, zero, suc, ◌+◌, ◌≤◌, ◌
 use Rattle.std.proofs.lemmas.List.{append-nil}
 use Rattle.std.proofs.lemmas.Option.{slice_get_past}
 use Rattle.std.proofs.Math.Nat.{eq-or-lt_of_le}
-use Rattle.std.proofs.lemmas.Bool.{cases_order, or_cases}
+use Rattle.std.proofs.lemmas.Bool.{cases_order, or_cases, or_parts}
 use Rattle.protocol_syntax.specs.declared.fault.What.{What}
 use Rattle.protocol_syntax.specs.declared.fault.What.TheVariants.{NameBytes}
 use Rattle.protocol_syntax.specs.declared.fault.SyntaxFault.{SyntaxFault}
@@ -589,14 +589,6 @@ pub many_plain : {s : Source} {A : Type 0} {X : Form A} {f c : List ℕ} {t : �
 many_plain {s} {A} {X} {f} {c} {t} {r} x test split none =
     many_reads c (λ _. r) (λ b. x.lawful) (λ b. x.growing refl) (λ b i _. x.reads i) test split none
 
-neither_left : (b c : Bool) → (b || c) ≡ false → b ≡ false
-neither_left true c h = h
-neither_left false c h = refl
-
-neither_right : (b c : Bool) → (b || c) ≡ false → c ≡ false
-neither_right true c h = absurd (let e : true ≡ false = h in cc)
-neither_right false c h = h
-
 -- a choice opens as the one form or the other does
 pub opens_or : {s : Source} {A : Type 0} {X Y : Form A} {fX cX fY cY : List ℕ} {t u : ℕ → Bool} {rx ry : Reader A}
     → Reads s X true fX cX rx → Reads s Y true fY cY ry → are_apart fX fY ≡ true → Opens s X t → Opens s Y u → Opens s (X or Y) (λ i. t i || u i)
@@ -623,7 +615,7 @@ opens_or {s} {A} {X} {Y} {fX} {cX} {fY} {cY} {t} {u} {rx} {ry} x y split ox oy =
         )
   ];
   silent = λ i h b g. elim b [
-    | inl q ↦ ox.silent i (neither_left (t i) (u i) h) q (λ p. g (inl p))
-    | inr q ↦ oy.silent i (neither_right (t i) (u i) h) q (λ p. g (inr p))
+    | inl q ↦ ox.silent i ((or_parts (t i) (u i) h).0) q (λ p. g (inl p))
+    | inr q ↦ oy.silent i ((or_parts (t i) (u i) h).1) q (λ p. g (inr p))
   ];
 }

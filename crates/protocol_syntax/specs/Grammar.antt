@@ -251,8 +251,8 @@ push_move = do
   gives (Moves.Stack None push)
 
 -- the moves of channels and stacks
-unfoldable pub queue_move : Form MoveBody
-queue_move = send_move or (recv_move or (pop_move or push_move))
+unfoldable pub channel_or_stack_move : Form MoveBody
+channel_or_stack_move = send_move or (recv_move or (pop_move or push_move))
 
 -- move: each begins with a word of its own
 unfoldable pub move : Form MoveBody
@@ -261,7 +261,7 @@ move =
     or (pair_move
     or (ring_move
     or (two_move
-    or (set_move or queue_move))))
+    or (set_move or channel_or_stack_move))))
 
 -- step = name ":" move ";"
 unfoldable pub step : Form MoveText

@@ -53,7 +53,9 @@ read_means source x a = do
 
 unfoldable pub read_kind : Source → Reader Kind
 read_kind source =
-    read_or (next_is source (Reserved Words.Cell)) (read_means source (Reserved Words.Cell) Kinds.Cell) (read_or (next_is source (Reserved Words.Array)) (read_means source (Reserved Words.Array) Kinds.Array) (read_or (next_is source (Reserved Words.Channel)) (read_means source (Reserved Words.Channel) Kinds.Channel) (read_means source (Reserved Words.Stack) Kinds.Stack)))
+    read_or (next_is source (Reserved Words.Cell)) (read_means source (Reserved Words.Cell) Kinds.Cell)
+    (read_or (next_is source (Reserved Words.Array)) (read_means source (Reserved Words.Array) Kinds.Array)
+    (read_or (next_is source (Reserved Words.Channel)) (read_means source (Reserved Words.Channel) Kinds.Channel) (read_means source (Reserved Words.Stack) Kinds.Stack)))
 
 unfoldable pub read_section : Source → ℕ → Reader SectionText
 read_section source used = do
@@ -145,7 +147,8 @@ read_quantifier source =
 
 unfoldable pub read_region : Source → Reader Region
 read_region source =
-    read_or (next_is source (Reserved Words.Left)) (read_means source (Reserved Words.Left) Regions.Left) (read_or (next_is source (Reserved Words.Right)) (read_means source (Reserved Words.Right) Regions.Right) (read_means source (Reserved Words.Others) Regions.Others))
+    read_or (next_is source (Reserved Words.Left)) (read_means source (Reserved Words.Left) Regions.Left)
+    (read_or (next_is source (Reserved Words.Right)) (read_means source (Reserved Words.Right) Regions.Right) (read_means source (Reserved Words.Others) Regions.Others))
 
 unfoldable pub read_guard : Source → Reader GuardText
 read_guard source = do
@@ -254,13 +257,16 @@ read_push_move source = do
   push ← read_pushed source
   returns (Moves.Stack None push)
 
-unfoldable pub read_queue_move : Source → Reader MoveBody
-read_queue_move source =
-    read_or (next_is source (Reserved Words.Send)) (read_send_move source) (read_or (next_is source (Reserved Words.Recv)) (read_recv_move source) (read_or (next_is source (Reserved Words.Pop)) (read_pop_move source) (read_push_move source)))
+unfoldable pub read_channel_or_stack_move : Source → Reader MoveBody
+read_channel_or_stack_move source =
+    read_or (next_is source (Reserved Words.Send)) (read_send_move source)
+    (read_or (next_is source (Reserved Words.Recv)) (read_recv_move source) (read_or (next_is source (Reserved Words.Pop)) (read_pop_move source) (read_push_move source)))
 
 unfoldable pub read_move : Source → Reader MoveBody
 read_move source =
-    read_or (next_is source (Reserved Words.At)) (read_at_move source) (read_or (next_is source (Reserved Words.Pair)) (read_pair_move source) (read_or (next_is source (Reserved Words.Ring)) (read_ring_move source) (read_or (next_is source (Reserved Words.Two)) (read_two_move source) (read_or (next_is source (Reserved Words.Set)) (read_set_move source) (read_queue_move source)))))
+    read_or (next_is source (Reserved Words.At)) (read_at_move source) (read_or (next_is source (Reserved Words.Pair)) (read_pair_move source)
+    (read_or (next_is source (Reserved Words.Ring)) (read_ring_move source)
+    (read_or (next_is source (Reserved Words.Two)) (read_two_move source) (read_or (next_is source (Reserved Words.Set)) (read_set_move source) (read_channel_or_stack_move source)))))
 
 unfoldable pub read_step : Source → Reader MoveText
 read_step source = do

@@ -1,4 +1,5 @@
 //! Reading rules: their steps, moves, guards and tables.
+//! One function for each form of the grammar, by recursive descent with one token of lookahead: time is linear in the tokens.
 
 ghost use Rattle.std.specs.Prelude.{◌≡◌, ◌≤◌, ◌<◌, ◌∷◌, [], ℕ, length, nat_le, IsTrue, OnErr, OnOk, IfOk};
 ghost use Rattle.protocol_syntax.specs.Symbol.{source_of};
@@ -6,7 +7,7 @@ ghost use Rattle.protocol_syntax.specs.Reading.{Gives, GivesBy, next_is, read_it
 ghost use Rattle.protocol_syntax.specs.GrammarReading.{read_at_move, read_entries, read_entry, read_four_names};
 ghost use Rattle.protocol_syntax.specs.GrammarReading.{read_guard, read_guards, read_move, read_pair_move};
 ghost use Rattle.protocol_syntax.specs.GrammarReading.{read_pop_move, read_push_move, read_pushed};
-ghost use Rattle.protocol_syntax.specs.GrammarReading.{read_quantifier, read_queue_move, read_recv_move};
+ghost use Rattle.protocol_syntax.specs.GrammarReading.{read_quantifier, read_channel_or_stack_move, read_recv_move};
 ghost use Rattle.protocol_syntax.specs.GrammarReading.{read_region, read_ring_move, read_rule, read_rules};
 ghost use Rattle.protocol_syntax.specs.GrammarReading.{read_send_move, read_set_move, read_step, read_steps};
 ghost use Rattle.protocol_syntax.specs.GrammarReading.{read_table, read_two_move};
@@ -14,7 +15,7 @@ ghost use Rattle.protocol_syntax.specs.GrammarReading.{read_table, read_two_move
 use crate::fault::{SyntaxFault, What};
 use crate::protocol::{GuardText, MoveBody, MoveText, Name, Region, RuleText};
 use crate::source::{Source, push, with_first};
-use crate::symbol::{Keyword, Symbol};
+use crate::symbol::{BRACE_LEFT, BRACE_RIGHT, COLON, Keyword, SEMICOLON, Symbol};
 use protocol_lexer::TokenKind;
 use sequence::Sequence;
 
@@ -46,14 +47,6 @@ const LEFT: Symbol = Symbol::Reserved(Keyword::Left);
 const RIGHT: Symbol = Symbol::Reserved(Keyword::Right);
 
 const OTHERS: Symbol = Symbol::Reserved(Keyword::Others);
-
-const BRACE_LEFT: Symbol = Symbol::Sign(TokenKind::BraceLeft);
-
-const BRACE_RIGHT: Symbol = Symbol::Sign(TokenKind::BraceRight);
-
-const COLON: Symbol = Symbol::Sign(TokenKind::Colon);
-
-const SEMICOLON: Symbol = Symbol::Sign(TokenKind::Semicolon);
 
 const ARROW: Symbol = Symbol::Sign(TokenKind::Arrow);
 
@@ -108,10 +101,7 @@ impl Source<'_> {
         ensures onward { OnOk result (at.old < at.new) }
     {
         if full && self.next_is(*at, WHEN) {
-            return Err(SyntaxFault::TooMany {
-                what: What::Guards,
-                place: self.place_at(*at),
-            });
+            return Err(self.too_many(*at, What::Guards));
         }
         self.guard(at)
     }
@@ -321,9 +311,9 @@ impl Source<'_> {
         Ok(MoveBody::Stack { pop: None, push })
     }
 
-    #[tactic(auto, unfolding(crate::specs::GrammarReading::read_queue_move, crate::specs::Reading::read_or))]
-    fn queue_move(&self, at: &mut usize) -> Result<MoveBody, SyntaxFault>
-        ensures gives { Gives (read_queue_move (source_of self.now.text.now self.now.tokens.now) at.old) at.new result }
+    #[tactic(auto, unfolding(crate::specs::GrammarReading::read_channel_or_stack_move, crate::specs::Reading::read_or))]
+    fn channel_or_stack_move(&self, at: &mut usize) -> Result<MoveBody, SyntaxFault>
+        ensures gives { Gives (read_channel_or_stack_move (source_of self.now.text.now self.now.tokens.now) at.old) at.new result }
         ensures onward { OnOk result (at.old < at.new) }
     {
         if self.next_is(*at, Symbol::Reserved(Keyword::Send)) {
@@ -358,7 +348,7 @@ impl Source<'_> {
         if self.next_is(*at, Symbol::Reserved(Keyword::Set)) {
             return self.set_move(at);
         }
-        self.queue_move(at)
+        self.channel_or_stack_move(at)
     }
 
     #[tactic(auto, unfolding(crate::specs::GrammarReading::read_step, crate::specs::Reading::read_then))]
@@ -409,10 +399,7 @@ impl Source<'_> {
         ensures onward { OnOk result (at.old < at.new) }
     {
         if full && self.next_is(*at, RULE) {
-            return Err(SyntaxFault::TooMany {
-                what: What::Rules,
-                place: self.place_at(*at),
-            });
+            return Err(self.too_many(*at, What::Rules));
         }
         self.rule(at)
     }

@@ -1,4 +1,5 @@
 //! Reading sections, patterns and rows.
+//! One function for each form of the grammar, by recursive descent with one token of lookahead: time is linear in the tokens.
 
 ghost use Rattle.std.specs.Prelude.{◌≡◌, ◌≤◌, ◌<◌, ◌+◌, ◌∷◌, [], ℕ, length, nat_le, min, IsTrue, OnErr, OnOk, IfOk};
 ghost use Rattle.protocol_syntax.specs.Symbol.{source_of};
@@ -14,7 +15,7 @@ ghost use Rattle.protocol_syntax.specs.GrammarReading.{read_set_base, read_set_n
 use crate::fault::{SyntaxFault, What};
 use crate::protocol::{AtomText, BaseText, Kind, Many, Name, PartText, RowText, SectionText};
 use crate::source::{Source, push, with_first};
-use crate::symbol::{Keyword, Symbol};
+use crate::symbol::{BRACE_LEFT, BRACE_RIGHT, COLON, Keyword, SEMICOLON, Symbol};
 use protocol_lexer::TokenKind;
 use sequence::Sequence;
 
@@ -41,14 +42,6 @@ const STACK: Symbol = Symbol::Reserved(Keyword::Stack);
 const EMPTY: Symbol = Symbol::Reserved(Keyword::Empty);
 
 const ANY: Symbol = Symbol::Reserved(Keyword::Any);
-
-const BRACE_LEFT: Symbol = Symbol::Sign(TokenKind::BraceLeft);
-
-const BRACE_RIGHT: Symbol = Symbol::Sign(TokenKind::BraceRight);
-
-const COLON: Symbol = Symbol::Sign(TokenKind::Colon);
-
-const SEMICOLON: Symbol = Symbol::Sign(TokenKind::Semicolon);
 
 const STAR: Symbol = Symbol::Sign(TokenKind::Star);
 
@@ -144,10 +137,7 @@ impl Source<'_> {
         ensures onward { OnOk result (at.old < at.new) }
     {
         if full && self.begins_kind(*at) {
-            return Err(SyntaxFault::TooMany {
-                what: What::Sections,
-                place: self.place_at(*at),
-            });
+            return Err(self.too_many(*at, What::Sections));
         }
         self.section(at, used)
     }
@@ -272,10 +262,7 @@ impl Source<'_> {
         ensures onward { OnOk result (at.old < at.new) }
     {
         if full && self.starts_atom(*at) {
-            return Err(SyntaxFault::TooMany {
-                what: What::Atoms,
-                place: self.place_at(*at),
-            });
+            return Err(self.too_many(*at, What::Atoms));
         }
         self.atom(at)
     }
@@ -366,10 +353,7 @@ impl Source<'_> {
         ensures onward { OnOk result (at.old < at.new) }
     {
         if full && self.next_is(*at, Symbol::Reserved(word)) {
-            return Err(SyntaxFault::TooMany {
-                what,
-                place: self.place_at(*at),
-            });
+            return Err(self.too_many(*at, what));
         }
         self.row(at, word)
     }

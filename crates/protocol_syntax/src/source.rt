@@ -1,4 +1,5 @@
 //! The tokens of a text, as the reader of the grammar sees them.
+//! The reader looks one token ahead and never goes back: each call reads what stands at an index, or tells the first token that cannot.
 
 ghost use Rattle.std.specs.Prelude.{◌≡◌, ◌+◌, ◌^◌, ◌<◌, ◌≤◌, ◌++◌, ◌∷◌, [], ℕ, Ok, Some, length, nat_le, IsTrue, OnErr, OnOk, IfOk, IfSome, slice_get};
 ghost use Rattle.std.specs.Str.{IsUtf8};
@@ -102,6 +103,14 @@ impl Source<'_> {
         SyntaxFault::Unexpected {
             place: self.place_at(at),
         }
+    }
+
+    /// The fault that the token at the index begins an item past a limit.
+    pub fn too_many(&self, at: usize, what: What) -> SyntaxFault
+        ensures { result ≡ SyntaxFault.TooMany what (place_at (source_of self.now.text.now self.now.tokens.now) at) }
+    {
+        let place = self.place_at(at);
+        SyntaxFault::TooMany { what, place }
     }
 
     /// Whether the token at the index is this symbol.
@@ -208,10 +217,7 @@ impl Source<'_> {
         ensures onward { OnOk result (at.old < at.new) }
     {
         if full && self.begins_name(*at) {
-            return Err(SyntaxFault::TooMany {
-                what,
-                place: self.place_at(*at),
-            });
+            return Err(self.too_many(*at, what));
         }
         self.name(at)
     }

@@ -1,4 +1,5 @@
 //! Reading a protocol.
+//! The tokens are made first, and then read once from the left, so that the first fault is that of the first wrong token.
 
 ghost use Rattle.std.specs.Prelude.{◌≡◌, ◌≢◌, ◌≤◌, ◌<◌, ◌↔◌, IfErr, IfOk};
 ghost use Rattle.protocol_syntax.specs.Symbol.{source_of};

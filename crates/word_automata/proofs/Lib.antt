@@ -1,6 +1,7 @@
 pub mod AsNondeterministic
 pub mod Building
 pub mod EdgeList
+pub mod Edges
 pub mod Members
 pub mod Paths
 pub mod Rows

@@ -1,5 +1,6 @@
 use Rattle.std.proofs.Common.{◌↔◌, ◌∙◌, ◌∷◌, [], ◌++◌, ap, sym, subst, refl, true, length, IsTrue}
-use Rattle.protocol_moves.specs.Results.{some_below, can_change_at, IsEnabled}
+use Rattle.protocol_moves.specs.Results.{IsEnabled}
+use Rattle.protocol_moves.specs.Gathering.{some_below, can_change_at}
 use Rattle.protocol_moves.proofs.EnabledMoves.{test_is, at_enabled, pair_enabled, ring_enabled, two_enabled, set_enabled, stack_enabled}
 use Rattle.protocol_moves.proofs.enabled.is_enabled.Goals as goal
 

@@ -47,7 +47,8 @@ loop-section-preserved c =
     (added_now walk.numbers item.name c.as_str.result.now c.in_ok-add.field-0 c.in_ok-add.ensures.added c.if-not-branch.false c.as_str.ensures) in
     let more : c.add.new.self ≡ walk.numbers ++ c.as_str.result.now ∷ [] =
     c.in_ok-add.ensures.names ∙ ap (λ b. if b then walk.numbers ++ c.as_str.result.now ∷ [] else walk.numbers) c.if-not-branch.false in
-    let letters : (first_fault_of (λ earlier. duplicate (texts_of earlier)) [] c.as_slice.result.now ≡ None) × (c.in_ok-letter_names.field-0 ≡ texts_of c.as_slice.result.now) = c.in_ok-letter_names.ensures in (
+    let letters : (first_fault_of (λ earlier. duplicate (texts_of earlier)) [] c.as_slice.result.now ≡ None) × (c.in_ok-letter_names.field-0 ≡ texts_of c.as_slice.result.now) =
+    c.in_ok-letter_names.ensures in (
       rw more (goes_on section_fault (λ section. section.name.text) c.args.texts.now walk.section-index walk.numbers item c.as_str.result.now
           c.loop-section-test.true walk.invariant.0 c.section-item.is
           (or_none (duplicate before item.name) (first_fault_of (λ earlier. duplicate (texts_of earlier)) [] item.letters)

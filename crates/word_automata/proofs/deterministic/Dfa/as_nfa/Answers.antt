@@ -15,7 +15,8 @@ states-preserved c =
     (omega arith) c.accepting.ensures c.edges_from.ensures.edges c.states.invariant
 
 -- the result is the nondeterministic form
-is_form : (c : goal.After-letters) → ◌≡◌ {A = NondeterministicAutomaton} (record { letters = c.letters.result; starts = c.if-count-gt0.starts.items; states = c.states.states.items }) (as_nondeterministic c.args.self.now)
+is_form : (c : goal.After-letters) → ◌≡◌ {A = NondeterministicAutomaton} (record { letters = c.letters.result; starts = c.if-count-gt0.starts.items; states = c.states.states.items })
+    (as_nondeterministic c.args.self.now)
 is_form c =
     let starts : c.if-count-gt0.starts.items ≡ first_state c.args.self.now.states =
     elim c.if-count-gt0.branch [
@@ -27,7 +28,8 @@ is_form c =
           ∙ sym (first_state-none c.args.self.now.states (omega (arith, w.if-count-gt0.false, c.states-count.ensures.count)))
     ] in
     let states : c.states.states.items ≡ (as_nondeterministic c.args.self.now).states =
-    c.states.invariant ∙ take_all c.states.state (as_nondeterministic c.args.self.now).states (omega (arith, length-map c.args.self.now.states lettered, c.states-count.ensures.count, c.states-test.false)) in
+    c.states.invariant ∙ take_all c.states.state (as_nondeterministic c.args.self.now).states
+    (omega (arith, length-map c.args.self.now.states lettered, c.states-count.ensures.count, c.states-test.false)) in
     assembled c.args.self.now c.letters.result c.if-count-gt0.starts.items c.states.states.items c.letters.ensures starts states
 
 pub invariant_of-result : goal.invariant_of-result
