@@ -7,3 +7,4 @@ pub mod CommandsOnce
 pub mod OneReplyLemmas
 pub mod UsageLemmas
 pub mod SettingsLemmas
+pub mod Searched

@@ -9,9 +9,12 @@ use Rattle.refinement.specs.declared.verdict.Verdict.TheVariants as verdict
 use Rattle.protocol_search.specs.Checks.{Shows, VerdictShows}
 use Rattle.protocol_search.specs.OneCheck.{CheckIsDetermined}
 use Rattle.protocol_search.specs.SearchLaws.{LargerBudgetKeepsAnswer}
+use Rattle.protocol_search.specs.SystemHistories.{VerdictsShow}
+use Rattle.protocol_search.specs.declared.first.FirstAbstraction.TheVariants.{BadPredicates}
 use Rattle.protocol_search.specs.declared.checked.CheckEnd.{CheckEnd}
 use Rattle.protocol_search.specs.declared.checked.CheckEnd.TheVariants.{Safe, Unsafe, Unknown}
 use Rattle.protocol_search.specs.declared.checked.Checked.{Checked}
+use Rattle.command_words.specs.Words.{default_budget}
 use Rattle.command_words.specs.declared.Settings.{Settings}
 use Rattle.armc_commands.specs.declared.status.Status.TheVariants as status
 use Rattle.armc_commands.specs.declared.reply.Reply.{Reply}
@@ -64,10 +67,11 @@ run_shown s (verdict.Safe proof log) shows e = absurd (cc e)
 run_shown s (verdict.Unsafe words log) shows e = shows
 run_shown s (verdict.Unknown log) shows e = absurd (cc e)
 
-pub generate_promised : (s : SystemData) (number : ℕ) (reply : Reply) → IsGenerateReply s number reply → GeneratePromise s reply
-generate_promised s number reply h =
+pub generate_promised : VerdictsShow → (s : SystemData) (number : ℕ) (reply : Reply) → IsGenerateReply s number reply → GeneratePromise s reply
+generate_promised show s number reply h =
     let status_is : reply.status ≡ verdict_status h.verdict = ap (λ (r : Reply). r.status) h.reply_is in
+    let shows = show s BadPredicates default_budget h.verdict h.is_verdict in
     record {
-      safe = λ e. safe_shown s h.verdict h.shows (sym status_is ∙ e);
-      unsafe = λ e. run_shown s h.verdict h.shows (sym status_is ∙ e);
+      safe = λ e. safe_shown s h.verdict shows (sym status_is ∙ e);
+      unsafe = λ e. run_shown s h.verdict shows (sym status_is ∙ e);
     }

@@ -11,3 +11,4 @@ pub mod Text
 pub mod Answer
 pub mod OneReply
 pub mod ReplyLaws
+pub mod ReplyHistories

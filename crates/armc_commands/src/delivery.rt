@@ -25,7 +25,8 @@ pub fn deliver<O: Sink, E: Sink>(
     out: &mut O,
     err: &mut E,
 ) -> Status
-    ensures texts { Delivers status out_text.now err_text.now (O.state out.old) (O.state out.new) (E.state err.old) (E.state err.new) result }
+    ensures texts { Delivers status out_text.now err_text.now (O.state out.old) (O.state out.new)
+        (E.state err.old) (E.state err.new) result }
     ensures out { CountsFaults out_text.now (O.state out.old) (O.state out.new) }
     ensures err { CountsFaults err_text.now (E.state err.old) (E.state err.new) }
 {

@@ -1,13 +1,17 @@
 // The laws of replies, from those of the texts, of the judgement and of the search.
 
 ghost use Rattle.armc_commands.specs.OneReply.{OutcomeIsDetermined};
+ghost use Rattle.armc_commands.specs.ReplyHistories.{ChecksTellHistories, GeneratesTellHistories};
 ghost use Rattle.armc_commands.specs.ReplyLaws.{WorkersKeepCheck, WorkersKeepGenerate, LargerBudgetKeepsReply, BadRunRulesOutSafe};
 
 use certificate::one_reading as one_certificate;
 use certificate_checker::one_answer as one_judgement;
 use configuration_words::one_reading as one_configuration;
 use protocol_model::texts_say_allowed_protocols;
-use protocol_search::{larger_budget_keeps_answer, one_check, one_verdict};
+use protocol_search::{
+    answers_have_histories, keys_bound_rounds, larger_budget_keeps_answer,
+    no_language_is_refuted_twice, one_check, one_verdict, runs_bound_histories,
+};
 use protocol_steps::one_answer as one_list;
 use protocol_syntax::one_reading as one_protocol;
 
@@ -48,3 +52,16 @@ pub fn larger_budget_keeps_reply()
 pub fn bad_run_rules_out_safe()
     ensures { BadRunRulesOutSafe }
 {}
+
+/// The law of histories: the reply that the words of a `check` or a `gen` and the told texts decide tells the first fault of the protocol,
+/// or comes from a history for it. By predicates no two of its rounds refute one language, its merged automata grow within a round and are
+/// at most as many as the key bounds, and a bad run bounds the indices of its rounds. The function does nothing.
+pub fn replies_have_histories()
+    ensures check { ChecksTellHistories }
+    ensures generate { GeneratesTellHistories }
+{
+    answers_have_histories();
+    no_language_is_refuted_twice();
+    keys_bound_rounds();
+    runs_bound_histories();
+}

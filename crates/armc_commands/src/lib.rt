@@ -16,5 +16,8 @@ mod reply;
 mod status;
 
 pub use call::run;
-pub use law::{bad_run_rules_out_safe, larger_budget_keeps_reply, one_reply, workers_keep_reply};
+pub use law::{
+    bad_run_rules_out_safe, larger_budget_keeps_reply, one_reply, replies_have_histories,
+    workers_keep_reply,
+};
 pub use status::Status;

@@ -1,6 +1,6 @@
 -- One more text at the end of those that are joined.
 use Rattle.std.proofs.Common.{◌≡◌, ◌∙◌, ◌+◌, ℕ, suc, List, [], ◌∷◌, ◌++◌, sym, ap, arith, append_assoc, append-nil, codes}
-use Rattle.chain_protocol.specs.Chain.{joined, line}
+use Rattle.chain_protocol.specs.Chain.{joined, protocol_line}
 
 pub joined_more : (text : ℕ → List ℕ) (before now new : List ℕ) (i : ℕ) → now ≡ before ++ joined text i → new ≡ now ++ text i
     → new ≡ before ++ joined text (i + 1)
@@ -14,11 +14,11 @@ joined_none text before = sym (append-nil before)
 -- the pieces as they are written, and as the definition has them
 pub pieces : (letters rules : List ℕ)
     → (((codes "protocol chain\narray P {" ++ letters) ++ codes " dead }\ninit { P: s0 s0*; }\n") ++ rules) ++ codes "bad { P: any* dead any*; }\n"
-    ≡ line (codes "protocol chain") ++ (line (codes "array P {" ++ (letters ++ codes " dead }"))
-    ++ (line (codes "init { P: s0 s0*; }") ++ (rules ++ line (codes "bad { P: any* dead any*; }"))))
+    ≡ protocol_line (codes "protocol chain") ++ (protocol_line (codes "array P {" ++ (letters ++ codes " dead }"))
+    ++ (protocol_line (codes "init { P: s0 s0*; }") ++ (rules ++ protocol_line (codes "bad { P: any* dead any*; }"))))
 pieces letters rules =
-    let bad = line (codes "bad { P: any* dead any*; }") in
-    let init = line (codes "init { P: s0 s0*; }") in
+    let bad = protocol_line (codes "bad { P: any* dead any*; }") in
+    let init = protocol_line (codes "init { P: s0 s0*; }") in
     let dead = codes " dead }\ninit { P: s0 s0*; }\n" in
     let written = append_assoc (letters ++ dead) rules bad ∙ append_assoc letters dead (rules ++ bad) in
     let defined = append_assoc (letters ++ codes " dead }") (10 ∷ []) (init ++ (rules ++ bad))

@@ -11,7 +11,7 @@ use Rattle.refinement.specs.Verdicts.{IsVerdict, IsVerdictOfRound, log_in}
 use Rattle.refinement.specs.declared.verdict.Verdict.{Verdict}
 use Rattle.refinement.specs.declared.verdict.Verdict.TheVariants.{Safe, Unsafe, Unknown}
 use Rattle.refinement.proofs.Bounds.{history-larger}
-use Rattle.protocol_search.specs.Methods.{method_of, first_key}
+use Rattle.protocol_search.specs.Methods.{search_method, first_key}
 use Rattle.protocol_search.specs.Checks.{IsVerdictText, end_of}
 use Rattle.protocol_search.specs.SearchLaws.{LargerBudgetKeepsAnswer}
 use Rattle.protocol_search.specs.declared.checked.CheckEnd.TheVariants as check_end
@@ -70,7 +70,7 @@ larger-keeps s first budget larger one other more h decided k =
     let found = own.is_verdict in
     let log = log_of larger found.rounds found.sum in
     let open_end : end_of v ≢ check_end.Unknown = λ spent. decided (h.told.end_is ∙ spent) in
-    let stays = verdict-stays (task_of s) (method_of first) (first_key first own.bad) budget larger v more open_end found in
+    let stays = verdict-stays (task_of s) (search_method first) (first_key first own.bad) budget larger v more open_end found in
     let same = verdict-once s first larger k.verdict (logged_as log v) k.is_verdict (record { bad = own.bad; is_bad = own.is_bad; is_verdict = stays }) in
     let end = k.told.end_is ∙ ap end_of same ∙ end-stays log v ∙ sym h.told.end_is in
     let moved = subst (λ w. IsVerdictText s w other.text) same k.told.text_is in

@@ -4,3 +4,4 @@ pub mod Shown
 pub mod OneAnswer
 pub mod Budgets
 pub mod RunBounds
+pub mod SystemRounds

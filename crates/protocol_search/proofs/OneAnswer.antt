@@ -14,7 +14,7 @@ use Rattle.refinement.specs.declared.verdict.Verdict.TheVariants.{Safe, Unsafe, 
 use Rattle.refinement.proofs.Uniqueness.{automaton-unique}
 use Rattle.refinement.proofs.OneVerdict.{verdict-unique}
 use Rattle.protocol_search.specs.Runs.{IsLeastRule, IsWordOf, AreStepsThrough, IsRunThrough}
-use Rattle.protocol_search.specs.Methods.{method_of, first_key}
+use Rattle.protocol_search.specs.Methods.{search_method, first_key}
 use Rattle.protocol_search.specs.Checks.{end_of, IsVerdictText}
 use Rattle.protocol_search.specs.OneCheck.{VerdictIsDetermined, CheckIsDetermined}
 
@@ -56,8 +56,8 @@ text-once s (Unknown log) one other h k = h ∙ sym k
 pub verdict-once : VerdictIsDetermined
 verdict-once s first budget v w h k =
     let bad = automaton-unique (automata_letters s) (IsBadWord s) h.bad k.bad h.is_bad k.is_bad in
-    let moved = subst (λ b. IsVerdict (task_of s) (method_of first) (first_key first b) budget v) bad h.is_verdict in
-    verdict-unique (task_of s) (method_of first) budget (first_key first k.bad) v w moved k.is_verdict
+    let moved = subst (λ b. IsVerdict (task_of s) (search_method first) (first_key first b) budget v) bad h.is_verdict in
+    verdict-unique (task_of s) (search_method first) budget (first_key first k.bad) v w moved k.is_verdict
 
 pub check-once : CheckIsDetermined
 check-once s first budget one other h k =

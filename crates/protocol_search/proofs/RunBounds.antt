@@ -17,20 +17,20 @@ use Rattle.search_history.specs.Histories.{SearchRound, last_level, log_of_round
 use Rattle.search_history.specs.declared.log.LogEnd.TheVariants as log_end
 use Rattle.refinement.specs.Laws.{LeadsToBad}
 use Rattle.refinement.proofs.Bounds.{history-bounded}
-use Rattle.protocol_search.specs.Methods.{method_of}
+use Rattle.protocol_search.specs.Methods.{search_method}
 use Rattle.protocol_search.specs.Checks.{Shows}
 use Rattle.protocol_search.specs.SearchLaws.{HasIndicesUpTo, BadRunsBoundRounds}
 use Rattle.protocol_search.specs.declared.first.FirstAbstraction.{FirstAbstraction}
 use Rattle.protocol_search.specs.declared.first.FirstAbstraction.TheVariants.{BadPredicates, NoPredicates, Lengths}
 
 -- each state is related to itself
-own-related : (first : FirstAbstraction) (key : Key) (a : Automaton) (p : ℕ) → (method_of first).related key a p p
+pub own-related : (first : FirstAbstraction) (key : Key) (a : Automaton) (p : ℕ) → (search_method first).related key a p p
 own-related BadPredicates key a p = (predicates-equivalence key a).reflexive p
 own-related NoPredicates key a p = (predicates-equivalence key a).reflexive p
 own-related (Lengths bound) key a p = (lengths-equivalence key a).reflexive p
 
 -- the steps of a run lead between the words of its configurations
-leads : (s : SystemData) (c : Configuration) (steps : List (ℕ × Configuration)) → AreSteps s c steps → IsTrue (is_bad s (last_of c steps))
+pub leads : (s : SystemData) (c : Configuration) (steps : List (ℕ × Configuration)) → AreSteps s c steps → IsTrue (is_bad s (last_of c steps))
     → LeadsToBad (task_of s) (length steps) (word_of s c)
 leads s c [] goes bad = (c, bad, refl)
 leads s c (step ∷ steps) goes bad = (
@@ -58,7 +58,7 @@ pub runs-bound : BadRunsBoundRounds
 runs-bound s run bad first budget checked h =
     let n = length run.steps in
     let found = h.is_verdict.is_verdict in
-    let bounded = history-bounded (task_of s) (method_of first) (own-related first) budget n (word_of s run.first) (run.first, bad.begins, refl)
+    let bounded = history-bounded (task_of s) (search_method first) (own-related first) budget n (word_of s run.first) (run.first, bad.begins, refl)
     (leads s run.first run.steps bad.goes bad.ends) found.history in
     let logs = h.told.log_is ∙ found.log_is in (
       λ safe. (subst (Shows s checked.text) safe h.told.shows).3 run bad,

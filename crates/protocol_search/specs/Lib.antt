@@ -3,3 +3,4 @@ pub mod Methods
 pub mod Checks
 pub mod OneCheck
 pub mod SearchLaws
+pub mod SystemHistories

@@ -11,8 +11,8 @@ use Rattle.protocol_search.specs.declared.checked.CheckEnd.TheVariants.{Safe, Un
 use Rattle.protocol_search.specs.declared.checked.Checked.{Checked}
 
 -- the same answer, with another budget in its log: the same end, text, rounds and number of counted states
-abbrev pub with_budget : ℕ → Checked → Checked
-with_budget budget checked = record {
+abbrev pub with_logged_budget : ℕ → Checked → Checked
+with_logged_budget budget checked = record {
   end = checked.end;
   text = checked.text;
   log = record { budget = budget; counted = checked.log.counted; rounds = checked.log.rounds };
@@ -21,7 +21,7 @@ with_budget budget checked = record {
 -- an answer that decides the system within a budget is the answer for every larger budget, which alone differs in its log
 abbrev pub LargerBudgetKeepsAnswer : Type 0
 LargerBudgetKeepsAnswer = (s : SystemData) (first : FirstAbstraction) (budget larger : ℕ) (one other : Checked) → budget ≤ larger
-    → IsCheck s first budget one → one.end ≢ Unknown → IsCheck s first larger other → other ≡ with_budget larger one
+    → IsCheck s first budget one → one.end ≢ Unknown → IsCheck s first larger other → other ≡ with_logged_budget larger one
 
 -- the round has no index above n: the automata before merging have the indices from 0 on, and the level is that of the last counted one
 pub record HasIndicesUpTo (n : ℕ) (round : RoundLog) : Type 0 where

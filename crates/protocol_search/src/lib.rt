@@ -11,4 +11,8 @@ mod runs;
 pub use check::{check_system, search_system};
 pub use checked::{CheckEnd, Checked};
 pub use first::FirstAbstraction;
-pub use law::{bad_runs_bound_rounds, larger_budget_keeps_answer, one_check, one_verdict};
+pub use law::{
+    answers_have_histories, bad_runs_bound_rounds, keys_bound_rounds, larger_budget_keeps_answer,
+    no_language_is_refuted_twice, one_check, one_history, one_verdict, runs_bound_histories,
+    verdicts_show,
+};

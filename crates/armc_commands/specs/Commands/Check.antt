@@ -44,12 +44,9 @@ abbrev pub reported_method : Method → ReportedMethod
 reported_method Predicates = reported.Predicates
 reported_method Length = reported.Length
 
-abbrev pub method_of : Settings → ReportedMethod
-method_of settings = reported_method settings.method
-
 -- the report, where it is asked for, and else no text
 abbrev pub report_of : Settings → Log → List ℕ
-report_of settings log = if settings.report then report_text (method_of settings) log else []
+report_of settings log = if settings.report then report_text (reported_method settings.method) log else []
 
 -- the reply to the answer of a search: its certificate, and its report where it is asked for
 abbrev pub reply_of_check : Settings → Checked → Reply

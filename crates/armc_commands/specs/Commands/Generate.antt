@@ -10,7 +10,7 @@ use Rattle.search_history.specs.declared.log.Log.{Log}
 use Rattle.refinement.specs.declared.verdict.Verdict.{Verdict}
 use Rattle.refinement.specs.declared.verdict.Verdict.TheVariants.{Safe, Unsafe, Unknown}
 use Rattle.command_words.specs.Words.{default_budget}
-use Rattle.protocol_search.specs.Checks.{IsVerdictOf, VerdictShows}
+use Rattle.protocol_search.specs.Checks.{IsVerdictOf}
 use Rattle.protocol_search.specs.declared.first.FirstAbstraction.TheVariants.{BadPredicates}
 use Rattle.armc_commands.specs.declared.status.Status.{Status}
 use Rattle.armc_commands.specs.declared.status.Status.TheVariants as status
@@ -51,7 +51,6 @@ reply_of_verdict number verdict = on_out (verdict_status verdict) (summary numbe
 pub record IsGenerateReply (s : SystemData) (number : ℕ) (reply : Reply) : Type 0 where
   pub verdict : Verdict
   pub is_verdict : IsVerdictOf s BadPredicates default_budget verdict
-  pub shows : VerdictShows s verdict
   pub reply_is : reply ≡ reply_of_verdict number verdict
 
 -- at status 0 the system is safe, and at status 1 it has a bad run

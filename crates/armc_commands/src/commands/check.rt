@@ -5,7 +5,7 @@ ghost use Rattle.command_words.specs.Words.{IsSettings};
 ghost use Rattle.command_words.specs.declared.Settings.{Settings as SettingsData};
 ghost use Rattle.protocol_model.specs.System.{SystemData};
 ghost use Rattle.armc_commands.specs.declared.reply.Reply.{Reply as ReplyData};
-ghost use Rattle.armc_commands.specs.Commands.Check.{IsCheckReply, CheckPromise, check_status as check_status_of, first_abstraction as first_abstraction_of, method_of as method_of_settings, report_of as report_of_settings};
+ghost use Rattle.armc_commands.specs.Commands.Check.{IsCheckReply, CheckPromise, check_status as check_status_of, first_abstraction as first_abstraction_of, reported_method as reported_method_of, report_of as report_of_settings};
 
 use crate::reply::Reply;
 use crate::status::Status;
@@ -46,10 +46,10 @@ fn first_abstraction(settings: &Settings) -> FirstAbstraction
 }
 
 // The method that the report names.
-fn method_of(settings: &Settings) -> ReportedMethod
-    ensures { result ≡ method_of_settings settings.now }
+fn reported_method(method: Method) -> ReportedMethod
+    ensures { result ≡ reported_method_of method }
 {
-    match settings.method {
+    match method {
         Method::Predicates => ReportedMethod::Predicates,
         Method::Length => ReportedMethod::Length,
     }
@@ -62,7 +62,7 @@ fn report_of(alloc: Global, settings: &Settings, log: &Log) -> Result<Vec<u8>, A
     if !settings.report {
         return Ok(Vec::new(alloc));
     }
-    report(alloc, method_of(settings), log)
+    report(alloc, reported_method(settings.method), log)
 }
 
 /// The certificate of the search for the system by these settings, with its report where it is asked for. The only error is want of memory.

@@ -12,7 +12,7 @@ use armc_io::Gate;
 use itoa::Buffer;
 use minimise::Canon;
 use protocol_model::System;
-use protocol_search::{FirstAbstraction, search_system};
+use protocol_search::{FirstAbstraction, search_system, verdicts_show};
 use refinement::Verdict;
 use search_history::Log;
 use std::alloc::{AllocError, Global};
@@ -110,4 +110,6 @@ pub fn generate_reply<G: Gate, R: Threads + Sync>(
 /// What `gen` promises: at status 0 the system is safe, and at status 1 it has a bad run. The function does nothing.
 pub fn keeps_generate_promise()
     ensures { (s : SystemData) (number : ℕ) (reply : ReplyData) → IsGenerateReply s number reply → GeneratePromise s reply }
-{}
+{
+    verdicts_show();
+}

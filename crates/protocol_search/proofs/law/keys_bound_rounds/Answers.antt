@@ -1,0 +1,5 @@
+use Rattle.protocol_search.proofs.SystemRounds.{bounded-by-keys}
+use Rattle.protocol_search.proofs.law.keys_bound_rounds.Goals as goal
+
+pub returns : goal.returns
+returns c = bounded-by-keys

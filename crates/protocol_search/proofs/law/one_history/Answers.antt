@@ -1,0 +1,5 @@
+use Rattle.protocol_search.proofs.SystemRounds.{history-once}
+use Rattle.protocol_search.proofs.law.one_history.Goals as goal
+
+pub returns : goal.returns
+returns c = history-once
