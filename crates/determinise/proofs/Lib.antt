@@ -1,4 +1,5 @@
 pub mod Closures
+pub mod Digests
 pub mod Grouping
 pub mod LivePartLemmas
 pub mod MoveLists

@@ -1,3 +1,4 @@
 pub mod Subsets
 pub mod Emptiness
 pub mod LivePart
+pub mod Digest

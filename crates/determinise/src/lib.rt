@@ -5,6 +5,7 @@ mod emptiness;
 mod live_part;
 mod moves;
 mod silent;
+mod state_set;
 mod subset;
 mod subsets;
 

@@ -7,7 +7,7 @@ ghost use Rattle.word_automata.specs.StateSets.{AreStates, AddsState, AddsTarget
 ghost use Rattle.determinise.specs.Subsets.{IsSubsetFrom, ArePlainWhereFalse};
 ghost use Rattle.std.specs.Prelude.{None};
 
-use exploration::StateList;
+use crate::state_set::StateSet;
 use indexmap::IndexSet;
 use std::alloc::{AllocError, Global};
 use word_automata::Nfa;
@@ -19,7 +19,7 @@ pub fn subset_of(
     automaton: &Nfa,
     silent: &[bool],
     from: Vec<usize>,
-) -> Result<StateList, AllocError>
+) -> Result<StateSet, AllocError>
     requires states { AreStates automaton.now from.items }
     requires count { length silent.now ≡ length automaton.now.states }
     requires plain { ArePlainWhereFalse automaton.now silent.now }
@@ -28,7 +28,7 @@ pub fn subset_of(
     if has_flag(silent, &from) {
         return Ok(subset_from(alloc, automaton, silent, &from)?);
     }
-    Ok(StateList::from_vec(from))
+    Ok(StateSet::from_vec(from))
 }
 
 /// Whether one of the states has the flag.
@@ -50,7 +50,7 @@ pub fn subset_from(
     automaton: &Nfa,
     silent: &[bool],
     from: &[usize],
-) -> Result<StateList, AllocError>
+) -> Result<StateSet, AllocError>
     requires states { AreStates automaton.now from.now }
     requires count { length silent.now ≡ length automaton.now.states }
     requires plain { ArePlainWhereFalse automaton.now silent.now }
@@ -59,7 +59,7 @@ pub fn subset_from(
     let set = closure(alloc, automaton, silent, from)?;
     let mut states = Vec::from_slice(alloc, set.as_slice())?;
     states.sort()?;
-    Ok(StateList::from_vec(states))
+    Ok(StateSet::from_vec(states))
 }
 
 /// Whether one of the states accepts.

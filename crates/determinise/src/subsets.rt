@@ -6,8 +6,9 @@ ghost use Rattle.word_automata.specs.Nondeterministic.{Accepts, AcceptsFromAny};
 ghost use Rattle.determinise.specs.Subsets.{IsSubset, ArePlainWhereFalse};
 
 use crate::moves::{end_of_run, ordered_moves, targets};
+use crate::state_set::StateSet;
 use crate::subset::{accepts_some, subset_from, subset_of};
-use exploration::{LanguageSystem, StateList};
+use exploration::LanguageSystem;
 use std::alloc::{AllocError, Global};
 use word_automata::Nfa;
 
@@ -32,7 +33,7 @@ impl<'a> Subsets<'a> {
 }
 
 impl<'a> LanguageSystem for Subsets<'a> {
-    type State = StateList;
+    type State = StateSet;
 
     ghost letter_count = { λ s. s.automaton.now.letters };
 
@@ -46,7 +47,7 @@ impl<'a> LanguageSystem for Subsets<'a> {
         self.automaton.letters()
     }
 
-    fn start(&self, alloc: Global) -> Result<Option<StateList>, AllocError> {
+    fn start(&self, alloc: Global) -> Result<Option<StateSet>, AllocError> {
         let starts = self.automaton.starts();
         if starts.is_empty() {
             return Ok(None);
@@ -54,15 +55,15 @@ impl<'a> LanguageSystem for Subsets<'a> {
         Ok(Some(subset_from(alloc, self.automaton, self.silent, starts)?))
     }
 
-    fn is_accepting(&self, state: &StateList) -> bool {
+    fn is_accepting(&self, state: &StateSet) -> bool {
         accepts_some(self.automaton, state.as_slice())
     }
 
     fn successors(
         &self,
         alloc: Global,
-        state: &StateList,
-    ) -> Result<Vec<(u32, StateList)>, AllocError> {
+        state: &StateSet,
+    ) -> Result<Vec<(u32, StateSet)>, AllocError> {
         let moves = ordered_moves(alloc, self.automaton, state.as_slice())?;
         let mut successors = Vec::new(alloc);
         let mut at = 0;
