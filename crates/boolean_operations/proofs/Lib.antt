@@ -3,6 +3,7 @@ pub mod Complements
 pub mod EdgeTargets
 pub mod Letters
 pub mod MergedPairs
+pub mod NearEdges
 pub mod OptionalStates
 pub mod Order
 pub mod PairWalks

@@ -1,12 +1,10 @@
 -- What the functions of a search keep, call by call.
-use Rattle.std.proofs.Common.{◌≡◌, ◌+◌, ◌<◌, ◌≤◌, ◌⊎◌, ◌↔◌, ℕ, suc, Bool, true, false, not, List, [], ◌∷◌, ◌++◌, Option, None, Some, Contains, get_or, length, reverse, slice_get, if◌then◌else◌, refl, sym, ap, subst, ◌∙◌, inl, inr, arith, true≢false}
+use Rattle.std.proofs.Common.{◌≡◌, ◌+◌, ◌<◌, ◌≤◌, ◌⊎◌, ◌↔◌, ℕ, suc, Bool, false, List, [], ◌∷◌, Option, None, Some, Contains, get_or, length, reverse, slice_get, refl, sym, ap, subst, ◌∙◌, inl, inr, arith}
 use Rattle.std.proofs.lemmas.Bool.{cases_eq, cases_lt}
 use Rattle.std.proofs.lemmas.List.Elements.{Contains-get_or}
 use Rattle.std.proofs.lemmas.List.Sorted.{Contains-permutation, IsPermutation-sym}
 use Rattle.std.proofs.lemmas.Option.{same_Some, slice_get_within, slice_get-get_or}
-use Rattle.std.specs.List.{list_any}
 use Rattle.std.specs.List.Sorted.{IsPermutation, IsNonDecreasingBy}
-use Rattle.indexmap.specs.IndexSet.{insert_key}
 use Rattle.word_automata.proofs.Members.{Contains-none}
 use Rattle.exploration.proofs.Lists.{slice_get-some}
 use Rattle.boolean_operations.specs.Search.{IsReached, IsIn, IsNotAfter, Spells, AreRising, Reached, Done, BeginsAt, AreStepsOf, AreInOrder, IsBounded, AreBefore, Extends, Joins, Gathers, AreFound, AreTaken, AreBounded, AreStepsUpTo}
@@ -128,17 +126,6 @@ module _ {S : Type 0} (P start : S → Type 0) (edge : S → Option ℕ → S �
         let same : s ≡ t = same_Some s t (sym still ∙ here) in
         let p = place_of targets r (gathers.all r (subst (λ y. edge y None r) (sym same) goes)) in
         there p.0 r (omega (arith, p.1)) p.2))
-
--- a state that was found before is at some place
-pub inserted_old : {S : Type 0} (eq : S → S → Bool) → ((x y : S) → eq x y ≡ true → x ≡ y) → (old new : List S) (s : S) (i : ℕ) → false ≡ not (list_any (eq s) old) → new ≡ insert_key eq old s
-    → (k : S) × (slice_get new i ≡ Some k) × (eq s k ≡ true) → (new ≡ old) × ((j : ℕ) × (slice_get old j ≡ Some s))
-inserted_old eq same old new s i old_one is (k, at, equal) = by (list_any (eq s) old) refl old_one
-  where
-    by : (b : Bool) → list_any (eq s) old ≡ b → false ≡ not b → (new ≡ old) × ((j : ℕ) × (slice_get old j ≡ Some s))
-    by false e f = absurd (true≢false (sym f))
-    by true e f =
-        let kept : new ≡ old = is ∙ ap (λ b. if b then old else old ++ s ∷ []) e in
-        (kept, (i, subst (λ xs. slice_get xs i ≡ Some s) kept (at ∙ ap Some (sym (same s k equal)))))
 
 -- a sort by letters
 pub in_order_sorted : {S : Type 0} (pending : List (ℕ × S)) → IsNonDecreasingBy (λ (step : ℕ × S). step.0) pending → AreInOrder pending

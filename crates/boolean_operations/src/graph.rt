@@ -4,14 +4,13 @@ ghost use Rattle.std.specs.Prelude.{◌≡◌, ◌↔◌, ℕ, Bool, List, Optio
 ghost use Rattle.boolean_operations.specs.Search.{Gathers};
 
 use std::alloc::{AllocError, Global};
-use std::hash::Hash;
 
 /// A graph whose edges have a letter or none, with starts and goals, and an `==` of states that is equality.
 ///
 /// Contracts see which states may be handed in, those with the property `is_state`, which are starts and which goals, and the
 /// edges.
 pub trait Graph {
-    type State: Copy + Eq + Hash + Drop;
+    type State: Copy + Eq + Drop;
 
     ghost is_state: { Self → Self.State → Type 0 };
 
@@ -49,6 +48,12 @@ pub trait Graph {
         requires { is_state self.now state.now }
         ensures { OnOk result (Gathers (λ step. is_state self.now step.1) (λ step. edge self.now state.now (Some step.0) step.1)
             steps.old.items steps.new.items) };
+
+    /// A number above all codes, so small as can be told.
+    fn codes(&self) -> usize;
+
+    /// The code of the state. States that share a code are told apart all the same, but cost more.
+    fn code(&self, state: &Self::State) -> usize;
 
     ghost equality: { (x y : Self.State) → Self.State.eq x y ≡ true → x ≡ y };
 }

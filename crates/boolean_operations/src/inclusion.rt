@@ -10,7 +10,8 @@ ghost use Rattle.boolean_operations.specs.PairGraph.{IsPair, IsStartPair, PairEd
 ghost use Rattle.boolean_operations.specs.Equality.{same_left_pairs};
 
 use crate::graph::Graph;
-use crate::optional_states::{accepts_at, follow, start_of};
+use crate::merged_edges::seek;
+use crate::optional_states::{accepts_at, edges_at, start_of};
 use crate::search::least_word_to_goal;
 use std::alloc::{AllocError, Global};
 use word_automata::{Dfa, Nfa};
@@ -66,12 +67,30 @@ impl Graph for PairGraph<'_> {
         steps: &mut Vec<(u32, LeftPair)>,
     ) -> Result<(), AllocError> {
         let (left, right) = *state;
+        let edges = edges_at(self.right, right);
+        let mut near = 0;
         'edges: for &(letter, to) in self.left.edges_from(left) {
             if let Some(letter) = letter {
-                steps.push((letter, (to, follow(self.right, right, letter))))?;
+                let (target, next) = seek(edges, near, letter);
+                steps.push((letter, (to, target)))?;
+                near = next;
             }
         }
         Ok(())
+    }
+
+    fn codes(&self) -> usize {
+        let width = self.right.states() + 1;
+        self.left.states().saturating_mul(width)
+    }
+
+    fn code(&self, state: &LeftPair) -> usize {
+        let width = self.right.states() + 1;
+        let right = match state.1 {
+            Some(right) => right,
+            None => self.right.states(),
+        };
+        state.0.wrapping_mul(width).wrapping_add(right)
     }
 
     ghost equality = { same_left_pairs };

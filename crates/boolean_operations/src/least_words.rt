@@ -52,6 +52,14 @@ impl Graph for StateGraph<'_> {
         Ok(())
     }
 
+    fn codes(&self) -> usize {
+        self.automaton.states()
+    }
+
+    fn code(&self, state: &usize) -> usize {
+        *state
+    }
+
     ghost equality = { same_numbers };
 }
 

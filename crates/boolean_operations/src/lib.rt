@@ -3,11 +3,13 @@
 
 mod common_words;
 mod complementation;
+mod found_states;
 mod graph;
 mod inclusion;
 mod least_words;
 mod merged_edges;
 mod optional_states;
+mod place_table;
 mod products;
 mod search;
 

@@ -1,7 +1,8 @@
 //! Sorted lists of edges that are gone through letter by letter.
 
-ghost use Rattle.std.specs.Prelude.{◌≡◌, ◌<◌, ◌⊎◌, length};
-ghost use Rattle.word_automata.specs.Automaton.{HasIncreasingLetters};
+ghost use Rattle.std.specs.Prelude.{◌≡◌, ◌-◌, ◌<◌, ◌≤◌, ◌⊎◌, length, IfOk, IfErr, IsTrue};
+ghost use Rattle.word_automata.specs.Automaton.{HasIncreasingLetters, find_target};
+ghost use Rattle.word_automata.specs.EdgeList.{letter_at, IsEdgeAt, IsGapFor};
 ghost use Rattle.boolean_operations.specs.MergedEdges.{IsPassed, IsTaken, IsLeastLetter};
 
 /// The least letter of the edges from the place `i` of the first list and from the place `j` of the second.
@@ -31,4 +32,68 @@ pub(crate) fn take(edges: &[(u32, usize)], at: usize, letter: u32) -> (Option<us
         return (Some(edges[at].1), at + 1);
     }
     (None, at)
+}
+
+/// The target of the edge with the letter, if there is one, and the place to look at for a letter that comes next. The place `near` is
+/// looked at first, so that sorted letters take constant time each where most of them have an edge.
+pub(crate) fn seek(edges: &[(u32, usize)], near: usize, letter: u32) -> (Option<usize>, usize)
+    requires { HasIncreasingLetters edges.now }
+    ensures { result.0 ≡ find_target edges.now letter }
+{
+    match search_near(edges, near, letter) {
+        Ok(at) => (Some(edges[at].1), at + 1),
+        Err(at) => (None, at),
+    }
+}
+
+/// The place of the edge with the letter, or else the one where it would go. The place `near` is looked at first, then the one that
+/// the edge has where there is an edge for each letter, and only then are the edges searched by halves.
+fn search_near(edges: &[(u32, usize)], near: usize, letter: u32) -> Result<usize, usize>
+    requires { HasIncreasingLetters edges.now }
+    ensures found { IfOk result (IsEdgeAt edges.now letter) }
+    ensures absent { IfErr result (IsGapFor edges.now letter) }
+{
+    if is_edge_at(edges, near, letter) {
+        return Ok(near);
+    }
+    if is_edge_at(edges, letter as usize, letter) {
+        return Ok(letter as usize);
+    }
+    if is_gap_for(edges, near, letter) {
+        return Err(near);
+    }
+    edges.binary_search_by_key(&letter, |&(letter, _)| letter)
+}
+
+/// Whether the edge at the place has the letter.
+fn is_edge_at(edges: &[(u32, usize)], at: usize, letter: u32) -> bool
+    ensures { IsTrue result → IsEdgeAt edges.now letter at }
+{
+    at < edges.len() && edges[at].0 == letter
+}
+
+/// Whether an edge with the letter would go at the place, and there is none.
+fn is_gap_for(edges: &[(u32, usize)], at: usize, letter: u32) -> bool
+    requires { HasIncreasingLetters edges.now }
+    ensures { IsTrue result → IsGapFor edges.now letter at }
+{
+    if at > edges.len() {
+        return false;
+    }
+    ends_below(edges, at, letter) && begins_above(edges, at, letter)
+}
+
+/// Whether the edge before the place, if there is one, has a smaller letter.
+fn ends_below(edges: &[(u32, usize)], at: usize, letter: u32) -> bool
+    requires { at ≤ length edges.now }
+    ensures { IsTrue result → 0 < at → letter_at edges.now (at - 1) < letter }
+{
+    at == 0 || edges[at - 1].0 < letter
+}
+
+/// Whether the edge at the place, if there is one, has a greater letter.
+fn begins_above(edges: &[(u32, usize)], at: usize, letter: u32) -> bool
+    ensures { IsTrue result → at < length edges.now → letter < letter_at edges.now at }
+{
+    at >= edges.len() || letter < edges[at].0
 }

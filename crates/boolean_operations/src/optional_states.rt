@@ -2,7 +2,7 @@
 
 ghost use Rattle.std.specs.Prelude.{◌≡◌, ◌<◌, length};
 ghost use Rattle.word_automata.specs.Automaton.{Automaton, IsValid};
-ghost use Rattle.boolean_operations.specs.OptionalStates.{start_of, follow, accepts_at, edges_at, IsStateOrNone};
+ghost use Rattle.boolean_operations.specs.OptionalStates.{start_of, accepts_at, edges_at, IsStateOrNone};
 
 use word_automata::Dfa;
 
@@ -16,18 +16,6 @@ pub(crate) fn start_of(automaton: &Dfa) -> Option<usize>
         None
     } else {
         Some(0)
-    }
-}
-
-/// Where the letter leads from the state, if anywhere.
-pub(crate) fn follow(automaton: &Dfa, state: Option<usize>, letter: u32) -> Option<usize>
-    requires { IsStateOrNone automaton.now state }
-    ensures value { result ≡ follow automaton.now state letter }
-    ensures state { IsStateOrNone automaton.now result }
-{
-    match state {
-        Some(state) => automaton.target(state, letter),
-        None => None,
     }
 }
 

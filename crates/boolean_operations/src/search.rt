@@ -11,10 +11,9 @@ ghost use Rattle.std.specs.List.Sorted.{IsPermutation};
 ghost use Rattle.sequence.specs.WordOrder.{IsLeastWord};
 ghost use Rattle.boolean_operations.specs.Search.{IsFound, IsIn, IsNotAfter, Spells, AreSteps, Reached, Done, BeginsAt, AreRising, AreStepsOf, IsGathered, AreInOrder, IsBounded, AreBefore, Extends, Joins, HasLastStep};
 
+use crate::found_states::FoundStates;
 use crate::graph::Graph;
-use indexmap::IndexSet;
 use std::alloc::{AllocError, Global};
-use std::hash::Hash;
 
 /// The least word that leads from a start to a goal, or `None` where no word does.
 pub fn least_word_to_goal<T: Graph>(
@@ -25,7 +24,7 @@ pub fn least_word_to_goal<T: Graph>(
         ((w : List ℕ) → IsFound (T.is_start graph.now) (T.edge graph.now) (T.goal graph.now) w → ⊥)
         (λ w. IsLeastWord (IsFound (T.is_start graph.now) (T.edge graph.now) (T.goal graph.now)) w.items)) }
 {
-    let mut found = IndexSet::new(alloc);
+    let mut found = FoundStates::new(alloc, graph.codes())?;
     let mut groups = Vec::new(alloc);
     begin(alloc, graph, &mut found, &mut groups)?;
     let mut steps = Vec::new(alloc);
@@ -57,37 +56,37 @@ pub fn least_word_to_goal<T: Graph>(
 fn begin<T: Graph>(
     alloc: Global,
     graph: &T,
-    found: &mut IndexSet<T::State>,
+    found: &mut FoundStates<T::State>,
     groups: &mut Vec<usize>,
 ) -> Result<(), AllocError>
-    requires none { found.old.keys ≡ [] }
+    requires none { found.old.states.items ≡ [] }
     requires no_groups { groups.old.items ≡ [] }
     ensures reached { OnOk result (Reached (T.is_state graph.now) (T.is_start graph.now) (T.edge graph.now)
-        found.new.keys groups.new.items [] (length found.new.keys)) }
+        found.new.states.items groups.new.items [] (length found.new.states.items)) }
     ensures done { OnOk result (Done (T.is_start graph.now) (T.edge graph.now) (T.goal graph.now)
-        found.new.keys groups.new.items [] 0) }
+        found.new.states.items groups.new.items [] 0) }
 {
     let starts = graph.starts(alloc)?;
     'starts: for &start in &starts {
         let closed = found.len();
-        join(found, groups, start, 0)?;
+        join(graph, found, groups, start, 0)?;
         close(alloc, graph, found, groups, &[], closed)?;
     }
     Ok(())
 }
 
 /// Puts the state into the group, if it is new.
-fn join<S: Copy + Eq + Hash + Drop>(
-    found: &mut IndexSet<S>,
+fn join<T: Graph>(
+    graph: &T,
+    found: &mut FoundStates<T::State>,
     groups: &mut Vec<usize>,
-    state: S,
+    state: T::State,
     group: usize,
 ) -> Result<(), AllocError>
-    requires { (x y : S) → S.eq x y ≡ true → x ≡ y }
-    ensures { OnOk result (Joins found.old.keys found.new.keys groups.old.items groups.new.items state group) }
+    ensures { OnOk result (Joins found.old.states.items found.new.states.items groups.old.items groups.new.items state group) }
 {
-    let (_, is_new) = found.insert_full(state)?;
-    if is_new {
+    if found.look_up(graph.code(&state), &state)?.is_none() {
+        found.push(state)?;
         groups.push(group)?;
     }
     Ok(())
@@ -97,18 +96,18 @@ fn join<S: Copy + Eq + Hash + Drop>(
 fn close<T: Graph>(
     alloc: Global,
     graph: &T,
-    found: &mut IndexSet<T::State>,
+    found: &mut FoundStates<T::State>,
     groups: &mut Vec<usize>,
     steps: &[(usize, u32)],
     from: usize,
 ) -> Result<(), AllocError>
-    requires within { from ≤ length found.old.keys }
+    requires within { from ≤ length found.old.states.items }
     requires before { Reached (T.is_state graph.now) (T.is_start graph.now) (T.edge graph.now)
-        found.old.keys groups.old.items steps.now from }
+        found.old.states.items groups.old.items steps.now from }
     ensures reached { OnOk result (Reached (T.is_state graph.now) (T.is_start graph.now) (T.edge graph.now)
-        found.new.keys groups.new.items steps.now (length found.new.keys)) }
-    ensures extends { OnOk result (Extends found.old.keys groups.old.items steps.now
-        found.new.keys groups.new.items steps.now (length steps.now)) }
+        found.new.states.items groups.new.items steps.now (length found.new.states.items)) }
+    ensures extends { OnOk result (Extends found.old.states.items groups.old.items steps.now
+        found.new.states.items groups.new.items steps.now (length steps.now)) }
 {
     let mut place = from;
     'states: while place < found.len() {
@@ -122,22 +121,22 @@ fn close<T: Graph>(
 fn close_state<T: Graph>(
     alloc: Global,
     graph: &T,
-    found: &mut IndexSet<T::State>,
+    found: &mut FoundStates<T::State>,
     groups: &mut Vec<usize>,
     steps: &[(usize, u32)],
     place: usize,
 ) -> Result<(), AllocError>
-    requires within { place < length found.old.keys }
+    requires within { place < length found.old.states.items }
     requires before { Reached (T.is_state graph.now) (T.is_start graph.now) (T.edge graph.now)
-        found.old.keys groups.old.items steps.now place }
+        found.old.states.items groups.old.items steps.now place }
     ensures reached { OnOk result (Reached (T.is_state graph.now) (T.is_start graph.now) (T.edge graph.now)
-        found.new.keys groups.new.items steps.now (place + 1)) }
-    ensures extends { OnOk result (Extends found.old.keys groups.old.items steps.now
-        found.new.keys groups.new.items steps.now (length steps.now)) }
+        found.new.states.items groups.new.items steps.now (place + 1)) }
+    ensures extends { OnOk result (Extends found.old.states.items groups.old.items steps.now
+        found.new.states.items groups.new.items steps.now (length steps.now)) }
 {
-    let targets = graph.silent_targets(alloc, &found.as_slice()[place])?;
+    let targets = graph.silent_targets(alloc, &found.states[place])?;
     'targets: for &target in &targets {
-        join(found, groups, target, steps.len())?;
+        join(graph, found, groups, target, steps.len())?;
     }
     Ok(())
 }
@@ -146,23 +145,23 @@ fn close_state<T: Graph>(
 /// where one of these states is a goal.
 fn gather<T: Graph>(
     graph: &T,
-    found: &IndexSet<T::State>,
+    found: &FoundStates<T::State>,
     groups: &[usize],
     from: usize,
     group: usize,
     pending: &mut Vec<(u32, T::State)>,
 ) -> Result<Option<usize>, AllocError>
     requires none { pending.old.items ≡ [] }
-    requires count { length groups.now ≡ length found.now.keys }
-    requires states { (i : ℕ) (s : T.State) → slice_get found.now.keys i ≡ Some s → T.is_state graph.now s }
+    requires count { length groups.now ≡ length found.now.states.items }
+    requires states { (i : ℕ) (s : T.State) → slice_get found.now.states.items i ≡ Some s → T.is_state graph.now s }
     requires rising { AreRising groups.now }
     requires begins { BeginsAt groups.now from group }
     ensures { IfOk result (IsGathered (T.is_state graph.now) (T.edge graph.now) (T.goal graph.now)
-        found.now.keys groups.now group pending.new.items) }
+        found.now.states.items groups.now group pending.new.items) }
 {
     let mut place = from;
     'states: while place < groups.len() && groups[place] == group {
-        let state = &found.as_slice()[place];
+        let state = &found.states[place];
         if graph.is_goal(state) {
             return Ok(None);
         }
@@ -185,68 +184,77 @@ fn sort<S: Drop>(pending: &mut Vec<(u32, S)>) -> Result<(), AllocError>
 fn expand<T: Graph>(
     alloc: Global,
     graph: &T,
-    found: &mut IndexSet<T::State>,
+    found: &mut FoundStates<T::State>,
     groups: &mut Vec<usize>,
     steps: &mut Vec<(usize, u32)>,
     from: usize,
     pending: &[(u32, T::State)],
 ) -> Result<(), AllocError>
     requires reached { Reached (T.is_state graph.now) (T.is_start graph.now) (T.edge graph.now)
-        found.old.keys groups.old.items steps.old.items (length found.old.keys) }
+        found.old.states.items groups.old.items steps.old.items (length found.old.states.items) }
     requires done { Done (T.is_start graph.now) (T.edge graph.now) (T.goal graph.now)
-        found.old.keys groups.old.items steps.old.items from }
+        found.old.states.items groups.old.items steps.old.items from }
     requires within { from ≤ length steps.old.items }
     requires before { AreBefore steps.old.items from }
     requires pending { AreStepsOf (T.is_state graph.now) (T.edge graph.now) (T.goal graph.now)
-        found.old.keys groups.old.items from pending.now }
+        found.old.states.items groups.old.items from pending.now }
     requires in_order { AreInOrder pending.now }
     ensures reached { OnOk result (Reached (T.is_state graph.now) (T.is_start graph.now) (T.edge graph.now)
-        found.new.keys groups.new.items steps.new.items (length found.new.keys)) }
+        found.new.states.items groups.new.items steps.new.items (length found.new.states.items)) }
     ensures done { OnOk result (Done (T.is_start graph.now) (T.edge graph.now) (T.goal graph.now)
-        found.new.keys groups.new.items steps.new.items (from + 1)) }
+        found.new.states.items groups.new.items steps.new.items (from + 1)) }
     ensures before { OnOk result (AreBefore steps.new.items (from + 1)) }
-    ensures extends { OnOk result (Extends found.old.keys groups.old.items steps.old.items
-        found.new.keys groups.new.items steps.new.items (from + 1)) }
+    ensures extends { OnOk result (Extends found.old.states.items groups.old.items steps.old.items
+        found.new.states.items groups.new.items steps.new.items (from + 1)) }
 {
+    let mut last = 0;
     'steps: for &(letter, state) in pending {
-        step(alloc, graph, found, groups, steps, from, letter, state)?;
+        last = step(
+            alloc, graph, found, groups, steps, from, letter, state, last,
+        )?;
     }
     Ok(())
 }
 
 /// Takes a step from a state of the group: finds the state that it leads to, if it is new, and what edges without a letter lead to
-/// from there.
+/// from there. It gives the place of the state, and looks at the place `last` first: neighbouring letters often lead to one state.
 fn step<T: Graph>(
     alloc: Global,
     graph: &T,
-    found: &mut IndexSet<T::State>,
+    found: &mut FoundStates<T::State>,
     groups: &mut Vec<usize>,
     steps: &mut Vec<(usize, u32)>,
     from: usize,
     letter: u32,
     state: T::State,
-) -> Result<(), AllocError>
+    last: usize,
+) -> Result<usize, AllocError>
     requires reached { Reached (T.is_state graph.now) (T.is_start graph.now) (T.edge graph.now)
-        found.old.keys groups.old.items steps.old.items (length found.old.keys) }
+        found.old.states.items groups.old.items steps.old.items (length found.old.states.items) }
     requires within { from ≤ length steps.old.items }
     requires bounded { IsBounded steps.old.items from letter }
     requires is_state { T.is_state graph.now state }
-    requires source { (s : T.State) × IsIn found.old.keys groups.old.items s from × T.edge graph.now s (Some letter) state }
+    requires source { (s : T.State) × IsIn found.old.states.items groups.old.items s from × T.edge graph.now s (Some letter) state }
     ensures reached { OnOk result (Reached (T.is_state graph.now) (T.is_start graph.now) (T.edge graph.now)
-        found.new.keys groups.new.items steps.new.items (length found.new.keys)) }
+        found.new.states.items groups.new.items steps.new.items (length found.new.states.items)) }
     ensures bounded { OnOk result (IsBounded steps.new.items from letter) }
-    ensures extends { OnOk result (Extends found.old.keys groups.old.items steps.old.items
-        found.new.keys groups.new.items steps.new.items (from + 1)) }
-    ensures taken { OnOk result ((h : ℕ) × IsIn found.new.keys groups.new.items state h × IsNotAfter steps.new.items h from letter) }
+    ensures extends { OnOk result (Extends found.old.states.items groups.old.items steps.old.items
+        found.new.states.items groups.new.items steps.new.items (from + 1)) }
+    ensures taken { OnOk result ((h : ℕ) × IsIn found.new.states.items groups.new.items state h
+        × IsNotAfter steps.new.items h from letter) }
 {
-    let closed = found.len();
-    let (_, is_new) = found.insert_full(state)?;
-    if is_new {
-        add_step(steps, from, letter)?;
-        groups.push(steps.len())?;
-        close(alloc, graph, found, groups, steps, closed)?;
+    if found.holds(last, &state) {
+        return Ok(last);
     }
-    Ok(())
+    if let Some(place) = found.look_up(graph.code(&state), &state)? {
+        return Ok(place);
+    }
+    let closed = found.len();
+    found.push(state)?;
+    add_step(steps, from, letter)?;
+    groups.push(steps.len())?;
+    close(alloc, graph, found, groups, steps, closed)?;
+    Ok(closed)
 }
 
 /// Adds the step as the last, unless it is.

@@ -30,7 +30,8 @@ module _ (m : Automaton) where
   run_from-append p [] w r h = ap (λ o. elim o as (λ o. Option ℕ) [ None ↦ None | Some x ↦ run_from m x w ]) h
   run_from-append p (b ∷ u) w r h = go (λ s. run_from-append s u w r) (target m p b) refl h
     where
-      go : ((s : ℕ) → run_from m s u ≡ Some r → run_from m s (u ++ w) ≡ run_from m r w) → (o : Option ℕ) → target m p b ≡ o → (elim o as (λ o. Option ℕ) [ None ↦ None | Some x ↦ run_from m x u ]) ≡ Some r
+      go : ((s : ℕ) → run_from m s u ≡ Some r → run_from m s (u ++ w) ≡ run_from m r w)
+          → (o : Option ℕ) → target m p b ≡ o → (elim o as (λ o. Option ℕ) [ None ↦ None | Some x ↦ run_from m x u ]) ≡ Some r
           → run_from m p (b ∷ (u ++ w)) ≡ run_from m r w
       go again None e k = cc
       go again (Some s) e k = ap (λ o. elim o as (λ o. Option ℕ) [ None ↦ None | Some x ↦ run_from m x (u ++ w) ]) e ∙ again s k
@@ -40,7 +41,8 @@ module _ (m : Automaton) where
   accepts_from-append p [] w r h = ap (λ o. elim o as (λ o. Bool) [ None ↦ false | Some x ↦ accepts_from m x w ]) h
   accepts_from-append p (b ∷ u) w r h = go (λ s. accepts_from-append s u w r) (target m p b) refl h
     where
-      go : ((s : ℕ) → run_from m s u ≡ Some r → accepts_from m s (u ++ w) ≡ accepts_from m r w) → (o : Option ℕ) → target m p b ≡ o → (elim o as (λ o. Option ℕ) [ None ↦ None | Some x ↦ run_from m x u ]) ≡ Some r
+      go : ((s : ℕ) → run_from m s u ≡ Some r → accepts_from m s (u ++ w) ≡ accepts_from m r w)
+          → (o : Option ℕ) → target m p b ≡ o → (elim o as (λ o. Option ℕ) [ None ↦ None | Some x ↦ run_from m x u ]) ≡ Some r
           → accepts_from m p (b ∷ (u ++ w)) ≡ accepts_from m r w
       go again None e k = cc
       go again (Some s) e k = ap (λ o. elim o as (λ o. Bool) [ None ↦ false | Some x ↦ accepts_from m x (u ++ w) ]) e ∙ again s k
@@ -50,7 +52,8 @@ module _ (m : Automaton) where
   run_from-accepted p [] w h = (p, refl)
   run_from-accepted p (b ∷ u) w h = go (λ s. run_from-accepted s u w) (target m p b) refl h
     where
-      go : ((s : ℕ) → IsTrue (accepts_from m s (u ++ w)) → (r : ℕ) × (run_from m s u ≡ Some r)) → (o : Option ℕ) → target m p b ≡ o → IsTrue (elim o as (λ o. Bool) [ None ↦ false | Some x ↦ accepts_from m x (u ++ w) ])
+      go : ((s : ℕ) → IsTrue (accepts_from m s (u ++ w)) → (r : ℕ) × (run_from m s u ≡ Some r))
+          → (o : Option ℕ) → target m p b ≡ o → IsTrue (elim o as (λ o. Bool) [ None ↦ false | Some x ↦ accepts_from m x (u ++ w) ])
           → (r : ℕ) × (run_from m p (b ∷ u) ≡ Some r)
       go again None e k = absurd (true≢false (sym k))
       go again (Some s) e k =

@@ -102,11 +102,18 @@ module _ {S : Type 0} (letters : ℕ) (accepted : List ℕ → Type 0) (language
     done = λ q s l h. absurd (omega arith);
     current = λ a. tt;
     later = λ q a l. refl;
-    firsts = record { first = λ q. (0, 0); edge = λ q h l. absurd (omega arith); earlier = λ q h l. absurd (omega arith); least = λ q r b h l e. absurd (omega arith); ordered = λ q r h k l. absurd (omega arith) };
+    firsts = record {
+      first = λ q. (0, 0);
+      edge = λ q h l. absurd (omega arith);
+      earlier = λ q h l. absurd (omega arith);
+      least = λ q r b h l e. absurd (omega arith);
+      ordered = λ q r h k l. absurd (omega arith);
+    };
   }
 
   -- with the start state alone
-  pub begun_with : (s : S) (flag : Bool) → StartsWith accepted language (Some s) → P s → (IsTrue flag ↔ language s []) → Explored letters accepted language P (s ∷ []) (with_state (empty_automaton letters) flag) 0 []
+  pub begun_with : (s : S) (flag : Bool) → StartsWith accepted language (Some s) → P s → (IsTrue flag ↔ language s [])
+      → Explored letters accepted language P (s ∷ []) (with_state (empty_automaton letters) flag) 0 []
   begun_with s flag start valid flag_is = record {
     count = refl;
     same_letters = refl;
@@ -117,7 +124,13 @@ module _ {S : Type 0} (letters : ℕ) (accepted : List ℕ → Type 0) (language
     done = λ q x l h. absurd (omega arith);
     current = λ a. tt;
     later = later;
-    firsts = record { first = λ q. (0, 0); edge = λ q h l. absurd (omega arith); earlier = λ q h l. absurd (omega arith); least = λ q r b h l e. absurd (omega arith); ordered = λ q r h k l. absurd (omega arith) };
+    firsts = record {
+      first = λ q. (0, 0);
+      edge = λ q h l. absurd (omega arith);
+      earlier = λ q h l. absurd (omega arith);
+      least = λ q r b h l e. absurd (omega arith);
+      ordered = λ q r h k l. absurd (omega arith);
+    };
   }
     where
       states : (q : ℕ) (x : S) → slice_get (s ∷ []) q ≡ Some x → P x
@@ -270,7 +283,8 @@ module _ {S : Type 0} (letters : ℕ) (accepted : List ℕ → Type 0) (language
           distinct p q x (inr h) (inl k) = absurd (absent q (k ∙ ap Some (sym h.1)))
           distinct p q x (inr h) (inr k) = h.0 ∙ sym k.0
 
-          accepting : (q : ℕ) (x : S) → (slice_get found q ≡ Some x) ⊎ ((q ≡ length found) × (s ≡ x)) → IsTrue (is_accepting (m.states ++ record { accepting = flag; edges = [] } ∷ []) q) ↔ language x []
+          accepting : (q : ℕ) (x : S) → (slice_get found q ≡ Some x) ⊎ ((q ≡ length found) × (s ≡ x))
+              → IsTrue (is_accepting (m.states ++ record { accepting = flag; edges = [] } ∷ []) q) ↔ language x []
           accepting q x (inl h) =
               subst (λ b. IsTrue b ↔ language x []) (sym (is_accepting-push_below m.states flag q (let l = slice_get_within found q x h in let c = e.count in omega arith))) (e.accepting q x h)
           accepting q x (inr h) =
@@ -295,7 +309,8 @@ module _ {S : Type 0} (letters : ℕ) (accepted : List ℕ → Type 0) (language
   begun_numbered old new before after s number none empty start valid (inr k) =
       let found : new ≡ s ∷ [] = k.found ∙ ap (λ ks. ks ++ s ∷ []) none in
       let built : after ≡ with_state (empty_automaton letters) k.flag = k.automaton ∙ ap (λ m. with_state m k.flag) empty in
-      subst (λ ks. Explored letters accepted language P ks after 0 []) (sym found) (subst (λ m. Explored letters accepted language P (s ∷ []) m 0 []) (sym built) (begun_with letters accepted language P s k.flag start valid k.flag_is))
+      subst (λ ks. Explored letters accepted language P ks after 0 []) (sym found)
+      (subst (λ m. Explored letters accepted language P (s ∷ []) m 0 []) (sym built) (begun_with letters accepted language P s k.flag start valid k.flag_is))
 
   module _ (found : List S) (m : Automaton) (next : ℕ) (pairs rest : List (ℕ × S)) (letter : ℕ) (s : S) (e : Expands letters accepted language P found m next pairs ((letter, s) ∷ rest))
       (new : List S) (after : Automaton) (number : ℕ) (numbers : Numbers language found new m after s number) where
@@ -352,7 +367,8 @@ module _ {S : Type 0} (letters : ℕ) (accepted : List ℕ → Type 0) (language
         by (inr k) = subst (λ ks. slice_get ks next ≡ Some e.state) (sym k.found) (slice_get-append found (s ∷ []) next e.state e.at)
 
   -- all successors are done
-  pub expanded_all : (found : List S) (m : Automaton) (next : ℕ) (pairs : List (ℕ × S)) → Expands letters accepted language P found m next pairs [] → Explored letters accepted language P found m (suc next) []
+  pub expanded_all : (found : List S) (m : Automaton) (next : ℕ) (pairs : List (ℕ × S))
+      → Expands letters accepted language P found m next pairs [] → Explored letters accepted language P found m (suc next) []
   expanded_all found m next pairs e =
       advanced letters accepted language P found m next pairs e.explored (slice_get_within found next e.state e.at) e.state e.at
       (subst (AreResiduals letters language P e.state) (append-nil pairs) e.residuals)

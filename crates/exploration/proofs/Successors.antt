@@ -61,7 +61,8 @@ module _ {R S : Type 0} (f : ℕ → R → Option S) where
 
       none : edge.0 ≡ a → look_up (filter_map moved edges) a ≡ None
       none same = look_up-beneath (filter_map moved edges) a
-          (All-moved (λ (pair : ℕ × S). a < pair.0) edges (All-weaker (λ (x : ℕ × R). edge.0 < x.0) (λ (x : ℕ × R). (s : S) → f x.0 x.1 ≡ Some s → a < x.0) (λ x l s e. subst (λ y. y < x.0) same l) edges h.0))
+          (All-moved (λ (pair : ℕ × S). a < pair.0) edges (All-weaker (λ (x : ℕ × R). edge.0 < x.0)
+          (λ (x : ℕ × R). (s : S) → f x.0 x.1 ≡ Some s → a < x.0) (λ x l s e. subst (λ y. y < x.0) same l) edges h.0))
 
       by : (o : Option S) → f edge.0 edge.1 ≡ o → look_up (filter_map moved edges) a ≡ option_and_then (f a) (look_up edges a) → (edge.0 ≡ a) ⊎ (edge.0 ≡ a → ⊥)
           → look_up (filter_map moved (edge ∷ edges)) a ≡ option_and_then (f a) (look_up (edge ∷ edges) a)

@@ -1,6 +1,6 @@
 //! The construction of an automaton from a transition system, breadth first.
 
-ghost use Rattle.std.specs.Prelude.{◌≡◌, ◌↔◌, ◌<◌, ◌+◌, ℕ, List, [], length, IsTrue, IfOk, OnOk};
+ghost use Rattle.std.specs.Prelude.{◌≡◌, ◌↔◌, ◌<◌, ◌+◌, ℕ, List, [], true, length, slice_get, Some, IsTrue, IfOk, OnOk};
 ghost use Rattle.word_automata.specs.Automaton.{accepts, IsValid};
 ghost use Rattle.word_automata.specs.Building.{empty_automaton};
 ghost use Rattle.exploration.specs.System.{accepts_by};
@@ -8,10 +8,12 @@ ghost use Rattle.exploration.specs.Numbering.{IsBreadthFirst, StandsFor, StandsF
 ghost use Rattle.exploration.specs.Worklist.{Explored, Numbers};
 
 use crate::language_system::LanguageSystem;
+use crate::place_table::PlaceTable;
 use crate::stepwise::Stepwise;
 use crate::transition_system::TransitionSystem;
 use indexmap::IndexSet;
 use std::alloc::{AllocError, Global};
+use std::hash::Hash;
 use word_automata::{Dfa, DfaBuilder};
 
 /// The automaton of the states of the system that are reached from its start state, with the same language from each. States are
@@ -36,11 +38,12 @@ pub fn explore_languages<T: LanguageSystem>(alloc: Global, system: &T) -> Result
     ensures states { IfOk result (StandsForLanguages (T.language system.now) (T.is_state system.now)) }
 {
     let mut found = IndexSet::new(alloc);
+    let mut places = PlaceTable::new(alloc, system.codes())?;
     let mut builder = DfaBuilder::new(alloc, system.letters());
-    begin(alloc, system, &mut found, &mut builder)?;
+    begin(alloc, system, &mut found, &mut places, &mut builder)?;
     let mut next = 0;
     'states: while next < builder.states() {
-        expand(alloc, system, &mut found, &mut builder, next)?;
+        expand(alloc, system, &mut found, &mut places, &mut builder, next)?;
         next += 1;
     }
     Ok(builder.finish())
@@ -51,6 +54,7 @@ fn begin<T: LanguageSystem>(
     alloc: Global,
     system: &T,
     found: &mut IndexSet<T::State>,
+    places: &mut PlaceTable,
     builder: &mut DfaBuilder,
 ) -> Result<(), AllocError>
     requires none { found.old.keys ≡ [] }
@@ -60,7 +64,7 @@ fn begin<T: LanguageSystem>(
 {
     match system.start(alloc)? {
         Some(start) => {
-            number(system, found, builder, start, 0)?;
+            number(system, found, places, builder, start, 0)?;
             Ok(())
         }
         None => Ok(()),
@@ -72,6 +76,7 @@ fn expand<T: LanguageSystem>(
     alloc: Global,
     system: &T,
     found: &mut IndexSet<T::State>,
+    places: &mut PlaceTable,
     builder: &mut DfaBuilder,
     from: usize,
 ) -> Result<(), AllocError>
@@ -84,18 +89,19 @@ fn expand<T: LanguageSystem>(
     let successors = system.successors(alloc, &found.as_slice()[from])?;
     let mut last = from;
     'successors: for (letter, state) in successors {
-        let to = number(system, found, builder, state, last)?;
+        let to = number(system, found, places, builder, state, last)?;
         builder.add_edge(from, letter, to)?;
         last = to;
     }
     Ok(())
 }
 
-/// The number of the state, which is a new one where it was not found before. The state with the number `last` is looked at first:
-/// neighbouring letters often lead to one state, and then nothing is hashed.
+/// The number of the state, which is a new one where it was not found before. The state with the number `last` is looked at first,
+/// since neighbouring letters often lead to one state, and then the place that the table has. Only then is the state hashed.
 fn number<T: LanguageSystem>(
     system: &T,
     found: &mut IndexSet<T::State>,
+    places: &mut PlaceTable,
     builder: &mut DfaBuilder,
     state: T::State,
     last: usize,
@@ -103,10 +109,25 @@ fn number<T: LanguageSystem>(
     requires { T.is_state system.now state }
     ensures { IfOk result (Numbers (T.language system.now) found.old.keys found.new.keys builder.old builder.new state) }
 {
-    if last < found.len() && found.as_slice()[last] == state {
+    if holds(found, last, &state) {
         return Ok(last);
     }
-    Ok(find(system, found, builder, state)?)
+    let code = system.code(&state);
+    let known = places.place_of(code);
+    if holds(found, known, &state) {
+        return Ok(known);
+    }
+    let number = find(system, found, builder, state)?;
+    places.put(code, number);
+    Ok(number)
+}
+
+/// Whether the state stands at the place.
+fn holds<S: Eq + Hash + Drop>(found: &IndexSet<S>, place: usize, state: &S) -> bool
+    requires { (x y : S) → S.eq x y ≡ true → x ≡ y }
+    ensures { IsTrue result → slice_get found.now.keys place ≡ Some state.now }
+{
+    place < found.len() && found.as_slice()[place] == *state
 }
 
 /// The number of the state, which is a new one where it was not found before.

@@ -7,6 +7,7 @@
 
 mod construction;
 mod language_system;
+mod place_table;
 mod state_list;
 mod stepwise;
 mod transition_system;

@@ -44,5 +44,13 @@ impl<'a, T: TransitionSystem> LanguageSystem for Stepwise<'a, T> {
         self.system.successors(alloc, state)
     }
 
+    fn codes(&self) -> usize {
+        self.system.codes()
+    }
+
+    fn code(&self, state: &T::State) -> usize {
+        self.system.code(state)
+    }
+
     ghost equality = { T.TransitionSystem.equality };
 }

@@ -25,11 +25,11 @@ close-requires-clause-within g c =
     slice_get_read starts (length starts) c.starts.start-index c.start-item.result refl (omega (arith, c.starts-test.true)) c.start-item.is in
     let there : Contains c.in_ok-starts.starts.items c.start-item.result =
     subst (λ xs. Contains xs c.start-item.result) c.deref-start-items.ensures.value (contains_at starts c.start-item.result c.starts.start-index at) in
-    let y = start_joined (t.is_state graph) (t.is_start graph) (t.edge graph) c.starts.found.keys c.join.new.found.keys c.starts.groups.items c.join.new.groups.items
+    let y = start_joined (t.is_state graph) (t.is_start graph) (t.edge graph) c.starts.found.states.items c.join.new.found.states.items c.starts.groups.items c.join.new.groups.items
     c.starts.invariant.reached c.start-item.result
     (All-contains (t.is_state graph) c.in_ok-starts.starts.items c.start-item.result c.in_ok-starts.ensures.states there) ((c.in_ok-starts.ensures.starts c.start-item.result).0 there)
     c.in_ok-join.ensures in
-    omega (arith, kept_longer c.starts.found.keys c.join.new.found.keys y.extends.found_kept, c.len-closed.ensures.len)
+    omega (arith, kept_longer c.starts.found.states.items c.join.new.found.states.items y.extends.found_kept, c.len-closed.ensures)
 
 pub close-requires-clause-before : goal.close-requires-clause-before
 close-requires-clause-before g c =
@@ -40,11 +40,11 @@ close-requires-clause-before g c =
     slice_get_read starts (length starts) c.starts.start-index c.start-item.result refl (omega (arith, c.starts-test.true)) c.start-item.is in
     let there : Contains c.in_ok-starts.starts.items c.start-item.result =
     subst (λ xs. Contains xs c.start-item.result) c.deref-start-items.ensures.value (contains_at starts c.start-item.result c.starts.start-index at) in
-    let y = start_joined (t.is_state graph) (t.is_start graph) (t.edge graph) c.starts.found.keys c.join.new.found.keys c.starts.groups.items c.join.new.groups.items
+    let y = start_joined (t.is_state graph) (t.is_start graph) (t.edge graph) c.starts.found.states.items c.join.new.found.states.items c.starts.groups.items c.join.new.groups.items
     c.starts.invariant.reached c.start-item.result
     (All-contains (t.is_state graph) c.in_ok-starts.starts.items c.start-item.result c.in_ok-starts.ensures.states there) ((c.in_ok-starts.ensures.starts c.start-item.result).0 there)
     c.in_ok-join.ensures in
-    subst (Reached (t.is_state graph) (t.is_start graph) (t.edge graph) c.join.new.found.keys c.join.new.groups.items []) (sym c.len-closed.ensures.len) y.reached
+    subst (Reached (t.is_state graph) (t.is_start graph) (t.edge graph) c.join.new.found.states.items c.join.new.groups.items []) (sym c.len-closed.ensures) y.reached
 
 pub starts-preserved : goal.starts-preserved
 starts-preserved g c =
@@ -55,16 +55,17 @@ starts-preserved g c =
     slice_get_read starts (length starts) c.starts.start-index c.start-item.result refl (omega (arith, c.starts-test.true)) c.start-item.is in
     let there : Contains c.in_ok-starts.starts.items c.start-item.result =
     subst (λ xs. Contains xs c.start-item.result) c.deref-start-items.ensures.value (contains_at starts c.start-item.result c.starts.start-index at) in
-    let y = start_joined (t.is_state graph) (t.is_start graph) (t.edge graph) c.starts.found.keys c.join.new.found.keys c.starts.groups.items c.join.new.groups.items
+    let y = start_joined (t.is_state graph) (t.is_start graph) (t.edge graph) c.starts.found.states.items c.join.new.found.states.items c.starts.groups.items c.join.new.groups.items
     c.starts.invariant.reached c.start-item.result
     (All-contains (t.is_state graph) c.in_ok-starts.starts.items c.start-item.result c.in_ok-starts.ensures.states there) ((c.in_ok-starts.ensures.starts c.start-item.result).0 there)
     c.in_ok-join.ensures in
     let z = c.in_ok-close.ensures in
     record {
       reached = z.reached;
-      there = are_found_kept c.join.new.found.keys c.close.new.found.keys c.join.new.groups.items c.close.new.groups.items [] [] 0 0 z.extends starts (c.starts.start-index + 1)
-          (are_found_more c.join.new.found.keys c.join.new.groups.items 0 starts c.starts.start-index c.start-item.result at
-          (are_found_kept c.starts.found.keys c.join.new.found.keys c.starts.groups.items c.join.new.groups.items [] [] 0 0 y.extends starts c.starts.start-index c.starts.invariant.there) y.there);
+      there = are_found_kept c.join.new.found.states.items c.close.new.found.states.items c.join.new.groups.items c.close.new.groups.items [] [] 0 0 z.extends starts (c.starts.start-index + 1)
+          (are_found_more c.join.new.found.states.items c.join.new.groups.items 0 starts c.starts.start-index c.start-item.result at
+          (are_found_kept c.starts.found.states.items c.join.new.found.states.items c.starts.groups.items c.join.new.groups.items [] [] 0 0
+          y.extends starts c.starts.start-index c.starts.invariant.there) y.there);
     }
 
 pub returns-clause-done : goal.returns-clause-done
@@ -72,6 +73,6 @@ returns-clause-done g c =
     let t = g.T.Graph in
     let graph = c.args.graph.now in
     let starts = c.deref-start-items.result.now in
-    begun (t.is_state graph) (t.is_start graph) (t.edge graph) (t.goal graph) c.starts.found.keys c.starts.groups.items starts
+    begun (t.is_state graph) (t.is_start graph) (t.edge graph) (t.goal graph) c.starts.found.states.items c.starts.groups.items starts
     (subst (λ xs. (s : _) → Contains xs s ↔ t.is_start graph s) (sym c.deref-start-items.ensures.value) c.in_ok-starts.ensures.starts) c.starts.start-index
     (omega (arith, c.starts-test.false)) c.starts.invariant.there

@@ -4,6 +4,6 @@ use Rattle.boolean_operations.proofs.search.begin.Given as goal
 
 abbrev pub invariant-starts : goal.invariant-starts
 invariant-starts g l = record {
-  reached : Reached (g.T.Graph.is_state l.graph) (g.T.Graph.is_start l.graph) (g.T.Graph.edge l.graph) l.found.keys l.groups.items [] (length l.found.keys);
-  there : AreFound l.found.keys l.groups.items 0 l.start-items l.start-index;
+  reached : Reached (g.T.Graph.is_state l.graph) (g.T.Graph.is_start l.graph) (g.T.Graph.edge l.graph) l.found.states.items l.groups.items [] (length l.found.states.items);
+  there : AreFound l.found.states.items l.groups.items 0 l.start-items l.start-index;
 }

@@ -7,7 +7,7 @@ pub states-init : goal.states-init
 states-init g c = record {
   within = c.requires.within;
   reached = c.requires.before;
-  extends = extends-nothing c.args.found.now.keys c.args.groups.now.items c.args.steps.now (length c.args.steps.now);
+  extends = extends-nothing c.args.found.now.states.items c.args.groups.now.items c.args.steps.now (length c.args.steps.now);
 }
 
 pub states-preserved : goal.states-preserved
@@ -15,9 +15,10 @@ states-preserved g c =
     let steps = c.args.steps.now in
     let y = c.in_ok-close_state.ensures in
     record {
-      within = omega (arith, kept_longer c.states.found.keys c.close_state.new.found.keys y.extends.found_kept, c.states-test.true, c.len.ensures.len);
+      within = omega (arith, kept_longer c.states.found.states.items c.close_state.new.found.states.items y.extends.found_kept, c.states-test.true, c.len.ensures);
       reached = y.reached;
-      extends = extends-trans c.args.found.now.keys c.states.found.keys c.close_state.new.found.keys c.args.groups.now.items c.states.groups.items c.close_state.new.groups.items steps steps steps
+      extends = extends-trans c.args.found.now.states.items c.states.found.states.items c.close_state.new.found.states.items
+          c.args.groups.now.items c.states.groups.items c.close_state.new.groups.items steps steps steps
           (length steps) (length steps) c.states.invariant.extends y.extends (omega arith);
     }
 
@@ -25,5 +26,5 @@ pub returns-clause-reached : goal.returns-clause-reached
 returns-clause-reached g c =
     let t = g.T.Graph in
     let graph = c.args.graph.now in
-    let all : c.states.place ≡ length c.states.found.keys = omega (arith, c.states.invariant.within, c.states-test.false, c.len.ensures.len) in
-    subst (Reached (t.is_state graph) (t.is_start graph) (t.edge graph) c.states.found.keys c.states.groups.items c.args.steps.now) all c.states.invariant.reached
+    let all : c.states.place ≡ length c.states.found.states.items = omega (arith, c.states.invariant.within, c.states-test.false, c.len.ensures) in
+    subst (Reached (t.is_state graph) (t.is_start graph) (t.edge graph) c.states.found.states.items c.states.groups.items c.args.steps.now) all c.states.invariant.reached

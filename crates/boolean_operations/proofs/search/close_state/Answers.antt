@@ -1,4 +1,4 @@
-use Rattle.std.proofs.Common.{◌≡◌, [], Some, None, get_or, length, slice_get, refl, sym, ap, subst, ◌∙◌, arith}
+use Rattle.std.proofs.Common.{◌≡◌, [], Some, None, length, slice_get, refl, sym, subst, arith}
 use Rattle.std.proofs.lemmas.Option.{slice_get_read}
 use Rattle.boolean_operations.specs.Search.{Gathers}
 use Rattle.boolean_operations.proofs.SearchSteps.{extends-trans}
@@ -10,24 +10,25 @@ targets-preserved g c =
     let graph = c.args.graph.now in
     let t = g.T.Graph in
     let steps = c.args.steps.now in
-    let state = c.index-as_slice-place.result in
-    let keys = c.as_slice.ensures.keys in
+    let state = c.index.result.now in
     let targets = c.deref-target-items.result.now in
-    let at : slice_get c.args.found.now.keys c.args.place ≡ Some state =
-    slice_get_read c.args.found.now.keys (length c.args.found.now.keys) c.args.place state refl c.requires.within (c.index-as_slice-place.is ∙ ap (λ l. get_or l c.args.place state) keys) in
+    let at : slice_get c.args.found.now.states.items c.args.place ≡ Some state =
+    slice_get_read c.args.found.now.states.items (length c.args.found.now.states.items) c.args.place state refl c.requires.within c.index.ensures in
     let there : slice_get targets c.targets.target-index ≡ Some c.target-item.result =
     slice_get_read targets (length targets) c.targets.target-index c.target-item.result refl (omega (arith, c.targets-test.true)) c.target-item.is in
     let x = c.targets.invariant in
-    let y = target_joined (t.is_state graph) (t.is_start graph) (t.edge graph) steps c.args.place c.args.found.now.keys c.targets.found.keys c.args.groups.now.items c.targets.groups.items
+    let y = target_joined (t.is_state graph) (t.is_start graph) (t.edge graph) steps c.args.place c.args.found.now.states.items c.targets.found.states.items
+    c.args.groups.now.items c.targets.groups.items
     x.reached c.requires.within x.extends
-    state at targets (subst (Gathers (t.is_state graph) (t.edge graph state None) []) (sym c.deref-target-items.ensures.value) c.in_ok-targets.ensures) c.join.new.found.keys
+    state at targets (subst (Gathers (t.is_state graph) (t.edge graph state None) []) (sym c.deref-target-items.ensures.value) c.in_ok-targets.ensures) c.join.new.found.states.items
     c.join.new.groups.items c.targets.target-index _ there c.in_ok-join.ensures in
     record {
       reached = y.reached;
-      extends = extends-trans c.args.found.now.keys c.targets.found.keys c.join.new.found.keys c.args.groups.now.items c.targets.groups.items c.join.new.groups.items steps steps steps
+      extends = extends-trans c.args.found.now.states.items c.targets.found.states.items c.join.new.found.states.items
+          c.args.groups.now.items c.targets.groups.items c.join.new.groups.items steps steps steps
           (length steps) (length steps) x.extends y.extends (omega arith);
-      there = are_found_more c.join.new.found.keys c.join.new.groups.items (length steps) targets c.targets.target-index _ there
-          (are_found_kept c.targets.found.keys c.join.new.found.keys c.targets.groups.items c.join.new.groups.items steps steps (length steps) (length steps) y.extends targets
+      there = are_found_more c.join.new.found.states.items c.join.new.groups.items (length steps) targets c.targets.target-index _ there
+          (are_found_kept c.targets.found.states.items c.join.new.found.states.items c.targets.groups.items c.join.new.groups.items steps steps (length steps) (length steps) y.extends targets
           c.targets.target-index x.there) y.there;
     }
 
@@ -36,13 +37,13 @@ returns-clause-reached g c =
     let graph = c.args.graph.now in
     let t = g.T.Graph in
     let steps = c.args.steps.now in
-    let state = c.index-as_slice-place.result in
+    let state = c.index.result.now in
     let targets = c.deref-target-items.result.now in
-    let at : slice_get c.args.found.now.keys c.args.place ≡ Some state =
-    slice_get_read c.args.found.now.keys (length c.args.found.now.keys) c.args.place state refl c.requires.within
-    (c.index-as_slice-place.is ∙ ap (λ l. get_or l c.args.place state) c.as_slice.ensures.keys) in
+    let at : slice_get c.args.found.now.states.items c.args.place ≡ Some state =
+    slice_get_read c.args.found.now.states.items (length c.args.found.now.states.items) c.args.place state refl c.requires.within c.index.ensures in
     let x = c.targets.invariant in
-    targets_found (t.is_state graph) (t.is_start graph) (t.edge graph) steps c.args.place c.args.found.now.keys c.targets.found.keys c.args.groups.now.items c.targets.groups.items x.reached
+    targets_found (t.is_state graph) (t.is_start graph) (t.edge graph) steps c.args.place c.args.found.now.states.items c.targets.found.states.items
+    c.args.groups.now.items c.targets.groups.items x.reached
     c.requires.within x.extends
     state at targets (subst (Gathers (t.is_state graph) (t.edge graph state None) []) (sym c.deref-target-items.ensures.value) c.in_ok-targets.ensures) c.targets.target-index
     (omega (arith, c.targets-test.false)) x.there

@@ -11,9 +11,10 @@ steps-init g c =
     let graph = c.args.graph.now in
     record {
       reached = c.requires.reached;
-      extends = extends-nothing c.args.found.now.keys c.args.groups.now.items c.args.steps.now.items (c.args.from + 1);
+      extends = extends-nothing c.args.found.now.states.items c.args.groups.now.items c.args.steps.now.items (c.args.from + 1);
       taken = λ i a r l at. absurd (omega arith);
-      bounded = bounded_first (t.is_state graph) (t.edge graph) (t.goal graph) c.args.found.now.keys c.args.groups.now.items c.args.from c.args.pending.now c.requires.pending c.requires.in_order
+      bounded = bounded_first (t.is_state graph) (t.edge graph) (t.goal graph) c.args.found.now.states.items c.args.groups.now.items
+          c.args.from c.args.pending.now c.requires.pending c.requires.in_order
           c.args.steps.now.items c.requires.before;
       before = λ k p b at. let l = c.requires.before k p b at in omega arith;
     }
@@ -35,8 +36,8 @@ step-requires-clause-is_state g c =
     let pending = c.args.pending.now in
     let at : slice_get pending c.steps.letter-index ≡ Some c.steps-item.result =
     slice_get_read pending (length pending) c.steps.letter-index c.steps-item.result refl c.steps-test.true c.steps-item.is in
-    (source_of (t.is_state graph) (t.edge graph) (t.goal graph) c.args.found.now.keys c.args.groups.now.items c.args.from pending c.requires.pending c.requires.in_order
-    c.steps.found.keys c.steps.groups.items c.args.steps.now.items c.steps.steps.items (c.args.from + 1) c.steps.invariant.extends c.steps.letter-index c.steps-item.result.0
+    (source_of (t.is_state graph) (t.edge graph) (t.goal graph) c.args.found.now.states.items c.args.groups.now.items c.args.from pending c.requires.pending c.requires.in_order
+    c.steps.found.states.items c.steps.groups.items c.args.steps.now.items c.steps.steps.items (c.args.from + 1) c.steps.invariant.extends c.steps.letter-index c.steps-item.result.0
     c.steps-item.result.1 at).0
 
 pub step-requires-clause-source : goal.step-requires-clause-source
@@ -46,8 +47,8 @@ step-requires-clause-source g c =
     let pending = c.args.pending.now in
     let at : slice_get pending c.steps.letter-index ≡ Some c.steps-item.result =
     slice_get_read pending (length pending) c.steps.letter-index c.steps-item.result refl c.steps-test.true c.steps-item.is in
-    (source_of (t.is_state graph) (t.edge graph) (t.goal graph) c.args.found.now.keys c.args.groups.now.items c.args.from pending c.requires.pending c.requires.in_order
-    c.steps.found.keys c.steps.groups.items c.args.steps.now.items c.steps.steps.items (c.args.from + 1) c.steps.invariant.extends c.steps.letter-index c.steps-item.result.0
+    (source_of (t.is_state graph) (t.edge graph) (t.goal graph) c.args.found.now.states.items c.args.groups.now.items c.args.from pending c.requires.pending c.requires.in_order
+    c.steps.found.states.items c.steps.groups.items c.args.steps.now.items c.steps.steps.items (c.args.from + 1) c.steps.invariant.extends c.steps.letter-index c.steps-item.result.0
     c.steps-item.result.1 at).1
 
 pub steps-preserved : goal.steps-preserved
@@ -58,17 +59,18 @@ steps-preserved g c =
     let item = c.steps-item.result in
     let at : slice_get pending c.steps.letter-index ≡ Some item = slice_get_read pending (length pending) c.steps.letter-index item refl c.steps-test.true c.steps-item.is in
     let x = c.steps.invariant in
-    let y = c.in_ok-step.ensures in
+    let y = c.in_ok-last.ensures in
     record {
       reached = y.reached;
-      extends = extends-trans c.args.found.now.keys c.steps.found.keys c.step.new.found.keys c.args.groups.now.items c.steps.groups.items c.step.new.groups.items
+      extends = extends-trans c.args.found.now.states.items c.steps.found.states.items c.step.new.found.states.items c.args.groups.now.items c.steps.groups.items c.step.new.groups.items
           c.args.steps.now.items c.steps.steps.items c.step.new.steps.items (c.args.from + 1) (c.args.from + 1) x.extends y.extends (omega arith);
-      taken = are_taken_more c.step.new.found.keys c.step.new.groups.items c.step.new.steps.items c.args.from pending c.steps.letter-index item.0 item.1 at
-          (are_taken_kept c.steps.found.keys c.step.new.found.keys c.steps.groups.items c.step.new.groups.items c.steps.steps.items c.step.new.steps.items (c.args.from + 1) c.args.from y.extends
+      taken = are_taken_more c.step.new.found.states.items c.step.new.groups.items c.step.new.steps.items c.args.from pending c.steps.letter-index item.0 item.1 at
+          (are_taken_kept c.steps.found.states.items c.step.new.found.states.items c.steps.groups.items c.step.new.groups.items c.steps.steps.items c.step.new.steps.items
+          (c.args.from + 1) c.args.from y.extends
           pending c.steps.letter-index x.taken) y.taken;
-      bounded = bounded_on (t.is_state graph) (t.edge graph) (t.goal graph) c.args.found.now.keys c.args.groups.now.items c.args.from pending c.requires.pending c.requires.in_order
+      bounded = bounded_on (t.is_state graph) (t.edge graph) (t.goal graph) c.args.found.now.states.items c.args.groups.now.items c.args.from pending c.requires.pending c.requires.in_order
           c.step.new.steps.items c.steps.letter-index item.0 item.1 at y.bounded;
-      before = before_bounded (t.is_state graph) (t.edge graph) (t.goal graph) c.args.found.now.keys c.args.groups.now.items c.args.from pending c.requires.pending c.requires.in_order
+      before = before_bounded (t.is_state graph) (t.edge graph) (t.goal graph) c.args.found.now.states.items c.args.groups.now.items c.args.from pending c.requires.pending c.requires.in_order
           c.step.new.steps.items item.0 y.bounded;
     }
 
@@ -79,8 +81,8 @@ returns-clause-done g c =
     let pending = c.args.pending.now in
     let x = c.steps.invariant in
     let one : suc c.args.from ≡ c.args.from + 1 = omega arith in
-    subst (Done (t.is_start graph) (t.edge graph) (t.goal graph) c.steps.found.keys c.steps.groups.items c.steps.steps.items) one
-    (done_more (t.is_state graph) (t.is_start graph) (t.edge graph) (t.goal graph) c.args.found.now.keys c.steps.found.keys c.args.groups.now.items c.steps.groups.items
+    subst (Done (t.is_start graph) (t.edge graph) (t.goal graph) c.steps.found.states.items c.steps.groups.items c.steps.steps.items) one
+    (done_more (t.is_state graph) (t.is_start graph) (t.edge graph) (t.goal graph) c.args.found.now.states.items c.steps.found.states.items c.args.groups.now.items c.steps.groups.items
     c.args.steps.now.items c.steps.steps.items c.args.from c.requires.reached.count c.requires.done pending c.requires.pending
-    (subst (Extends c.args.found.now.keys c.args.groups.now.items c.args.steps.now.items c.steps.found.keys c.steps.groups.items c.steps.steps.items) (sym one) x.extends)
+    (subst (Extends c.args.found.now.states.items c.args.groups.now.items c.args.steps.now.items c.steps.found.states.items c.steps.groups.items c.steps.steps.items) (sym one) x.extends)
     (λ a r there. let p = place_of pending (a, r) there in x.taken p.0 a r (omega (arith, p.1, c.steps-test.false)) p.2))

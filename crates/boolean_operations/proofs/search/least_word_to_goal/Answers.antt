@@ -13,9 +13,9 @@ groups-init g c =
     let graph = c.args.graph.now in
     let none = sym c.new-steps.ensures.items in
     record {
-      reached = subst (λ k. Reached (t.is_state graph) (t.is_start graph) (t.edge graph) c.begin.new.found.keys c.begin.new.groups.items k (length c.begin.new.found.keys)) none
+      reached = subst (λ k. Reached (t.is_state graph) (t.is_start graph) (t.edge graph) c.begin.new.found.states.items c.begin.new.groups.items k (length c.begin.new.found.states.items)) none
           c.in_ok-begin.ensures.reached;
-      done = subst (λ k. Done (t.is_start graph) (t.edge graph) (t.goal graph) c.begin.new.found.keys c.begin.new.groups.items k 0) none c.in_ok-begin.ensures.done;
+      done = subst (λ k. Done (t.is_start graph) (t.edge graph) (t.goal graph) c.begin.new.found.states.items c.begin.new.groups.items k 0) none c.in_ok-begin.ensures.done;
       begins = record { within = omega arith; before = λ i g l at. absurd (omega arith); after = λ i g l at. omega arith };
       before = subst (λ k. AreBefore k 0) none (λ k p b at. cc);
     }
@@ -24,7 +24,7 @@ pub expand-requires-clause-pending : goal.expand-requires-clause-pending
 expand-requires-clause-pending g c =
     let t = g.T.Graph in
     let graph = c.args.graph.now in
-    let found = c.groups.found.keys in
+    let found = c.groups.found.states.items in
     let groups = c.groups.groups.items in
     let group = c.groups.group in
     let gathered : IsGathered (t.is_state graph) (t.edge graph) (t.goal graph) found groups group c.gather.new.pending.items (Some c.in-Some.end) =
@@ -37,7 +37,7 @@ pub groups-preserved : goal.groups-preserved
 groups-preserved g c =
     let t = g.T.Graph in
     let graph = c.args.graph.now in
-    let found = c.groups.found.keys in
+    let found = c.groups.found.states.items in
     let groups = c.groups.groups.items in
     let group = c.groups.group in
     let gathered : IsGathered (t.is_state graph) (t.edge graph) (t.goal graph) found groups group c.gather.new.pending.items (Some c.in-Some.end) =
@@ -47,7 +47,7 @@ groups-preserved g c =
     record {
       reached = y.reached;
       done = y.done;
-      begins = begins_kept found c.expand.new.found.keys groups c.expand.new.groups.items c.groups.steps.items c.expand.new.steps.items (group + 1) y.extends c.in-Some.end
+      begins = begins_kept found c.expand.new.found.states.items groups c.expand.new.groups.items c.groups.steps.items c.expand.new.steps.items (group + 1) y.extends c.in-Some.end
           (subst (BeginsAt groups c.in-Some.end) (let e : suc group ≡ group + 1 = omega arith in e) gathered.0);
       before = y.before;
     }
@@ -56,7 +56,7 @@ pub returns-in_default : goal.returns-in_default
 returns-in_default g c =
     let t = g.T.Graph in
     let graph = c.args.graph.now in
-    let found = c.groups.found.keys in
+    let found = c.groups.found.states.items in
     let groups = c.groups.groups.items in
     let group = c.groups.group in
     let gathered : IsGathered (t.is_state graph) (t.edge graph) (t.goal graph) found groups group c.gather.new.pending.items None =
@@ -72,6 +72,6 @@ pub returns : goal.returns
 returns g c =
     let t = g.T.Graph in
     let graph = c.args.graph.now in
-    nothing_found (t.is_state graph) (t.is_start graph) (t.edge graph) (t.goal graph) c.groups.found.keys c.groups.groups.items c.groups.steps.items c.groups.group
+    nothing_found (t.is_state graph) (t.is_start graph) (t.edge graph) (t.goal graph) c.groups.found.states.items c.groups.groups.items c.groups.steps.items c.groups.group
     c.groups.invariant.reached c.groups.invariant.done
     (omega (arith, c.groups-test.false, c.len.ensures, c.groups.steps.ok.0))

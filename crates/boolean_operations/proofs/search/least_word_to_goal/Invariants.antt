@@ -4,8 +4,8 @@ use Rattle.boolean_operations.proofs.search.least_word_to_goal.Given as goal
 
 abbrev pub invariant-groups : goal.invariant-groups
 invariant-groups g l = record {
-  reached : Reached (g.T.Graph.is_state l.graph) (g.T.Graph.is_start l.graph) (g.T.Graph.edge l.graph) l.found.keys l.groups.items l.steps.items (length l.found.keys);
-  done : Done (g.T.Graph.is_start l.graph) (g.T.Graph.edge l.graph) (g.T.Graph.goal l.graph) l.found.keys l.groups.items l.steps.items l.group;
+  reached : Reached (g.T.Graph.is_state l.graph) (g.T.Graph.is_start l.graph) (g.T.Graph.edge l.graph) l.found.states.items l.groups.items l.steps.items (length l.found.states.items);
+  done : Done (g.T.Graph.is_start l.graph) (g.T.Graph.edge l.graph) (g.T.Graph.goal l.graph) l.found.states.items l.groups.items l.steps.items l.group;
   begins : BeginsAt l.groups.items l.place l.group;
   before : AreBefore l.steps.items l.group;
 }

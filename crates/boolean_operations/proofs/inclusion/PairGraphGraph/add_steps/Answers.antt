@@ -1,7 +1,9 @@
 use Rattle.std.proofs.Common.{◌+◌, ℕ, List, None, Some, get_or, length, sym, ap, subst, ◌∙◌, arith, Option}
 use Rattle.word_automata.specs.Path.{edges_of}
+use Rattle.word_automata.specs.Automaton.{HasIncreasingLetters, find_target}
 use Rattle.boolean_operations.specs.Search.{Gathers}
 use Rattle.boolean_operations.specs.PairGraph.{IsPair, IsStepAmong}
+use Rattle.boolean_operations.proofs.OptionalStates.{edges_at-increasing, follow-edges}
 use Rattle.boolean_operations.proofs.PairWalks.{gathers_none, edge_read, step_more, step_other, steps_all}
 use Rattle.boolean_operations.proofs.inclusion.PairGraphGraph.add_steps.Goals as goal
 use Rattle.boolean_operations.proofs.inclusion.PairGraphGraph.add_steps.Goals.{in-Some+in_ok-push, in_default}
@@ -25,7 +27,9 @@ edges-preserved c =
       | in-Some+in_ok-push w ↦
           subst (Gathers {X = ℕ × (ℕ × Option ℕ)} (λ step. IsPair n m step.1) (IsStepAmong m q (edges_of n.states p) (k + 1)) c.args.steps.now.items)
           (sym (ap (λ steps. steps.items) w.steps-is ∙ w.in_ok-push.ensures.items))
-          (step_more n m c.requires.0 c.requires.1 p q c.requires.3 c.args.steps.now.items c.edges.steps.items k w.in-Some.letter (get_or edges k (None, 0)).1 w.follow.result w.follow.ensures.value
+          (step_more n m c.requires.0 c.requires.1 p q c.requires.3 c.args.steps.now.items c.edges.steps.items k w.in-Some.letter (get_or edges k (None, 0)).1
+          w.seek-target.result.0
+          (w.seek-target.ensures ∙ ap (λ es. find_target es w.in-Some.letter) c.edges_at-edges.ensures ∙ sym (follow-edges m q w.in-Some.letter))
           (edge_read edges (edges_of n.states p) k (Some w.in-Some.letter) c.edges_from-letter-items.ensures.edges c.edges-test.true w.in-Some.is) c.edges.invariant)
       | in_default w ↦
           subst (Gathers {X = ℕ × (ℕ × Option ℕ)} (λ step. IsPair n m step.1) (IsStepAmong m q (edges_of n.states p) (k + 1)) c.args.steps.now.items) (sym (ap (λ steps. steps.items) w.steps-is))
@@ -39,3 +43,6 @@ returns c =
     let m = c.args.self.now.right.now in
     steps_all n m c.requires.0 c.requires.1 c.args.state.now.0 c.args.state.now.1 c.requires.3 c.args.steps.now.items c.edges.steps.items c.edges.letter-index
     (omega (arith, ap (λ (es : List (Option ℕ × ℕ)). length es) c.edges_from-letter-items.ensures.edges, c.edges-test.false)) c.edges.invariant
+
+pub seek-target-requires : goal.seek-target-requires
+seek-target-requires c = subst HasIncreasingLetters (sym c.edges_at-edges.ensures) (edges_at-increasing c.args.self.now.right.now c.requires.1 c.args.state.now.1)
