@@ -6,3 +6,4 @@ pub mod Unique
 pub mod Comparisons
 pub mod LookingAgain
 pub mod PredecessorLists
+pub mod HashLemmas

@@ -1,6 +1,6 @@
 -- What only private functions cite: rounds of refinement that look again only at some of the states, by numbers of signatures.
-use Rattle.std.specs.Prelude.{◌≡◌, ◌<◌, ◌≤◌, ◌⊎◌, ℕ, suc, List, Option, Some, Vec, Contains, length, slice_index, slice_get}
-use Rattle.std.specs.List.{filter_map}
+use Rattle.std.specs.Prelude.{◌≡◌, ◌<◌, ◌≤◌, ◌⊎◌, ◌+◌, ◌*◌, ◌%◌, ◌/◌, ◌^◌, ℕ, suc, List, Option, Some, Vec, Contains, length, slice_index, slice_get, if◌then◌else◌}
+use Rattle.std.specs.List.{filter_map, fold}
 use Rattle.word_automata.specs.Path.{edges_of, is_accepting}
 use Rattle.word_automata.specs.Automaton.{Automaton, accepts_from}
 use Rattle.minimise.specs.Signatures.{Signature}
@@ -18,6 +18,25 @@ outgoing m classes q = record {
   accepting = is_accepting m.states q;
   edges = filter_map (live_edge classes) (edges_of m.states q);
 }
+
+-- a number of 64 bits with a multiple of its own upper half, and a number in which a part is mixed
+abbrev pub with_square : ℕ → ℕ
+with_square n = (n * (2 * (n / 4294967296) + 1)) % 2 ^ 64
+
+abbrev pub mixed_in : ℕ → ℕ → ℕ
+mixed_in value part = with_square ((((value + part) % 2 ^ 64) * 11400714819323198485) % 2 ^ 64)
+
+abbrev pub mixed_in_edge : ℕ → ℕ × ℕ → ℕ
+mixed_in_edge value edge = mixed_in (mixed_in value edge.0) edge.1
+
+-- the hash of a signature without its class, of which that of no word is 0
+abbrev pub hash_of : Signature → ℕ
+hash_of s = fold mixed_in_edge (if s.accepting then 1 else 0) s.edges
+
+-- each state's class in the finer list is the hash of its signature by the coarser
+pub record AreHashes (m : Automaton) (classes finer : List ℕ) : Type 0 where
+  pub count : length finer ≡ length m.states
+  pub each : (q : ℕ) → q < length m.states → slice_index finer q ≡ hash_of (outgoing m classes q)
 
 -- the state has the signature of the least state of its class, and that of no word in class 0
 pub record IsLikeLeast (m : Automaton) (classes : List ℕ) (q : ℕ) : Type 0 where

@@ -2,6 +2,8 @@
 #![tactic(auto)]
 
 mod canon;
+mod growth;
+mod hashing;
 mod laws;
 mod numbering;
 mod predecessors;

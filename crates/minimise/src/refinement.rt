@@ -9,6 +9,7 @@ ghost use Rattle.std.specs.List.{filter_map};
 ghost use Rattle.word_automata.specs.Automaton.{IsValid};
 ghost use Rattle.minimise.specs.Refinement.{live_edge, signature_of, no_word, FindsClass, IsSplit, AreCoarse, AreClasses};
 
+use crate::hashing::hashed_rounds;
 use crate::numbering::by_least_states;
 use crate::rounds::refine;
 use crate::signature::Signature;
@@ -20,6 +21,18 @@ use word_automata::Dfa;
 /// The class of each state: 0 where no word is accepted from it, and else one more than the least state from which the same words
 /// are. It takes time linear in the edges, on average, times the logarithm of the states where classes split in halves.
 pub fn classes(alloc: Global, automaton: &Dfa) -> Result<Vec<usize>, AllocError>
+    ensures { IfOk result (λ classes. AreClasses automaton.now classes.items) }
+{
+    let hashed = hashed_rounds(alloc, automaton)?;
+    let classes = by_least_states(alloc, automaton, &hashed)?;
+    if is_stable(alloc, automaton, &classes)? {
+        return Ok(classes);
+    }
+    looked_at_again(alloc, automaton)
+}
+
+/// The same classes, refined by rounds that look at few states.
+fn looked_at_again(alloc: Global, automaton: &Dfa) -> Result<Vec<usize>, AllocError>
     ensures { IfOk result (λ classes. AreClasses automaton.now classes.items) }
 {
     let refined = refine(alloc, automaton)?;

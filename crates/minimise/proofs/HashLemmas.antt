@@ -1,0 +1,41 @@
+-- Hashes of signatures, edge by edge, and that states with different hashes are told apart.
+use Rattle.std.proofs.Common.{◌≡◌, ◌+◌, ◌<◌, ℕ, List, [], ◌∷◌, length, slice_index, get_or, take, refl, sym, ap, ◌∙◌, inl, inr, arith}
+use Rattle.std.proofs.lemmas.Bool.{cases_lt}
+use Rattle.std.proofs.lemmas.List.{get_or_past}
+use Rattle.std.proofs.lemmas.List.Sums.{fold-append}
+use Rattle.std.specs.List.{filter_map, fold}
+use Rattle.word_automata.specs.Automaton.{Automaton, IsValid}
+use Rattle.minimise.specs.Refinement.{live_edge}
+use Rattle.minimise.specs.Rounds.{AreToldApart, outgoing, mixed_in, mixed_in_edge, hash_of, AreHashes}
+use Rattle.minimise.proofs.Splitting.{live_edge_more, dead_edge_more}
+use Rattle.minimise.proofs.Refining.{outgoing_apart}
+use Rattle.minimise.proofs.LookingAgain.{outgoing-past}
+
+-- the hash so far, of the first i edges
+abbrev pub hash_before : ℕ → List ℕ → List (ℕ × ℕ) → ℕ → ℕ
+hash_before start classes edges i = fold mixed_in_edge start (filter_map (live_edge classes) (take i edges))
+
+module _ (start : ℕ) (classes : List ℕ) (edges : List (ℕ × ℕ)) (i : ℕ) (l : i < length edges) (value : ℕ) (h : value ≡ hash_before start classes edges i) where
+  pub hash_more : (slice_index classes (get_or edges i (0, 0)).1 ≡ 0 → ⊥)
+      → mixed_in (mixed_in value (get_or edges i (0, 0)).0) (slice_index classes (get_or edges i (0, 0)).1) ≡ hash_before start classes edges (i + 1)
+  hash_more ne =
+      let edge : ℕ × ℕ = ((get_or edges i (0, 0)).0, slice_index classes (get_or edges i (0, 0)).1) in
+      let before = filter_map (live_edge classes) (take i edges) in
+      ap (λ v. mixed_in_edge v edge) h ∙ sym (fold-append mixed_in_edge start before (edge ∷ []))
+      ∙ ap (fold mixed_in_edge start) (live_edge_more classes edges i l before refl ne)
+
+  pub hash_same : slice_index classes (get_or edges i (0, 0)).1 ≡ 0 → value ≡ hash_before start classes edges (i + 1)
+  hash_same e = h ∙ ap (fold mixed_in_edge start) (dead_edge_more classes edges i l (filter_map (live_edge classes) (take i edges)) refl e)
+
+-- states with different hashes are told apart
+pub hashes_apart : (m : Automaton) → IsValid m → (classes finer : List ℕ) → AreToldApart m classes → AreHashes m classes finer → AreToldApart m finer
+hashes_apart m valid classes finer apart hashes = record {
+  count = hashes.count;
+  told_apart = λ p q ne. outgoing_apart m valid classes apart p q (λ e. ne (at p ∙ ap hash_of e ∙ sym (at q)));
+}
+  where
+    at : (q : ℕ) → slice_index finer q ≡ hash_of (outgoing m classes q)
+    at q = elim (cases_lt q (length m.states)) [
+      | inl there ↦ hashes.each q there
+      | inr past ↦ get_or_past finer q 0 (let e = hashes.count in omega arith) ∙ sym (ap hash_of (outgoing-past m classes q past))
+    ]

@@ -1,0 +1,10 @@
+use Rattle.std.proofs.Common.{◌≡◌, take, if◌then◌else◌}
+use Rattle.std.specs.List.{filter_map, fold}
+use Rattle.word_automata.specs.Path.{is_accepting}
+use Rattle.minimise.specs.Refinement.{live_edge}
+use Rattle.minimise.specs.Rounds.{mixed_in_edge}
+use Rattle.minimise.proofs.hashing.hash_of.Given as goal
+
+abbrev pub invariant-edges : goal.invariant-edges
+invariant-edges l =
+    l.value ≡ fold mixed_in_edge (if is_accepting l.automaton.states l.state then 1 else 0) (filter_map (live_edge l.classes) (take l.letter-index l.edges))

@@ -1,0 +1,20 @@
+use Rattle.std.proofs.Common.{sym, ap, subst}
+use Rattle.minimise.specs.Rounds.{AreToldApart, AreHashes}
+use Rattle.minimise.proofs.HashLemmas.{hashes_apart}
+use Rattle.minimise.proofs.hashing.hashed_rounds.Goals as goal
+
+pub returns-then-is_over-clause-apart : goal.returns-then-is_over-clause-apart
+returns-then-is_over-clause-apart c =
+    let m = c.args.automaton.now in
+    let finer = c.hash_all.new.finer.items in
+    subst (AreToldApart m) (sym (ap (λ v. v.items) c.swap.ensures.x_after))
+    (hashes_apart m c.states-count.ensures.valid c.rounds.classes.items finer c.rounds.invariant
+    (subst (λ old. AreHashes m old finer) c.deref.ensures.value c.in_ok-hash_all.ensures))
+
+pub rounds-preserved : goal.rounds-preserved
+rounds-preserved c =
+    let m = c.args.automaton.now in
+    let finer = c.hash_all.new.finer.items in
+    subst (AreToldApart m) (sym (ap (λ v. v.items) c.swap.ensures.x_after))
+    (hashes_apart m c.states-count.ensures.valid c.rounds.classes.items finer c.rounds.invariant
+    (subst (λ old. AreHashes m old finer) c.deref.ensures.value c.in_ok-hash_all.ensures))
