@@ -1,0 +1,196 @@
+"""Cut texts, texts as long as they may be, standard output and error that take only a part, reads that fail, and want of memory: what the program
+answers is the determined answer, or the one that the fault has, and a sink that failed has a beginning of its text. Each check is a pair of a name
+and a list of lines that say what is wrong.
+"""
+import os
+import re
+import resource
+import signal
+import subprocess
+import sys
+import tempfile
+
+TOP = os.path.dirname(os.path.dirname(os.path.abspath(__file__)))
+SECONDS = 120
+MEGABYTE = 1 << 20
+REPORT = ["check", "f", "--report"]
+
+
+def example(name):
+    """The text of an example without its comments."""
+    with open(os.path.join(TOP, "examples", name), "rb") as file:
+        return b"".join(line for line in file if not line.startswith(b"#"))
+
+
+class Folder:
+    """A folder in which the program is run on files that it is given."""
+
+    def __init__(self, program, path):
+        self.program, self.path = program, path
+
+    def put(self, **files):
+        for name, text in files.items():
+            with open(os.path.join(self.path, name), "wb") as file:
+                file.write(text)
+
+    def run(self, words, **limit):
+        """Status, standard output and standard error. `out` or `err` is the most bytes that this one takes, `memory` the address space."""
+        # The limit is one of files, so a text that is not limited goes through a pipe.
+        with tempfile.TemporaryFile() as short:
+            out, err = (short if name in limit else subprocess.PIPE for name in ("out", "err"))
+            before = [sys.executable, "-S", "-E", os.path.abspath(__file__), *map(str, *limit.items())] if limit else []
+            run = subprocess.run([*before, self.program, *words], cwd=self.path, stdin=subprocess.DEVNULL, stdout=out, stderr=err, timeout=SECONDS)
+            short.seek(0)
+            taken = short.read()
+        return run.returncode, taken if "out" in limit else run.stdout, taken if "err" in limit else run.stderr
+
+
+def run_limited(name, most, *words):
+    """The program in place of this process, under the limit."""
+    kind = resource.RLIMIT_AS if name == "memory" else resource.RLIMIT_FSIZE
+    signal.signal(signal.SIGXFSZ, signal.SIG_IGN)
+    resource.setrlimit(kind, (int(most), int(most)))
+    os.execv(words[0], words)
+
+
+def differs(what, found, wanted):
+    return [] if found == wanted else [f"{what}: {str(found)[:200]}, and must be {str(wanted)[:200]}"]
+
+
+def cut_protocols(folder, pool):
+    """Of the prefixes of a protocol those are taken that end with the last brace of the section or of a later item, or with the line feed after it."""
+    text = example("tickets.armc")
+    ends = [match.end() for match in re.finditer(rb"\}\n", text)]
+    whole = {end for each in ends for end in (each - 1, each)}
+    names = [f"prefix{size}" for size in range(len(text) + 1)]
+    folder.put(**{name: text[:size] for size, name in enumerate(names)})
+    found = list(pool.map(lambda name: folder.run(["show", name]), names))
+    wrong = differs("how many prefixes are taken", sum(1 for status, _, _ in found if status == 0), 12)
+    for size, (status, out, err) in enumerate(found):
+        wrong += differs(f"the prefix of {size} bytes", status, 0 if size in whole else 5)
+        if status != 0 and (out or not re.fullmatch(rb"armc: protocol: line \d+ column \d+: [^\n]+\n", err)):
+            wrong.append(f"the prefix of {size} bytes: {out} and {err}")
+    return wrong
+
+
+def cut_certificates(folder, pool):
+    """A certificate that is cut anywhere is truncated, at the line after the last line feed that is left."""
+    folder.put(f=example("tickets.armc"))
+    text = folder.run(["check", "f"])[1]
+    names = [f"cut{size}" for size in range(len(text) + 1)]
+    folder.put(**{name: text[:size] for size, name in enumerate(names)})
+    found = list(pool.map(lambda name: folder.run(["verify", "f", name]), names))
+    wrong = differs("the whole", found.pop(), (0, b"valid\n", b""))
+    for size, answer in enumerate(found):
+        line = text[:size].count(b"\n") + 1
+        wrong += differs(f"the prefix of {size} bytes", answer, (6, b"", b"armc: certificate: line %d: truncated\n" % line))
+    return wrong
+
+
+def long_texts(folder, _):
+    """Protocols of 1 MiB, certificates of 1,000,000 states and of a number of 23 digits, and a bad letter 13 places before the end."""
+    token = example("token.armc")
+    deep = b"protocol deep\narray P { a b }\ninit { P: b; }\nbad { P: any* a" + b" any" * 12 + b"; }\n"
+    folder.put(f=token, signs=b"#" * MEGABYTE, braces=b"{" * MEGABYTE, states=b"armc 1 safe\nstates 1000000\nend\n", deep=deep,
+               digits=b"armc 1 safe\nstates 1\nedge 0 P.n 99999999999999999999999\nend\n")
+    refused = lambda place: (5, b"", b"armc: protocol: line 1 column %d: unexpected token\n" % place)
+    wrong = differs("1 MiB of #", folder.run(["show", "signs"]), refused(MEGABYTE + 1))
+    wrong += differs("1 MiB of {", folder.run(["show", "braces"]), refused(1))
+    wrong += differs("1,000,000 states", folder.run(["verify", "f", "states"]), (7, b"not valid: initial missing: P: t\n", b""))
+    wrong += differs("23 digits", folder.run(["verify", "f", "digits"]), (6, b"", b"armc: certificate: line 3: out of range\n"))
+    status, out, err = folder.run(["check", "deep", "--report"])
+    wrong += differs("a bad letter 13 places before the end", (status, out), (0, b"armc 1 safe\nstates 2\nfinal 1\nedge 0 P.b 1\nend\n"))
+    return wrong + ([] if b'"counted":4,' in err else [f"its report is {err}"])
+
+
+def long_words(folder, _):
+    """A configuration in one word of 131,071 bytes, which are all that the system takes, and in a run of 1 MiB."""
+    folder.put(f=example("token.armc"), run=b"armc 1 unsafe\nstart P: t" + b" n" * ((MEGABYTE - 28) // 2) + b"\nend\n")
+    letters = b" n" * ((131_071 - 4) // 2)
+    wrong = differs("one word", folder.run(["steps", "f", b"P: t" + letters]), (0, b"pass -> P: n t" + letters[2:] + b"\n", b""))
+    return wrong + differs("a run of 1 MiB", folder.run(["verify", "f", "run"]), (7, b"not valid: not bad\n", b""))
+
+
+def calls():
+    """Words of each command and kind of answer, with their files."""
+    token, tickets, door, first = (example(f"{name}.armc") for name in ("token", "tickets", "open_door", "first"))
+    proof = b"armc 1 safe\nstates 1\nfinal 0\nedge 0 P.a 0\nedge 0 P.b 0\nend\n"
+    yield "check, safe, with a report", REPORT, {"f": token}
+    yield "check, unsafe", ["check", "f"], {"f": door}
+    yield "check, unknown", ["check", "f", "--budget", "9"], {"f": token}
+    yield "gen", ["gen", "3"], {}
+    yield "verify, valid", ["verify", "f", "c"], {"f": first, "c": proof}
+    yield "verify, not valid", ["verify", "f", "c"], {"f": first, "c": proof.replace(b"edge 0 P.b 0\n", b"")}
+    yield "verify, certificate refused", ["verify", "f", "c"], {"f": first, "c": b"armc 2\n"}
+    yield "show", ["show", "f"], {"f": tickets}
+    yield "show, protocol refused", ["show", "f"], {"f": b"protocol p\n"}
+    yield "show, a name that is missing", ["show", "missing"], {}
+    yield "steps", ["steps", "f", "P: w i"], {"f": tickets}
+    yield "steps, configuration refused", ["steps", "f", "P: x"], {"f": tickets}
+    yield "usage", ["show"], {}
+
+
+def short_sinks(folder, pool):
+    """Each text of each kind of answer is cut: the status is 8 then, and the sink has exactly what it takes."""
+    wrong = []
+    for title, words, files in calls():
+        folder.put(**files)
+        status, out, err = folder.run(words)
+        sizes = lambda text: sorted({0, 1, 3, 5, len(text) // 2, len(text) - 1} & set(range(len(text))))
+        tries = [("out", size, (8, out[:size], b"")) for size in sizes(out)] + [("err", size, (8, out, err[:size])) for size in sizes(err)]
+        tries += [("out", len(out), (status, out, err)), ("err", len(err), (status, out, err))]
+        found = pool.map(lambda each: folder.run(words, **{each[0]: each[1]}), tries)
+        for (sink, size, wanted), answer in zip(tries, found):
+            wrong += differs(f"{title}, {sink} takes {size} bytes", answer, wanted)
+        with open("/dev/full", "wb") as full:
+            run = subprocess.run([folder.program, *words], cwd=folder.path, stdin=subprocess.DEVNULL, stdout=full, stderr=subprocess.PIPE, timeout=SECONDS)
+        wrong += differs(f"{title}, a full device", (run.returncode, run.stderr), (8, b"") if out else (status, err))
+    return wrong
+
+
+def failed_reads(folder, _):
+    """The name that is told is the one whose read failed, and the first of two."""
+    folder.put(f=example("first.armc"), c=b"")
+    fault = lambda name: (4, b"", b"armc: read fault: %s\n" % name)
+    wrong = []
+    for words, name in ((["verify", "x", "y"], b"x"), (["verify", "f", "y"], b"y"), (["verify", "f", "."], b"."), (["check", "x"], b"x"), (["show", "x"], b"x"),
+                        (["steps", "x", "P: a"], b"x"), (["verify", "x", "c"], b"x")):
+        wrong += differs(" ".join(words), folder.run(words), fault(name))
+    return wrong
+
+
+def little_memory(folder, _):
+    """Two automata that do not fit into the address space: that of the bad words, and a certificate's."""
+    folder.put(f=example("token.armc"), c=b"armc 1 safe\nstates 1000000\n" + b"".join(b"edge %d P.n 0\n" % q for q in range(300_000)) + b"end\n",
+               deep=b"protocol deep\narray P { a b }\ninit { P: b; }\nbad { P: any* a" + b" any" * 24 + b"; }\n")
+    wrong = []
+    for words in (["check", "deep"], ["verify", "f", "c"]):
+        wrong += differs(" ".join(words), folder.run(words, memory=24 * MEGABYTE), (9, b"", b"armc: out of memory\n"))
+    return wrong
+
+
+CHECKS = {
+    "cut protocols": cut_protocols,
+    "cut certificates": cut_certificates,
+    "long texts": long_texts,
+    "long configurations": long_words,
+    "sinks that take a part": short_sinks,
+    "reads that fail": failed_reads,
+    "little memory": little_memory,
+}
+
+
+def checks(program, pool):
+    """Each check with its name."""
+    for name, check in CHECKS.items():
+        with tempfile.TemporaryDirectory() as path:
+            yield name, check(Folder(program, path), pool)
+
+
+if __name__ == "__main__":
+    if len(sys.argv) > 2:
+        run_limited(*sys.argv[1:])
+    from concurrent.futures import ThreadPoolExecutor
+    with ThreadPoolExecutor(4) as workers:
+        for title, lines in checks(os.path.abspath(sys.argv[1]), workers):
+            print(f"{title}: {'ok' if not lines else lines[:5]}", flush=True)
