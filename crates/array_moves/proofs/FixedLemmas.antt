@@ -12,8 +12,9 @@ use Rattle.protocol_model.specs.System.{AllBelow}
 use Rattle.protocol_model.specs.Words.{raised}
 use Rattle.protocol_model.specs.Moves.{IsPairMove, IsRingMove, IsTwoMove, ChangesTwo}
 use Rattle.protocol_model.specs.Raised.{IsRaisedMove}
+use Rattle.protocol_model.proofs.Below.{AllBelow-left, AllBelow-right}
 use Rattle.array_moves.specs.Fixed.{exchange_edge, pair_states, ring_states, two_states}
-use Rattle.array_moves.proofs.LetterLemmas.{nothing_below_zero, AllBelow-left, AllBelow-right, same_exchange, HasLetters, Changes}
+use Rattle.array_moves.proofs.LetterLemmas.{nothing_below_zero, same_exchange, HasLetters, Changes}
 use Rattle.array_moves.proofs.LetterLemmas.{exchanges_from_Changes, Relates-raised, Leaves, leave, stay, enter}
 
 -- an edge of a list of one or two

@@ -1,9 +1,10 @@
--- Lemmas on guards and their flags: what the letters on both sides of the moving position meet.
+-- Lemmas on guards and their flags: what the letters on and_parts sides of the moving position meet.
 use Rattle.std.proofs.Common.{◌≡◌, ℕ, zero, suc, ◌<◌, Bool, true, false, not, ◌&&◌, ◌||◌, List, [], ◌∷◌, ◌++◌, slice_get, Option, Some}
 use Rattle.std.proofs.Common.{None, refl, sym, ap, ◌∙◌, subst, inl, inr, arith, ◌⊎◌, true≢false, if◌then◌else◌, fold}
 use Rattle.std.specs.List.{list_all, list_any}
 use Rattle.std.proofs.lemmas.List.Folds.{list_all-append, list_any-append}
 use Rattle.std.proofs.lemmas.Option.{same_Some, none-some}
+use Rattle.std.proofs.lemmas.Bool.{and_parts, and_from, or_cases, or_left, or_right}
 use Rattle.transducers.proofs.ListLemmas.{slice_get-cases}
 use Rattle.protocol_syntax.specs.declared.protocol.Region.{Region}
 use Rattle.protocol_syntax.specs.declared.protocol.Region.TheVariants.{Left, Right, Others}
@@ -12,37 +13,16 @@ use Rattle.protocol_model.specs.Moves.{is_in, region_letters, guard_holds}
 use Rattle.array_moves.specs.Flags.{flag, four_flags, no_flags, union_of, covers_one, covers, permits, meets, meets_at, effect_of}
 use Rattle.array_moves.specs.Flags.{asks_at, widened}
 
--- conjunctions and disjunctions of tests
-pub both : (a b : Bool) → (a && b) ≡ true → (a ≡ true) × (b ≡ true)
-both true b h = (refl, h)
-both false b h = absurd (true≢false (sym h))
-
-pub both_true : (a b : Bool) → a ≡ true → b ≡ true → (a && b) ≡ true
-both_true true b h g = g
-both_true false b h g = absurd (true≢false (sym h))
-
-pub either_of : (a b : Bool) → (a || b) ≡ true → (a ≡ true) ⊎ (b ≡ true)
-either_of true b h = inl refl
-either_of false b h = inr h
-
-pub or_left : (a b : Bool) → a ≡ true → (a || b) ≡ true
-or_left true b h = refl
-or_left false b h = absurd (true≢false (sym h))
-
-pub or_right : (a b : Bool) → b ≡ true → (a || b) ≡ true
-or_right true b h = refl
-or_right false b h = h
-
 -- a test of all elements, by their places
 pub all_at : {X : Type 0} (p : X → Bool) (xs : List X) (k : ℕ) (x : X) → list_all p xs ≡ true → slice_get xs k ≡ Some x → p x ≡ true
 all_at p [] k x h e = absurd (none-some x e)
-all_at p (y ∷ xs) zero x h e = subst (λ z. p z ≡ true) (same_Some _ _ e) (both (p y) (list_all p xs) h).0
-all_at p (y ∷ xs) (suc k) x h e = all_at p xs k x (both (p y) (list_all p xs) h).1 e
+all_at p (y ∷ xs) zero x h e = subst (λ z. p z ≡ true) (same_Some _ _ e) (and_parts (p y) (list_all p xs) h).0
+all_at p (y ∷ xs) (suc k) x h e = all_at p xs k x (and_parts (p y) (list_all p xs) h).1 e
 
 pub all_from_each : {X : Type 0} (p : X → Bool) (xs : List X) → ((k : ℕ) (x : X) → slice_get xs k ≡ Some x → p x ≡ true)
     → list_all p xs ≡ true
 all_from_each p [] each = refl
-all_from_each p (y ∷ xs) each = both_true (p y) (list_all p xs) (each 0 y refl) (all_from_each p xs (λ k x e. each (suc k) x e))
+all_from_each p (y ∷ xs) each = and_from (p y) (list_all p xs) (each 0 y refl) (all_from_each p xs (λ k x e. each (suc k) x e))
 
 all_of_true : {X : Type 0} (xs : List X) → list_all (λ x. true) xs ≡ true
 all_of_true [] = refl
@@ -52,14 +32,14 @@ any_of_false : {X : Type 0} (xs : List X) → list_any (λ x. false) xs ≡ fals
 any_of_false [] = refl
 any_of_false (x ∷ xs) = any_of_false xs
 
--- the letters of lists on both sides, one after the other
+-- the letters of lists on and_parts sides, one after the other
 pub all_joined : (p : ℕ → Bool) (s t : List ℕ) → list_all p s ≡ true → list_all p t ≡ true → list_all p (s ++ t) ≡ true
-all_joined p s t h g = list_all-append p s t ∙ both_true (list_all p s) (list_all p t) h g
+all_joined p s t h g = list_all-append p s t ∙ and_from (list_all p s) (list_all p t) h g
 
 pub all_parts : (p : ℕ → Bool) (s t : List ℕ) → list_all p (s ++ t) ≡ true → (list_all p s ≡ true) × (list_all p t ≡ true)
-all_parts p s t h = both (list_all p s) (list_all p t) (sym (list_all-append p s t) ∙ h)
+all_parts p s t h = and_parts (list_all p s) (list_all p t) (sym (list_all-append p s t) ∙ h)
 
--- a guard that asks for all letters holds exactly where it permits the letters on both sides
+-- a guard that asks for all letters holds exactly where it permits the letters on and_parts sides
 all_holds : (region : Region) (letters before after : List ℕ)
     → list_all (permits (record { all = true; region = region; letters = letters }) false) before ≡ true
     → list_all (permits (record { all = true; region = region; letters = letters }) true) after ≡ true
@@ -88,7 +68,7 @@ some_met Left letters before after = or_false (list_any (is_in letters) before) 
 some_met Right letters before after = ap (λ a. a || list_any (is_in letters) after) (sym (any_of_false before))
 some_met Others letters before after = list_any-append (is_in letters) before after
 
--- what a guard says of both sides
+-- what a guard says of and_parts sides
 pub record IsSatisfied (guard : Guard) (before after : List ℕ) : Type 0 where
   pub permitted_before : list_all (permits guard false) before ≡ true
   pub permitted_after : list_all (permits guard true) after ≡ true
@@ -141,14 +121,14 @@ flag_from_covers a b h k lt e = at k lt e
   where
     first : (covers_one (flag a 0) (flag b 0) ≡ true)
         × ((covers_one (flag a 1) (flag b 1) && (covers_one (flag a 2) (flag b 2) && covers_one (flag a 3) (flag b 3))) ≡ true)
-    first = both (covers_one (flag a 0) (flag b 0))
+    first = and_parts (covers_one (flag a 0) (flag b 0))
         (covers_one (flag a 1) (flag b 1) && (covers_one (flag a 2) (flag b 2) && covers_one (flag a 3) (flag b 3))) h
 
     second : (covers_one (flag a 1) (flag b 1) ≡ true) × ((covers_one (flag a 2) (flag b 2) && covers_one (flag a 3) (flag b 3)) ≡ true)
-    second = both (covers_one (flag a 1) (flag b 1)) (covers_one (flag a 2) (flag b 2) && covers_one (flag a 3) (flag b 3)) first.1
+    second = and_parts (covers_one (flag a 1) (flag b 1)) (covers_one (flag a 2) (flag b 2) && covers_one (flag a 3) (flag b 3)) first.1
 
     third : (covers_one (flag a 2) (flag b 2) ≡ true) × (covers_one (flag a 3) (flag b 3) ≡ true)
-    third = both (covers_one (flag a 2) (flag b 2)) (covers_one (flag a 3) (flag b 3)) second.1
+    third = and_parts (covers_one (flag a 2) (flag b 2)) (covers_one (flag a 3) (flag b 3)) second.1
 
     at : (k : ℕ) → k < 4 → flag b k ≡ true → flag a k ≡ true
     at zero lt e = covers_one-true (flag a 0) (flag b 0) first.0 e
@@ -159,9 +139,9 @@ flag_from_covers a b h k lt e = at k lt e
 
 pub covers_from_flags : (a b : List Bool) → ((k : ℕ) → k < 4 → flag b k ≡ true → flag a k ≡ true) → covers a b ≡ true
 covers_from_flags a b each =
-    both_true (covers_one (flag a 0) (flag b 0)) _ (covers_one-from (flag a 0) (flag b 0) (each 0 (omega arith)))
-    (both_true (covers_one (flag a 1) (flag b 1)) _ (covers_one-from (flag a 1) (flag b 1) (each 1 (omega arith)))
-    (both_true (covers_one (flag a 2) (flag b 2)) (covers_one (flag a 3) (flag b 3))
+    and_from (covers_one (flag a 0) (flag b 0)) _ (covers_one-from (flag a 0) (flag b 0) (each 0 (omega arith)))
+    (and_from (covers_one (flag a 1) (flag b 1)) _ (covers_one-from (flag a 1) (flag b 1) (each 1 (omega arith)))
+    (and_from (covers_one (flag a 2) (flag b 2)) (covers_one (flag a 3) (flag b 3))
     (covers_one-from (flag a 2) (flag b 2) (each 2 (omega arith)))
     (covers_one-from (flag a 3) (flag b 3) (each 3 (omega arith)))))
 
@@ -221,7 +201,7 @@ effect_from_reach (None ∷ effects) flags k lt h =
     elim (effect_from_reach effects flags k lt h) [ inl old ↦ inl old | inr found ↦ inr (suc found.0, found.1, found.2, found.3) ]
 effect_from_reach (Some met ∷ effects) flags k lt h =
     elim (effect_from_reach effects (union_of flags met) k lt h) [
-      | inl old ↦ (elim (either_of (flag flags k) (flag met k) (sym (flag-four (λ j. flag flags j || flag met j) k lt) ∙ old))
+      | inl old ↦ (elim (or_cases (flag flags k) (flag met k) (sym (flag-four (λ j. flag flags j || flag met j) k lt) ∙ old))
           [ inl a ↦ inl a | inr b ↦ inr (0, met, refl, b) ])
       | inr found ↦ inr (suc found.0, found.1, found.2, found.3)
     ]

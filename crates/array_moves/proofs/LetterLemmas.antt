@@ -17,18 +17,6 @@ pub nothing_below_zero : (s : List ℕ) → AllBelow 0 s → s ≡ []
 nothing_below_zero [] h = refl
 nothing_below_zero (x ∷ s) h = absurd (omega (arith, h.0))
 
-pub AllBelow-left : (count : ℕ) (s t : List ℕ) → AllBelow count (s ++ t) → AllBelow count s
-AllBelow-left count [] t h = tt
-AllBelow-left count (x ∷ s) t h = (h.0, AllBelow-left count s t h.1)
-
-pub AllBelow-right : (count : ℕ) (s t : List ℕ) → AllBelow count (s ++ t) → AllBelow count t
-AllBelow-right count [] t h = h
-AllBelow-right count (x ∷ s) t h = AllBelow-right count s t h.1
-
-pub AllBelow-append : (count : ℕ) (s t : List ℕ) → AllBelow count s → AllBelow count t → AllBelow count (s ++ t)
-AllBelow-append count [] t h g = g
-AllBelow-append count (x ∷ s) t h g = (h.0, AllBelow-append count s t h.1 g)
-
 -- equal labels exchange equal letters
 pub same_exchange : (a b x y offset : ℕ) → exchange (a + offset) (b + offset) ≡ exchange (x + offset) (y + offset) → (a ≡ x) × (b ≡ y)
 same_exchange a b x y offset e =

@@ -19,9 +19,10 @@ use Rattle.protocol_model.specs.Moves.{table_value, IsAtMove}
 use Rattle.array_moves.specs.declared.plan.Phase.{Phase}
 use Rattle.array_moves.specs.declared.plan.Plan.{Plan}
 use Rattle.protocol_model.specs.Raised.{IsRaisedMove}
+use Rattle.protocol_model.proofs.Below.{AllBelow-left, AllBelow-right}
 use Rattle.array_moves.specs.Flags.{no_flags, union_of, covers, effect_of}
 use Rattle.array_moves.specs.Phases.{IsPlan, first_phase, can_end, HasRoom, starts_of, IsLetterEdge, IsMoveEdge, IsStateOf, IsMachine}
-use Rattle.array_moves.proofs.LetterLemmas.{same_exchange, Changes, AllBelow-left, AllBelow-right, HasLetters, Relates-raised}
+use Rattle.array_moves.proofs.LetterLemmas.{same_exchange, Changes, HasLetters, Relates-raised}
 use Rattle.array_moves.proofs.RunLemmas.{slice_get-range, Reads, guarded_from_Reads, Reads_from_guarded, table_value_in_range, image_is}
 use Rattle.array_moves.proofs.RunLemmas.{effect_from_after, after_from_effect, phase_from_move, move_from_end, can_end-behind}
 use Rattle.array_moves.proofs.RunLemmas.{can_end-first}
@@ -52,7 +53,7 @@ has_room f t guards table offset count plan is_plan valid fits =
     }
 
 -- what is read of two lists before the move, and behind it
-record Passes (f t : ℕ) (guards : List Guard) (table : List (ℕ × ℕ)) (count : ℕ) (plan : Plan) (met : List Bool) (old new : List ℕ) : Type
+record Crosses (f t : ℕ) (guards : List Guard) (table : List (ℕ × ℕ)) (count : ℕ) (plan : Plan) (met : List Bool) (old new : List ℕ) : Type
     0 where
   before : List ℕ
   after : List ℕ
@@ -100,7 +101,7 @@ module _ (f t : ℕ) (guards : List Guard) (table : List (ℕ × ℕ)) (offset c
       ]
 
   before_there : (s t' : List ℕ) (k : ℕ) (met : List Bool) → slice_get phases k ≡ Some (record { moved = false; met = met })
-      → Changes offset states k s t' → Passes f t guards table count plan met s t'
+      → Changes offset states k s t' → Crosses f t guards table count plan met s t'
   before_there [] [] k met at h =
       let state = state_at k (record { moved = false; met = met }) at in
       absurd (true≢false (sym h ∙ is_accepting-at states k state.0 state.1 ∙ state.2.accepts))

@@ -4,7 +4,7 @@ use Rattle.std.proofs.Common.{Some, None, Contains, refl, sym, ap, ◌∙◌, su
 use Rattle.std.proofs.Common.{if◌then◌else◌, ◌||◌}
 use mathlib.Core.Bool.{beq}
 use Rattle.std.specs.List.{list_any, AllByRecursion, IsDistinct}
-use Rattle.std.proofs.lemmas.Bool.{cases_lt}
+use Rattle.std.proofs.lemmas.Bool.{cases_lt, or_right}
 use Rattle.std.proofs.lemmas.Option.{same_Some, slice_get_within, none-some}
 use Rattle.std.proofs.lemmas.List.Elements.{Contains-push_cases, Contains-append_left, Contains-push}
 use Rattle.indexmap.specs.IndexSet.{insert_key}
@@ -24,10 +24,6 @@ beq_decides true true = (λ _. refl, λ _. refl)
 beq_decides true false = (λ e. sym e, λ e. sym e)
 beq_decides false true = (λ e. e, λ e. e)
 beq_decides false false = (λ _. refl, λ _. refl)
-
-or_right : (a b : Bool) → b ≡ true → (a || b) ≡ true
-or_right true b h = refl
-or_right false b h = h
 
 -- an element that is equal to the key shows that the key is there
 found_by : {X : Type 0} (eq : X → X → Bool) (x y : X) (xs : List X) (k : ℕ) → slice_get xs k ≡ Some y → eq x y ≡ true

@@ -4,6 +4,7 @@ use Rattle.std.proofs.Common.{Option, Some, None, refl, sym, ap, ◌∙◌, inl,
 use Rattle.std.specs.List.{list_all, list_any, range_with_len, AllByRecursion}
 use Rattle.std.proofs.lemmas.List.FromFn.{length-range_with_len, get_or-range_with_len}
 use Rattle.std.proofs.lemmas.Option.{same_Some, none-some, slice_get_within, slice_get-get_or, get_or_from_slice_get}
+use Rattle.std.proofs.lemmas.Bool.{and_from, or_cases, or_left, or_right}
 use Rattle.transducers.proofs.ListLemmas.{slice_get-map_image}
 use Rattle.protocol_model.specs.declared.system.Guard.{Guard}
 use Rattle.protocol_model.specs.System.{AllBelow}
@@ -13,7 +14,7 @@ use Rattle.array_moves.specs.declared.plan.Plan.{Plan}
 use Rattle.array_moves.specs.Flags.{flag, four_flags, no_flags, union_of, covers, permits, meets, meets_at, effect_of, asks_at}
 use Rattle.array_moves.specs.Flags.{required_of, reach_of}
 use Rattle.array_moves.specs.Phases.{IsPlan, first_phase, listed, with_effect, after_letter, can_end, after_move}
-use Rattle.array_moves.proofs.GuardLemmas.{either_of, or_left, or_right, all_at, all_from_each, both_true, IsSatisfied}
+use Rattle.array_moves.proofs.GuardLemmas.{all_at, all_from_each, IsSatisfied}
 use Rattle.array_moves.proofs.GuardLemmas.{satisfied_from_holds, holds_from_satisfied, flag-four, flag-none, flag_from_covers}
 use Rattle.array_moves.proofs.GuardLemmas.{covers_from_flags, permitted_from_effect, effect_from_permitted, meets_at-there, asks_at-there}
 use Rattle.array_moves.proofs.GuardLemmas.{guard_from_asks, flag-reach}
@@ -56,7 +57,7 @@ module _ (guards : List Guard) (count : ℕ) (behind : Bool) where
       → Reads guards count behind met s last → list_all (permits guard behind) s ≡ true
   permits-Reads [] met last k guard at h = refl
   permits-Reads (x ∷ s) met last k guard at h =
-      both_true (permits guard behind x) (list_all (permits guard behind) s)
+      and_from (permits guard behind x) (list_all (permits guard behind) s)
       (all_at (λ g. permits g behind x) guards k guard (permitted_from_effect guards behind x h.0 h.2).0 at)
       (permits-Reads s (union_of met h.0) last k guard at h.3)
 
@@ -82,7 +83,7 @@ module _ (guards : List Guard) (count : ℕ) (behind : Bool) where
   reach-Reads [] met last k lt h set = inl (ap (λ f. flag f k) h ∙ set)
   reach-Reads (x ∷ s) met last k lt h set =
       elim (reach-Reads s (union_of met h.0) last k lt h.3 set) [
-        | inl now ↦ (elim (either_of (flag met k) (flag h.0 k) (sym (flag-four (λ j. flag met j || flag h.0 j) k lt) ∙ now)) [
+        | inl now ↦ (elim (or_cases (flag met k) (flag h.0 k) (sym (flag-four (λ j. flag met j || flag h.0 j) k lt) ∙ now)) [
           | inl before ↦ inl before
           | inr new ↦ inr (flag-reach (map (effect_of guards behind) (range_with_len 0 count)) no_flags h.0 x k lt
               (slice_get-map_image (effect_of guards behind) (range_with_len 0 count) x x (slice_get-range count x h.1)

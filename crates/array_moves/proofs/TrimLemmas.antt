@@ -3,7 +3,7 @@ use Rattle.std.proofs.Common.{◌≡◌, ℕ, zero, suc, ◌+◌, ◌*◌, ◌<�
 use Rattle.std.proofs.Common.{Option, Some, None, Contains, refl, sym, ap, ◌∙◌, subst, inl, inr, arith, ◌⊎◌, true≢false, eqb, ◌||◌}
 use Rattle.std.proofs.Common.{if◌then◌else◌}
 use Rattle.std.specs.List.{list_any, range_with_len, AllByRecursion, IsDistinct}
-use Rattle.std.proofs.lemmas.Bool.{cases_lt, eqb-true, ne_eqb}
+use Rattle.std.proofs.lemmas.Bool.{cases_lt, eqb-true, ne_eqb, or_cases, or_left, or_right}
 use Rattle.std.proofs.lemmas.List.{length-map}
 use Rattle.std.proofs.lemmas.List.FromFn.{length-range_with_len}
 use Rattle.std.proofs.lemmas.Map.Steps.{length-le_from_distinct_below}
@@ -23,7 +23,7 @@ use Rattle.array_moves.specs.declared.plan.Plan.{Plan}
 use Rattle.array_moves.specs.Flags.{flag, four_flags, no_flags, union_of, covers, effect_of, reach_of}
 use Rattle.array_moves.specs.Phases.{IsPlan, first_phase, can_end, after_move, starts_of, IsLetterEdge, IsMoveEdge, IsMachine}
 use Rattle.array_moves.proofs.LetterLemmas.{Changes, exchanges_from_Changes}
-use Rattle.array_moves.proofs.GuardLemmas.{either_of, or_left, or_right, flag-four, flag-none, flag_from_covers, covers_from_flags}
+use Rattle.array_moves.proofs.GuardLemmas.{flag-four, flag-none, flag_from_covers, covers_from_flags}
 use Rattle.array_moves.proofs.GuardLemmas.{effect_from_reach}
 use Rattle.array_moves.proofs.RunLemmas.{Reads, slice_get-range, effect_from_after}
 use Rattle.array_moves.proofs.MachineLemmas.{phase_at, after_back, before_back}
@@ -40,7 +40,7 @@ union_right : (a b : List Bool) (k : ℕ) → k < 4 → flag b k ≡ true → fl
 union_right a b k lt h = flag-four (λ j. flag a j || flag b j) k lt ∙ or_right (flag a k) (flag b k) h
 
 union_cases : (a b : List Bool) (k : ℕ) → k < 4 → flag (union_of a b) k ≡ true → (flag a k ≡ true) ⊎ (flag b k ≡ true)
-union_cases a b k lt h = either_of (flag a k) (flag b k) (sym (flag-four (λ j. flag a j || flag b j) k lt) ∙ h)
+union_cases a b k lt h = or_cases (flag a k) (flag b k) (sym (flag-four (λ j. flag a j || flag b j) k lt) ∙ h)
 
 -- one more union keeps what the flags cover
 widen : (a b c r : List Bool) → ((k : ℕ) → k < 4 → flag a k ≡ true → flag b k ≡ true) → covers (union_of a c) r ≡ true
@@ -228,7 +228,7 @@ distinct_from_places (x ∷ xs) h = (
 found_at : (xs : List ℕ) (q : ℕ) → list_any (eqb q) xs ≡ true → (k : ℕ) × (slice_get xs k ≡ Some q)
 found_at [] q h = absurd (true≢false (sym h))
 found_at (x ∷ xs) q h =
-    elim (either_of (eqb q x) (list_any (eqb q) xs) h) [
+    elim (or_cases (eqb q x) (list_any (eqb q) xs) h) [
       | inl here ↦ (0, ap Some (sym (eqb-true q x here)))
       | inr there ↦ (let rest = found_at xs q there in (suc rest.0, rest.1))
     ]

@@ -1,4 +1,4 @@
--- The states of the machines for moves that change two positions.
+-- The states of the machines for moves that change two positions. Only private contracts speak of this.
 use Rattle.std.specs.Prelude.{ℕ, ◌+◌, Bool, true, false, List, [], ◌∷◌, ◌++◌}
 use Rattle.word_automata.specs.Path.{Node}
 use Rattle.transducers.specs.declared.Label.{Label}

@@ -1,4 +1,4 @@
--- The phases of a machine for an `at` move: whether the moving position has been passed, and which guards are met.
+-- The phases of a machine for an `at` move: whether the moving position has been passed, and which guards are met. Only private contracts speak of this.
 use Rattle.std.specs.Prelude.{◌≡◌, ◌+◌, ◌^◌, ◌<◌, ◌≤◌, ◌⊎◌, ◌&&◌, ℕ, zero, suc, Bool, true, false, List, [], ◌∷◌, Option, None, Some, All}
 use Rattle.std.specs.Prelude.{Contains, IsTrue, map, length, slice_get, slice_index, if◌then◌else◌}
 use Rattle.std.specs.List.{range_with_len}

@@ -1,4 +1,5 @@
 //! The moves that change two positions.
+//! Each machine has three or four states, which copy the other positions.
 
 ghost use Rattle.std.specs.Prelude.{◌≡◌, ◌↔◌, ◌≤◌, ◌<◌, ◌+◌, ◌^◌, ◌∷◌, List, [], ℕ, IfOk, length};
 ghost use Rattle.protocol_model.specs.System.{AllBelow};

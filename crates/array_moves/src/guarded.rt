@@ -1,4 +1,5 @@
 //! The move of one position, with guards on the other positions and a table for them.
+//! The phases that can be reached are found by a worklist, and one from which the guards cannot be met any more is no state.
 
 ghost use Rattle.std.specs.Prelude.{◌≡◌, ◌↔◌, ◌≤◌, ◌<◌, ◌+◌, ◌^◌, List, ℕ, Some, IfOk, length, slice_get};
 ghost use Rattle.indexmap.specs.IndexSet.{index_set_len};
@@ -137,8 +138,5 @@ fn phase_at(phases: &IndexSet<Phase>, number: usize) -> Phase
     requires { number < index_set_len phases.now }
     ensures { slice_get phases.now.keys number ≡ Some result }
 {
-    match phases.get_index(number) {
-        Some(phase) => *phase,
-        None => unreachable!(),
-    }
+    phases.as_slice()[number]
 }

@@ -1,4 +1,5 @@
 //! Array moves as transducers: one transducer relates the arrays before and after a move, of every length.
+//! A transducer has at most 32 states: it keeps only whether the move has happened, and which of its four guards are met.
 #![tactic(auto)]
 
 mod fixed;

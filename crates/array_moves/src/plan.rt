@@ -1,4 +1,5 @@
 //! What the letters do in an `at` move, and the phases in which a list is read.
+//! What each letter does to each guard is found once for each side, so that a step of a phase takes constant time.
 
 ghost use Rattle.std.specs.Prelude.{◌≡◌, ◌<◌, ◌^◌, Bool, List, ℕ, IsTrue, IfOk, map, length};
 ghost use Rattle.std.specs.List.{list_all, range_with_len};
@@ -7,7 +8,7 @@ ghost use Rattle.array_moves.specs.Flags.{four_flags, union_of, covers_one, cove
 ghost use Rattle.array_moves.specs.Flags.{meets, meets_at, effect_of, asks_at, required_of, widened, reach_of};
 ghost use Rattle.array_moves.specs.Phases.{IsPlan, after_letter, after_move, can_end, is_final};
 
-use protocol_model::Guard;
+use protocol_model::{Guard, table_value};
 use protocol_syntax::Region;
 use std::alloc::{AllocError, Global};
 
@@ -126,18 +127,6 @@ fn images(alloc: Global, table: &[(u32, u32)], count: u32) -> Result<Vec<u32>, A
     (0..count)
         .map(|letter| table_value(table, letter))
         .collect(alloc)
-}
-
-/// What the table makes of the letter; one that is not on its left side stays.
-fn table_value(table: &[(u32, u32)], letter: u32) -> u32
-    ensures { result ≡ table_value table.now letter }
-{
-    'entries: for entry in table {
-        if entry.0 == letter {
-            return entry.1;
-        }
-    }
-    letter
 }
 
 /// Which guards each letter meets on one side of the moving position.

@@ -14,7 +14,8 @@ use Rattle.certificate.specs.declared.lines.LineFault.{LineFault}
 use Rattle.certificate.specs.declared.lines.LineFault.TheVariants.{BadLine, UnknownName}
 use Rattle.certificate.specs.Bytes.{IsCutAt}
 use Rattle.certificate.specs.SafeText.{line_text, IsInRange}
-use Rattle.certificate.specs.Reading.{IsLineOf, IsSecondEdge, HasLines, HasRead, lines_text}
+use Rattle.certificate.specs.Reading.{IsLineOf, IsSecondEdge, HasLines, HasRead}
+use Rattle.certificate.specs.LineLayout.{lines_text}
 use Rattle.certificate.specs.NextLine.{HasLineFault, IsLocated}
 use Rattle.certificate.specs.Faults.{Says, IsSecondIn, FaultInLater, FaultInBody}
 

@@ -12,12 +12,13 @@ use Rattle.certificate.specs.declared.safe.Certificate.{Certificate}
 use Rattle.certificate.specs.declared.safe.Certificate.TheVariants.{Automaton as AutomatonProof, BadRun}
 use Rattle.certificate.specs.Bytes.{Lacks}
 use Rattle.certificate.specs.SafeText.{MeansAutomaton, IsAutomatonOf}
-use Rattle.certificate.specs.Reading.{GoesOn, body_text, opening_text}
+use Rattle.certificate.specs.Reading.{GoesOn, body_text}
+use Rattle.certificate.specs.LineLayout.{opening_text}
 use Rattle.certificate.specs.RunText.{MeansRun}
 use Rattle.certificate.specs.RunFaults.{FaultInRun}
 use Rattle.certificate.specs.Meaning.{IsCertificateOf}
 use Rattle.certificate.specs.Faults.{IsOtherVersion, IsFirstFault, IsSecondFault, FaultInFirst, FaultInSecond, FaultInBody, HasFault}
-use Rattle.certificate.proofs.TextLemmas.{cut_unique, no_cut}
+use Rattle.sequence.proofs.Cuts.{cut_unique, no_cut}
 use Rattle.certificate.proofs.NumberLemmas.{IsNumber-Lacks, decimal-IsNumber, small_decimal-IsNumber}
 use Rattle.certificate.proofs.LineLemmas.{heads_differ}
 use Rattle.certificate.proofs.OneRunLemmas.{run_opening, run_lines, run_fault_unique, run_fault_excludes, run_unique}

@@ -1,6 +1,6 @@
--- The index of texts in a map, and elements of lists by their places.
-use Rattle.std.proofs.Common.{◌≡◌, ℕ, zero, suc, ◌+◌, Bool, true, false, cond, List, [], ◌∷◌, ◌++◌, Some, Vec, length, slice_get}
-use Rattle.std.proofs.Common.{bytes_eq, refl, sym, ap, subst, ◌∙◌, arith, inl, inr, ◌⊎◌}
+-- The index of texts in a map.
+use Rattle.std.proofs.Common.{◌≡◌, ℕ, ◌+◌, Bool, true, false, cond, List, [], ◌∷◌, ◌++◌, Some, Vec, length, slice_get}
+use Rattle.std.proofs.Common.{bytes_eq, refl, sym, subst, ◌∙◌, inl, inr}
 use Rattle.std.specs.HashMap.{HashMap, UpdatesBy}
 use Rattle.std.specs.Map.{lookup, IsKeyTest, AreApart, KeepsOthers}
 use Rattle.std.specs.Cmp.Lexicographic.{bytes_decides}
@@ -8,29 +8,7 @@ use Rattle.std.proofs.lemmas.Cmp.{nat_list_eq_equiv}
 use Rattle.std.proofs.lemmas.Bool.{cases_Bool, cond-true, cond-false, true≢false}
 use Rattle.std.proofs.lemmas.Option.{IfSome_then}
 use Rattle.certificate.specs.Alphabet.{get_by_bytes, IsIndexOf}
-
--- the elements of a list that has one more at its end
-pub slice_get-append_left : {X : Type 0} (xs ys : List X) (k : ℕ) (x : X) → slice_get xs k ≡ Some x → slice_get (xs ++ ys) k ≡ Some x
-slice_get-append_left [] ys k x e = absurd cc
-slice_get-append_left (y ∷ xs) ys zero x e = e
-slice_get-append_left (y ∷ xs) ys (suc k) x e = slice_get-append_left xs ys k x e
-
-pub slice_get-append_right : {X : Type 0} (xs ys : List X) (k : ℕ) → slice_get (xs ++ ys) (length xs + k) ≡ slice_get ys k
-slice_get-append_right [] ys k = ap (slice_get ys) (omega arith)
-slice_get-append_right (y ∷ xs) ys k =
-    let e : suc (length xs) + k ≡ suc (length xs + k) = omega arith in
-    ap (slice_get (y ∷ (xs ++ ys))) e ∙ slice_get-append_right xs ys k
-
-pub slice_get_push : {X : Type 0} (xs : List X) (y : X) → slice_get (xs ++ y ∷ []) (length xs) ≡ Some y
-slice_get_push [] y = refl
-slice_get_push (x ∷ xs) y = slice_get_push xs y
-
-pub slice_get-push_cases : {X : Type 0} (xs : List X) (y : X) (k : ℕ) (x : X) → slice_get (xs ++ y ∷ []) k ≡ Some x
-    → (slice_get xs k ≡ Some x) ⊎ (y ≡ x)
-slice_get-push_cases [] y zero x e = inr cc
-slice_get-push_cases [] y (suc k) x e = absurd cc
-slice_get-push_cases (z ∷ xs) y zero x e = inl e
-slice_get-push_cases (z ∷ xs) y (suc k) x e = slice_get-push_cases xs y k x e
+use Rattle.sequence.proofs.Places.{slice_get-append_left, slice_get-push_last, slice_get-push_cases}
 
 apart : (bs cs ks : List ℕ) → bytes_eq bs cs ≡ false → bytes_eq bs ks ≡ true → bytes_eq cs ks ≡ false
 apart bs cs ks n y = nat_list_eq_equiv.symm cs ks ∙ sym (nat_list_eq_equiv.congr bs ks cs y) ∙ n
@@ -77,7 +55,7 @@ IsIndexOf-push texts text m n index after =
           elim (cases_Bool (bytes_eq text other)) [
             | inl same ↦
                 let is = (bytes_decides text other).0 same in
-                rw (after other, same) (subst (λ t. slice_get (texts ++ text ∷ []) (length texts) ≡ Some t) is (slice_get_push texts text))
+                rw (after other, same) (subst (λ t. slice_get (texts ++ text ∷ []) (length texts) ≡ Some t) is (slice_get-push_last texts text))
             | inr differs ↦
                 rw (after other, differs) (IfSome_then (get_by_bytes m other) (index.place other) (λ place at. slice_get-append_left
                 texts (text ∷ []) place other at))

@@ -10,10 +10,11 @@ use Rattle.certificate.specs.declared.lines.LineFault.TheVariants.{BadLine, Unkn
 use Rattle.certificate.specs.Bytes.{Lacks, IsCutAt}
 use Rattle.certificate.specs.Numbers.{IsNumber}
 use Rattle.certificate.specs.SafeText.{letter_text}
-use Rattle.certificate.specs.Reading.{IsEdgeLine, IsThreeFields}
+use Rattle.certificate.specs.Reading.{IsThreeFields}
+use Rattle.certificate.specs.LineLayout.{IsEdgeLine}
 use Rattle.certificate.specs.Faults.{IsLetterField, HasNoLayout}
 use Rattle.certificate.specs.NextLine.{IsLetterFault, HasLineFault}
-use Rattle.certificate.proofs.TextLemmas.{Lacks-append, cut_unique, no_cut}
+use Rattle.sequence.proofs.Cuts.{Lacks-append, cut_unique, no_cut}
 use Rattle.certificate.proofs.NumberLemmas.{IsNumber-Lacks}
 use Rattle.certificate.proofs.AlphabetLemmas.{word_lacks}
 use Rattle.certificate.proofs.LineLemmas.{edge_text, edge_cancel, final_cancel, final_is_no_edge, three_unique}

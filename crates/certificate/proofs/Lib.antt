@@ -16,6 +16,5 @@ mod RunLineLemmas
 mod RunWritingLemmas
 mod SafeTextLemmas
 mod SameAutomatonLemmas
-mod TextLemmas
 mod WritingLemmas
 mod WrittenLemmas

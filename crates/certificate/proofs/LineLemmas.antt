@@ -6,10 +6,11 @@ use Rattle.protocol_model.specs.Words.{automata_letters}
 use Rattle.certificate.specs.declared.lines.Line.{Line}
 use Rattle.certificate.specs.declared.lines.Line.TheVariants.{Final, Edge}
 use Rattle.certificate.specs.Bytes.{Lacks}
-use Rattle.certificate.specs.Numbers.{IsNumber, beyond, capped_value}
+use Rattle.certificate.specs.Numbers.{IsNumber}
+use Rattle.certificate.specs.Reading.{beyond, capped_value}
 use Rattle.certificate.specs.SafeText.{letter_text, line_text, IsInRange}
 use Rattle.certificate.specs.Reading.{IsLineOf, IsNoLine, IsThreeFields}
-use Rattle.certificate.proofs.TextLemmas.{cut_unique, Lacks-append}
+use Rattle.sequence.proofs.Cuts.{cut_unique, Lacks-append}
 use Rattle.certificate.proofs.NumberLemmas.{IsNumber-Lacks, small_decimal-IsNumber, capped_value-decimal, decimal-Lacks}
 use Rattle.certificate.proofs.NumberLemmas.{decimal-capped_value}
 use Rattle.certificate.proofs.AlphabetLemmas.{letter_text-no_space, letter_text-no_line_feed, system_letter_text-injective}

@@ -10,12 +10,13 @@ use Rattle.protocol_model.specs.Words.{automata_letters}
 use Rattle.certificate.specs.declared.lines.Line.{Line}
 use Rattle.certificate.specs.declared.lines.Line.TheVariants.{Final, Edge}
 use Rattle.certificate.specs.Bytes.{IsCutAt}
-use Rattle.certificate.specs.Numbers.{beyond}
+use Rattle.certificate.specs.Reading.{beyond}
 use Rattle.certificate.specs.SafeText.{line_text, IsInRange, AreNoTwoEdges}
-use Rattle.certificate.specs.Reading.{IsLineOf, IsNoLine, AddsLine, IsSecondEdge, HasLines, HasRead, GoesOn, lines_text, body_text}
+use Rattle.certificate.specs.Reading.{IsLineOf, IsNoLine, AddsLine, IsSecondEdge, HasLines, HasRead, GoesOn, body_text}
+use Rattle.certificate.specs.LineLayout.{lines_text}
 use Rattle.certificate.specs.NextLine.{TakesLine}
 use Rattle.certificate.proofs.LineLemmas.{line_unique, line_spelled, heads_differ}
-use Rattle.certificate.proofs.ReadingLemmas.{Begins, ends, continues, GoesOn-begins, IsInRange-weaken, second_edge_ends}
+use Rattle.certificate.proofs.ReadingLemmas.{BeginsWithLine, ends, continues, GoesOn-begins, IsInRange-weaken, second_edge_ends}
 use Rattle.certificate.proofs.ReadingLemmas.{HasLines-push, AllByRecursion-push, lines_text-push, body_text-append}
 
 pub second_differs : (x y : List ℕ) → 101 ∷ (110 ∷ x) ≡ 101 ∷ (100 ∷ y) → ⊥
@@ -31,14 +32,14 @@ end_is_no_line s (Edge p a q) e =
 
 module _ (s : SystemData) (valid : IsValid s) (count : ℕ) (few : count ≤ 1000000) (rest line after : List ℕ)
     (cut : IsCutAt 10 rest line after) where
-  begins : (lines : List Line) (m : Automaton) → GoesOn s count lines rest m → Begins s count lines line after m
+  begins : (lines : List Line) (m : Automaton) → GoesOn s count lines rest m → BeginsWithLine s count lines line after m
   begins lines m = GoesOn-begins s valid count (omega arith) lines rest line after m cut
 
   -- nothing goes on after the line `end` but the end of the text
   pub end_then_nothing : line ≡ codes "end" → after ≢ [] → (lines : List Line) (m : Automaton) → GoesOn s count lines rest m → ⊥
   end_then_nothing is more lines m h = by_beginning (begins lines m h)
     where
-      by_beginning : Begins s count lines line after m → ⊥
+      by_beginning : BeginsWithLine s count lines line after m → ⊥
       by_beginning (ends e nothing) = more nothing
       by_beginning (continues x e range next) = end_is_no_line s x (sym is ∙ e)
 
@@ -48,7 +49,7 @@ module _ (s : SystemData) (valid : IsValid s) (count : ℕ) (few : count ≤ 100
       → GoesOn s count lines rest m → ⊥
   refused_line not_end lines m refuse h = by_beginning (begins lines m h)
     where
-      by_beginning : Begins s count lines line after m → ⊥
+      by_beginning : BeginsWithLine s count lines line after m → ⊥
       by_beginning (ends e nothing) = not_end e
       by_beginning (continues x e range next) = refuse x range e next
 
@@ -83,7 +84,7 @@ module _ (s : SystemData) (valid : IsValid s) (count : ℕ) (few : count ≤ 100
       → GoesOn s count (lines ++ y ∷ []) after m
   taken not_end y read own lines m h = by_beginning (begins lines m h)
     where
-      by_beginning : Begins s count lines line after m → GoesOn s count (lines ++ y ∷ []) after m
+      by_beginning : BeginsWithLine s count lines line after m → GoesOn s count (lines ++ y ∷ []) after m
       by_beginning (ends e nothing) = absurd (not_end e)
       by_beginning (continues x e range next) = subst (λ z. GoesOn s count (lines ++ z ∷ []) after m)
           (sym (reading_is x y read range e)) next

@@ -12,11 +12,12 @@ use Rattle.certificate.specs.declared.fault.CertFault.TheVariants.{BadLine, Unkn
 use Rattle.certificate.specs.declared.lines.Line.{Line}
 use Rattle.certificate.specs.declared.lines.Line.TheVariants.{Final, Edge}
 use Rattle.certificate.specs.Bytes.{Lacks, IsCutAt}
-use Rattle.certificate.specs.Numbers.{beyond}
+use Rattle.certificate.specs.Reading.{beyond}
 use Rattle.certificate.specs.SafeText.{letter_text, line_text, IsInRange, AreNoTwoEdges}
-use Rattle.certificate.specs.Reading.{IsEdgeLine, GoesOn, lines_text, body_text}
+use Rattle.certificate.specs.Reading.{GoesOn, body_text}
+use Rattle.certificate.specs.LineLayout.{IsEdgeLine, lines_text}
 use Rattle.certificate.specs.Faults.{Says, IsSecondIn, HasNoLayout, NamesNoLetter, IsLaterFault, FaultInLater, FaultInBody}
-use Rattle.certificate.proofs.TextLemmas.{cut_unique, no_cut}
+use Rattle.sequence.proofs.Cuts.{cut_unique, no_cut}
 use Rattle.certificate.proofs.NumberLemmas.{IsNumber-Lacks, decimal-IsNumber, small_decimal-IsNumber}
 use Rattle.certificate.proofs.AlphabetLemmas.{letter_text-no_space, letter_text-laid_out, system_letter_text-injective}
 use Rattle.certificate.proofs.LineLemmas.{edge_text, edge_cancel, final_cancel, final_is_no_edge, three_unique, heads_differ, line_text-no_line_feed}

@@ -3,10 +3,10 @@ use Rattle.std.proofs.Common.{◌≡◌, ℕ, ◌<◌, ◌≤◌, ◌↔◌, fal
 use Rattle.std.specs.Str.Parse.{digits_value}
 use Rattle.std.proofs.lemmas.List.{append_assoc, append_cancel_left}
 use Rattle.certificate.specs.Bytes.{Lacks, IsCutAt}
-use Rattle.certificate.specs.Numbers.{beyond, capped_value}
-use Rattle.certificate.specs.Reading.{opening_text}
+use Rattle.certificate.specs.Reading.{beyond, capped_value}
+use Rattle.certificate.specs.LineLayout.{opening_text}
 use Rattle.certificate.specs.Faults.{IsOtherVersion}
-use Rattle.certificate.proofs.TextLemmas.{cut_unique, Lacks-append}
+use Rattle.sequence.proofs.Cuts.{cut_unique, Lacks-append}
 use Rattle.certificate.proofs.NumberLemmas.{IsNumber-Lacks, decimal-Lacks}
 
 -- the fields of another version's line are those that it is cut into

@@ -13,10 +13,11 @@ use Rattle.protocol_model.specs.Words.{automata_letters}
 use Rattle.certificate.specs.declared.lines.Line.{Line}
 use Rattle.certificate.specs.declared.lines.Line.TheVariants.{Final, Edge}
 use Rattle.certificate.specs.Bytes.{Lacks, IsCutAt}
-use Rattle.certificate.specs.Numbers.{beyond}
+use Rattle.certificate.specs.Reading.{beyond}
 use Rattle.certificate.specs.SafeText.{line_text, IsInRange, AreNoTwoEdges, IsAutomatonOf}
-use Rattle.certificate.specs.Reading.{AddsLine, IsSecondEdge, HasLines, lines_text, body_text, GoesOn}
-use Rattle.certificate.proofs.TextLemmas.{cut_unique, no_cut}
+use Rattle.certificate.specs.Reading.{AddsLine, IsSecondEdge, HasLines, body_text, GoesOn}
+use Rattle.certificate.specs.LineLayout.{lines_text}
+use Rattle.sequence.proofs.Cuts.{cut_unique, no_cut}
 use Rattle.certificate.proofs.LineLemmas.{line_text-no_line_feed}
 
 -- texts of lines
@@ -73,16 +74,16 @@ some_value None h = cc h
 some_value (Some x) h = (x, refl)
 
 -- how a text begins that goes on: with the line `end` alone, or with a line after which it goes on
-pub data Begins (s : SystemData) (count : ℕ) (lines : List Line) (line after : List ℕ) (m : Automaton) : Type 0 where
-  ends : line ≡ codes "end" → after ≡ [] → Begins s count lines line after m
+pub data BeginsWithLine (s : SystemData) (count : ℕ) (lines : List Line) (line after : List ℕ) (m : Automaton) : Type 0 where
+  ends : line ≡ codes "end" → after ≡ [] → BeginsWithLine s count lines line after m
   continues : (x : Line) → line ≡ line_text s x → IsInRange (automata_letters s) count x → GoesOn s count (lines ++ x ∷ []) after m
-      → Begins s count lines line after m
+      → BeginsWithLine s count lines line after m
 
 module _ (s : SystemData) (valid : IsValid s) (count : ℕ) (few : count ≤ beyond) (lines : List Line) (rest line after : List ℕ)
     (m : Automaton) (cut : IsCutAt 10 rest line after) where
   begins_with : (later : List Line) → rest ≡ body_text s later → AllByRecursion (IsInRange (automata_letters s) count) (lines ++ later)
       → AllPairs AreNoTwoEdges (lines ++ later)
-      → IsAutomatonOf (automata_letters s) count (lines ++ later) m → Begins s count lines line after m
+      → IsAutomatonOf (automata_letters s) count (lines ++ later) m → BeginsWithLine s count lines line after m
   begins_with [] spelled in_range no_two automaton =
       let parts = cut_unique 10 line (codes "end") after [] cut.first (omega arith, (omega arith, (omega arith, tt))) (sym cut.joined
       ∙ spelled) in
@@ -101,7 +102,7 @@ module _ (s : SystemData) (valid : IsValid s) (count : ℕ) (few : count ≤ bey
         automaton = subst (λ all. IsAutomatonOf (automata_letters s) count all m) regrouped automaton;
       })
 
-  pub GoesOn-begins : GoesOn s count lines rest m → Begins s count lines line after m
+  pub GoesOn-begins : GoesOn s count lines rest m → BeginsWithLine s count lines line after m
   GoesOn-begins h = begins_with h.later h.spelled h.in_range h.no_two_edges h.automaton
 
 -- a text that goes on has a line feed

@@ -1,5 +1,5 @@
 -- The lines of runs as they are written: their layout, and that no two steps have one line.
-use Rattle.std.proofs.Common.{◌≡◌, ◌<◌, ◌==◌, ◌||◌, ℕ, zero, suc, Bool, true, false, List, [], ◌∷◌, ◌++◌, IsTrue, length, slice_get, get_or, nat_lt, codes, flat_map, map}
+use Rattle.std.proofs.Common.{◌≡◌, ◌<◌, ◌==◌, ◌||◌, ℕ, zero, suc, true, false, List, [], ◌∷◌, ◌++◌, IsTrue, length, slice_get, get_or, nat_lt, codes, flat_map, map}
 use Rattle.std.proofs.Common.{refl, sym, ap, subst, ◌∙◌, inl, inr, arith, true≢false, Some, None, cond, bytes_eq}
 use Rattle.std.proofs.Common.{ltb-true}
 use Rattle.std.specs.List.{AllByRecursion, list_all, list_any, join_by, position_or_len}
@@ -8,6 +8,7 @@ use Rattle.std.proofs.lemmas.Bool.{and_parts, cases_order}
 use Rattle.std.proofs.lemmas.List.{append_assoc, append-nil, append_cancel_left, length-map}
 use Rattle.std.proofs.lemmas.List.Quantifiers.{position-Some}
 use Rattle.std.proofs.lemmas.Slice.Eq.{bytes_eq-Decides}
+use Rattle.std.proofs.Math.Bool.{or-true}
 use Rattle.protocol_model.proofs.Lists.{position_is}
 use Rattle.protocol_syntax.specs.Symbol.{keyword_of}
 use Rattle.protocol_model.specs.declared.system.Section.{Section}
@@ -23,7 +24,7 @@ use Rattle.certificate.specs.Bytes.{Lacks, IsCutAt}
 use Rattle.certificate.specs.NextStep.{rule_index}
 use Rattle.certificate.specs.RunText.{rule_name, start_line, step_line, IsStepOf}
 use Rattle.certificate.specs.RunLayout.{is_name_of_any_length, IsNameOfAnyLength, NamedPart, names_text, named_part_text, IsPartFor, ArePartsFor, IsLaidOut, IsStartLayout, IsStepLayout}
-use Rattle.certificate.proofs.TextLemmas.{cut_unique, no_cut, Lacks-append}
+use Rattle.sequence.proofs.Cuts.{cut_unique, no_cut, Lacks-append}
 use Rattle.certificate.proofs.RunLayoutLemmas.{name_lacks, name_of_any_length, later_names, later_parts, part_lacks, laid_out_lacks}
 
 -- the names of the letters of a list
@@ -229,10 +230,6 @@ rule_named : (rules : List Rule) (r : ℕ) → r < length rules
 rule_named [] r h = absurd (omega arith)
 rule_named (rule ∷ rules) zero h = refl
 rule_named (rule ∷ rules) (suc r) h = rule_named rules r (omega arith)
-
-or-true : (b : Bool) → (b || true) ≡ true
-or-true true = refl
-or-true false = refl
 
 -- some rule has the name where the rule of some number has it
 any_at : (rules : List Rule) (name : List ℕ) (r : ℕ) → r < length rules → name ≡ option_map_or (λ rule. rule.name) (slice_get rules r) []

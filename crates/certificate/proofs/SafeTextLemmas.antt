@@ -4,7 +4,8 @@ use Rattle.word_automata.specs.Automaton.{Automaton}
 use Rattle.protocol_model.specs.System.{SystemData}
 use Rattle.certificate.specs.declared.lines.Line.{Line}
 use Rattle.certificate.specs.SafeText.{safe_text, MeansAutomaton}
-use Rattle.certificate.specs.Reading.{opening_text, body_text, GoesOn}
+use Rattle.certificate.specs.Reading.{body_text, GoesOn}
+use Rattle.certificate.specs.LineLayout.{opening_text}
 
 safe_text-is : (s : SystemData) (count : ℕ) (lines : List Line) → safe_text s count lines ≡ opening_text count ++ body_text s lines
 safe_text-is s count lines = refl

@@ -8,8 +8,10 @@ use Rattle.word_automata.specs.Automaton.{Automaton}
 use Rattle.protocol_model.specs.System.{SystemData}
 use Rattle.certificate.specs.declared.lines.Line.TheVariants.{Final}
 use Rattle.certificate.specs.SafeText.{line_text}
-use Rattle.certificate.specs.Reading.{lines_text, body_text, opening_text}
-use Rattle.certificate.specs.Writing.{final_states, lines_from, edge_lines, written_lines, written_text, final_text}
+use Rattle.certificate.specs.Reading.{body_text}
+use Rattle.certificate.specs.LineLayout.{lines_text, opening_text}
+use Rattle.certificate.specs.Writing.{final_states, lines_from, edge_lines, written_lines, written_text}
+use Rattle.certificate.specs.WritingParts.{final_text}
 use Rattle.certificate.proofs.ReadingLemmas.{body_text-append}
 
 -- the states from one on: the first of them and the others

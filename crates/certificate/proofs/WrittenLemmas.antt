@@ -1,18 +1,15 @@
 -- The lines that are written of an automaton mean it.
 use Rattle.std.proofs.Common.{◌≡◌, ℕ, zero, suc, ◌+◌, ◌<◌, ◌≤◌, Bool, true, false, List, [], ◌∷◌, ◌++◌, Some, All, AllPairs, Contains}
 use Rattle.std.proofs.Common.{length, map}
-use Rattle.std.proofs.Common.{if◌then◌else◌, eqb, get_or, refl, sym, ap, subst, ◌∙◌, arith, inl, inr}
+use Rattle.std.proofs.Common.{if◌then◌else◌, refl, ap, subst, ◌∙◌, arith, inl, inr}
 use Rattle.std.specs.List.{AllByRecursion}
-use Rattle.std.proofs.lemmas.List.{get_or_default}
 use Rattle.std.proofs.lemmas.List.Elements.{All-nil, All-head, All-tail, All-append, All-map, All-weaker, All-contains}
 use Rattle.std.proofs.lemmas.List.Elements.{Contains-append_left, Contains-append_right, Contains-append_cases}
 use Rattle.std.proofs.lemmas.List.Kept.{AllPairs-cons}
-use Rattle.std.proofs.lemmas.Bool.Decides.{nat_tests}
-use Rattle.std.proofs.lemmas.Option.{same_Some}
 use Rattle.word_automata.specs.Path.{Node, edges_of, is_accepting}
 use Rattle.word_automata.specs.Automaton.{Automaton, find_target, HasIncreasingLetters, IsValid}
-use Rattle.word_automata.proofs.EdgeList.{find_target_at}
 use Rattle.word_automata.proofs.Members.{Contains-here, Contains-there, Contains-cases, Contains-none, Contains-map, Contains-map_cases}
+use Rattle.word_automata.proofs.Edges.{found_edge, edge_found}
 use Rattle.protocol_model.specs.System.{SystemData}
 use Rattle.protocol_model.specs.Words.{automata_letters}
 use Rattle.certificate.specs.declared.lines.Line.{Line}
@@ -141,24 +138,6 @@ finals_have_no_edge states p a r among = let found = Contains-map_cases Final st
     no_edge q e = absurd cc
 
 -- the edges that are written are those of the automaton
-found_edge : (edges : List (ℕ × ℕ)) (a r : ℕ) → find_target edges a ≡ Some r → Contains edges (a, r)
-found_edge [] a r found = absurd cc
-found_edge (edge ∷ edges) a r found = by (eqb edge.0 a) refl (found_edge edges a r)
-  where
-    by : (b : Bool) → eqb edge.0 a ≡ b → (find_target edges a ≡ Some r → Contains edges (a, r)) → Contains (edge ∷ edges) (a, r)
-    by true same rest =
-        let letter : edge.0 ≡ a = grind (arith, nat_tests) in
-        let to : edge.1 ≡ r = same_Some edge.1 r (sym (ap (λ b. if b then Some edge.1 else find_target edges a) same) ∙ found) in
-        subst (Contains (edge ∷ edges)) (ap (λ x. (x, edge.1)) letter ∙ ap (λ y. (a, y)) to) (Contains-here edges edge)
-    by false other rest =
-        Contains-there edge edges (a, r) (rest (sym (ap (λ b. if b then Some edge.1 else find_target edges a) other) ∙ found))
-
-edge_found : (edges : List (ℕ × ℕ)) → HasIncreasingLetters edges → (a r : ℕ) → Contains edges (a, r) → find_target edges a ≡ Some r
-edge_found edges sorted a r among =
-    let here : get_or edges among.0 (0, 0) ≡ (a, r) = get_or_default edges among.0 (0, 0) (a, r) among.1 ∙ among.2 in
-    find_target_at edges sorted a among.0 (record { within = among.1; has_letter = ap (λ (edge : ℕ × ℕ). edge.0) here })
-    ∙ ap (λ (edge : ℕ × ℕ). Some edge.1) here
-
 edges_have : (q : ℕ) (nodes : List (Node ℕ)) (p a r : ℕ) → find_target (edges_of nodes p) a ≡ Some r
     → Contains (edge_lines q nodes) (Edge (q + p) a r)
 edges_have q [] p a r leads = absurd cc

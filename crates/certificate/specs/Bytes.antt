@@ -1,12 +1,8 @@
 -- Parts of a text.
-use Rattle.std.specs.Prelude.{◌≡◌, ◌≢◌, ℕ, List, ◌∷◌, ◌++◌}
-use Rattle.std.specs.List.{AllByRecursion}
+pub use Rattle.sequence.specs.Cuts.{Lacks}
+use Rattle.std.specs.Prelude.{◌≡◌, ℕ, List, ◌∷◌, ◌++◌}
 use Rattle.certificate.specs.declared.fault.CertFault.{CertFault}
 use Rattle.certificate.specs.declared.fault.CertFault.TheVariants.{Truncated}
-
--- the byte is not one of the text's
-abbrev pub Lacks : ℕ → List ℕ → Type 0
-Lacks byte text = AllByRecursion (λ b. b ≢ byte) text
 
 -- the text is cut at its first separator
 pub record IsCutAt (separator : ℕ) (text before after : List ℕ) : Type 0 where

@@ -13,7 +13,7 @@ use Rattle.certificate.specs.declared.lines.Line.TheVariants.{Final, Edge}
 use Rattle.certificate.specs.Bytes.{IsCutAt, IsCutShort}
 use Rattle.certificate.specs.Numbers.{IsNumber}
 use Rattle.certificate.specs.SafeText.{letter_text, IsInRange, AreNoTwoEdges}
-use Rattle.certificate.specs.Reading.{IsFinalLine, IsEdgeLine, lines_text, opening_text}
+use Rattle.certificate.specs.LineLayout.{IsFinalLine, IsEdgeLine, lines_text, opening_text}
 use Rattle.certificate.specs.RunFaults.{FaultInRun}
 
 -- the bytes are laid out as a letter: `|`, or two words, reserved or not, with a dot between them

@@ -1,7 +1,8 @@
--- What reading the lines of a text has found so far.
+-- What reading the lines of a text has found so far. Only private contracts speak of this.
 use Rattle.std.specs.Prelude.{◌≡◌, ℕ, ◌<◌, ◌↔◌, List, [], ◌∷◌, ◌++◌, None, Some, IsTrue, IsSome, Contains, AllPairs, map, length}
-use Rattle.std.specs.Prelude.{codes, decimal, flat_map}
+use Rattle.std.specs.Prelude.{codes, flat_map, min}
 use Rattle.std.specs.List.{AllByRecursion}
+use Rattle.std.specs.Str.Parse.{digits_value}
 use Rattle.word_automata.specs.Path.{is_accepting}
 use Rattle.word_automata.specs.Automaton.{Automaton, target}
 use Rattle.word_automata.specs.Building.{IsEdgeInRange, AddsEdge, MakesAccepting}
@@ -10,19 +11,16 @@ use Rattle.protocol_model.specs.Words.{automata_letters}
 use Rattle.certificate.specs.declared.lines.Line.{Line}
 use Rattle.certificate.specs.declared.lines.Line.TheVariants.{Final, Edge}
 use Rattle.certificate.specs.Bytes.{Lacks}
-use Rattle.certificate.specs.Numbers.{IsNumber, beyond, capped_value}
 use Rattle.certificate.specs.SafeText.{letter_text, line_text, IsInRange, AreNoTwoEdges, IsAutomatonOf}
+use Rattle.certificate.specs.LineLayout.{IsFinalLine, IsEdgeLine, lines_text}
 
--- the layout of a line that makes a state accepting
-pub record IsFinalLine (line field : List ℕ) : Type 0 where
-  pub spelled : line ≡ codes "final " ++ field
-  pub number : IsNumber field
+-- a number that is past every limit
+abbrev pub beyond : ℕ
+beyond = 10000000
 
--- the layout of a line with an edge
-pub record IsEdgeLine (line from letter to : List ℕ) : Type 0 where
-  pub spelled : line ≡ codes "edge " ++ from ++ codes " " ++ letter ++ codes " " ++ to
-  pub from_number : IsNumber from
-  pub to_number : IsNumber to
+-- the value of a number, where all values past every limit count as one
+abbrev pub capped_value : List ℕ → ℕ
+capped_value field = min (digits_value 10 field) beyond
 
 -- the bytes are those of a line, with the values of its fields
 abbrev pub IsLineOf : SystemData → List ℕ → Line → Type 0
@@ -52,17 +50,9 @@ pub record HasLines (size count : ℕ) (lines : List Line) (m : Automaton) : Typ
   pub final_lines : (q : ℕ) → IsTrue (is_accepting m.states q) ↔ Contains lines (Final q)
   pub edge_lines : (p a q : ℕ) → (target m p a ≡ Some q) ↔ Contains lines (Edge p a q)
 
--- the text of lines, each ended by a line feed
-abbrev pub lines_text : SystemData → List Line → List ℕ
-lines_text s lines = flat_map (λ x. line_text s x ++ 10 ∷ []) lines
-
 -- the text of lines and of the line `end` after them
 abbrev pub body_text : SystemData → List Line → List ℕ
 body_text s lines = flat_map (λ line. line ++ 10 ∷ []) (map (line_text s) lines ++ codes "end" ∷ [])
-
--- the text before these lines
-abbrev pub opening_text : ℕ → List ℕ
-opening_text count = codes "armc 1 safe" ++ 10 ∷ codes "states " ++ decimal count ++ 10 ∷ []
 
 -- after these lines the rest is lines and the line `end`, and all lines together mean the automaton
 pub record GoesOn (s : SystemData) (count : ℕ) (lines : List Line) (rest : List ℕ) (m : Automaton) : Type 0 where

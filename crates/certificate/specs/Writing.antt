@@ -29,10 +29,6 @@ written_lines m = map Final (final_states 0 m.states) ++ edge_lines 0 m.states
 abbrev pub written_text : SystemData → Automaton → List ℕ
 written_text s m = safe_text s (length m.states) (written_lines m)
 
--- the line of an accepting state, with its line feed
-abbrev pub final_text : ℕ → List ℕ
-final_text q = codes "final " ++ decimal q ++ 10 ∷ []
-
 -- the text of a search that reached its budget when so many states were counted
 abbrev pub unknown_text : ℕ → ℕ → List ℕ
 unknown_text counted budget =

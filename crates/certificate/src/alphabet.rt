@@ -1,4 +1,5 @@
 //! The letters of a system's automata, found by their texts.
+//! The texts of all letters are made once and kept in a hash map: a letter is found in constant expected time.
 
 ghost use Rattle.std.specs.Prelude.{◌≡◌, ◌++◌, ◌+◌, ◌^◌, ◌<◌, ℕ, IfOk, OnOk, IfSome, Some, codes, length};
 ghost use Rattle.protocol_model.specs.System.{IsValid};

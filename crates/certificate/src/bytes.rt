@@ -1,4 +1,5 @@
 //! Parts of a text.
+//! A byte is searched by `memchr`; what is handed out are parts of the text itself.
 
 ghost use Rattle.std.specs.Prelude.{◌≡◌, ℕ, List, ◌++◌, MatchOption};
 ghost use Rattle.certificate.specs.Bytes.{Lacks, IsCutAt};

@@ -1,4 +1,5 @@
 //! Why a text is refused.
+//! What the program prints of a fault is made by the program; here it shows as its variant.
 
 ghost use Rattle.std.specs.Prelude.{◌≡◌};
 ghost use Rattle.certificate.specs.declared.fault.CertFault.TheVariants.{Memory};
@@ -8,57 +9,49 @@ use thiserror::Error;
 
 /// Why a text is no certificate, with the number of the first line that has a fault. Lines are counted from 1.
 #[derive(Clone, Copy, Debug, PartialEq, Eq, Error)]
+#[error("{:?}", self)]
 pub enum CertFault {
     /// The first line is that of another version.
-    #[error("line {line}: version")]
     Version {
         /// The number of the line.
         line: u64,
     },
     /// The line does not have a layout that may stand there.
-    #[error("line {line}: bad line")]
     BadLine {
         /// The number of the line.
         line: u64,
     },
     /// The line names what the system does not have.
-    #[error("line {line}: unknown name")]
     UnknownName {
         /// The number of the line.
         line: u64,
     },
     /// A state is not below the number of states.
-    #[error("line {line}: out of range")]
     OutOfRange {
         /// The number of the line.
         line: u64,
     },
     /// An earlier line has an edge with the same source and letter.
-    #[error("line {line}: two edges")]
     TwoEdges {
         /// The number of the line.
         line: u64,
     },
     /// The text ends before the line feed of the line.
-    #[error("line {line}: truncated")]
     Truncated {
         /// The number of the line.
         line: u64,
     },
     /// The text is that of a search that reached its budget.
-    #[error("line {line}: nothing to verify")]
     NothingToVerify {
         /// The number of the line.
         line: u64,
     },
     /// There are more than 1,000,000 states.
-    #[error("line {line}: too many states")]
     TooMany {
         /// The number of the line.
         line: u64,
     },
     /// There is not enough memory.
-    #[error("out of memory")]
     Memory,
 }
 

@@ -1,15 +1,13 @@
 //! The layout of the lines of a run, whatever names they show: a line is cut at its signs, in one pass over its bytes.
 
 ghost use Rattle.std.specs.Prelude.{◌≡◌, ◌↔◌, ◌||◌, IsTrue};
-ghost use Rattle.std.specs.List.{list_all};
-ghost use Rattle.protocol_lexer.specs.Piece.{is_word_byte};
-ghost use Rattle.protocol_model.specs.Patterns.{has_any_length};
 ghost use Rattle.certificate.specs.RunLayout.{is_name_of_any_length, IsLaidOut, IsStartLayout, IsStepLayout};
 ghost use Rattle.certificate.specs.LayoutParts.{AreNames, IsListText, IsPartText};
 
 use crate::bytes::{after_prefix, cut_at};
+use protocol_lexer::are_word_bytes;
 use protocol_model::{Section, System};
-use protocol_syntax::{Kind, keyword_of};
+use protocol_syntax::keyword_of;
 
 /// Whether the line is laid out as that of a first configuration.
 pub fn is_start_layout(system: &System, line: &[u8]) -> bool
@@ -61,16 +59,16 @@ fn is_part(section: &Section, text: &[u8]) -> bool
         return false;
     };
     match after_prefix(after, b" ") {
-        Some(list) => is_name_of_any_length(name) && is_list(section.kind, list),
+        Some(list) => is_name_of_any_length(name) && is_list(section, list),
         None => false,
     }
 }
 
-/// Whether the text is laid out as the list of a section of this kind: names, or `empty`; one name alone where it is a cell.
-fn is_list(kind: Kind, text: &[u8]) -> bool
-    ensures { IsTrue result ↔ IsListText kind text.now }
+/// Whether the text is laid out as the list of the section: names, or `empty`; one name alone where it is a cell.
+fn is_list(section: &Section, text: &[u8]) -> bool
+    ensures { IsTrue result ↔ IsListText section.now.kind text.now }
 {
-    if has_any_length(kind) {
+    if section.has_any_length() {
         text == b"empty".as_slice() || are_names(text)
     } else {
         is_name_of_any_length(text)
@@ -98,26 +96,4 @@ fn is_name_of_any_length(text: &[u8]) -> bool
     ensures { result ≡ is_name_of_any_length text.now }
 {
     !text.is_empty() && are_word_bytes(text) && keyword_of(text).is_none()
-}
-
-fn are_word_bytes(text: &[u8]) -> bool
-    ensures { result ≡ list_all is_word_byte text.now }
-{
-    text.iter().all(|b| is_word_byte(*b))
-}
-
-fn is_word_byte(b: u8) -> bool
-    ensures { result ≡ is_word_byte b }
-{
-    (b >= b'A' && b <= b'Z') || (b >= b'a' && b <= b'z') || (b >= b'0' && b <= b'9') || b == b'_'
-}
-
-/// Whether a section of this kind has lists of any length.
-fn has_any_length(kind: Kind) -> bool
-    ensures { result ≡ has_any_length kind }
-{
-    match kind {
-        Kind::Cell => false,
-        Kind::Array | Kind::Channel | Kind::Stack => true,
-    }
 }

@@ -1,4 +1,5 @@
 //! Certificates as texts.
+//! A text is read in one pass, and written in one or two.
 #![tactic(auto)]
 
 mod alphabet;

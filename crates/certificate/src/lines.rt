@@ -1,4 +1,5 @@
 //! The lines of the text of an automaton.
+//! A line is cut at its spaces, and its letter is looked up by its text; time is linear in the line.
 
 ghost use Rattle.std.specs.Prelude.{◌≡◌, ◌++◌, ◌∷◌, List, ℕ, IfOk, IfErr, OnErr, MatchOption, codes};
 ghost use Rattle.protocol_model.specs.System.{IsValid};

@@ -1,4 +1,5 @@
 //! The names of letters.
+//! The name of a letter is that of its section, a dot and its own.
 
 ghost use Rattle.std.specs.Prelude.{◌≡◌, ◌↔◌, ◌&&◌, IsTrue};
 ghost use Rattle.protocol_model.specs.Names.{is_word};

@@ -1,7 +1,9 @@
 //! Numbers in decimal.
+//! A number of any length is read in one pass, where all values past every limit count as one.
 
 ghost use Rattle.std.specs.Prelude.{◌≡◌, MatchOption};
-ghost use Rattle.certificate.specs.Numbers.{IsNumber, capped_value};
+ghost use Rattle.certificate.specs.Numbers.{IsNumber};
+ghost use Rattle.certificate.specs.Reading.{capped_value};
 
 /// A number that is past every limit. A larger one is read as this one.
 pub const BEYOND: usize = 10_000_000;

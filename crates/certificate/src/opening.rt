@@ -1,4 +1,5 @@
 //! The first two lines of a text.
+//! They tell which kind of certificate follows, and how many states it has.
 
 ghost use Rattle.std.specs.Prelude.{◌≡◌, ◌≢◌, ◌↔◌, ◌++◌, ◌∷◌, ◌≤◌, ℕ, List, IfOk, IfErr, IsOkAnd, IsTrue, OnErr, MatchOption, codes, decimal};
 ghost use Rattle.certificate.specs.NextLine.{IsNotUnsafe};

@@ -1,4 +1,5 @@
 //! The texts of an automaton and of a search that reached its budget.
+//! The states are gone over twice, for the accepting ones and for the edges; time is linear in the text.
 
 ghost use Rattle.std.specs.Prelude.{◌≡◌, ◌++◌, ◌∷◌, ◌<◌, ◌≤◌, ℕ, [], All, IfOk, OnOk, decimal, length, flat_map};
 ghost use Rattle.std.specs.Prelude.{if◌then◌else◌};
@@ -6,8 +7,9 @@ ghost use Rattle.word_automata.specs.Path.{is_accepting};
 ghost use Rattle.protocol_model.specs.Words.{automata_letters};
 ghost use Rattle.certificate.specs.declared.lines.Line.TheVariants.{Edge};
 ghost use Rattle.certificate.specs.SafeText.{line_text, MeansAutomaton};
-ghost use Rattle.certificate.specs.Reading.{lines_text};
-ghost use Rattle.certificate.specs.Writing.{final_states, lines_from, edge_lines, written_text, final_text, unknown_text};
+ghost use Rattle.certificate.specs.LineLayout.{lines_text};
+ghost use Rattle.certificate.specs.Writing.{final_states, lines_from, edge_lines, written_text, unknown_text};
+ghost use Rattle.certificate.specs.WritingParts.{final_text};
 
 use crate::alphabet::Alphabet;
 use itoa::Buffer;

@@ -8,20 +8,8 @@ use Rattle.protocol_model.specs.System.{AllBelow, IsValidStack, IsValidPop}
 use Rattle.protocol_model.specs.Words.{raised}
 use Rattle.protocol_model.specs.Moves.{IsMove, popped}
 use Rattle.protocol_model.specs.Raised.{IsRaisedMove}
+use Rattle.protocol_model.proofs.Below.{AllBelow-right, AllBelow-append}
 use Rattle.memory_moves.specs.Machine.{IsLabel, IsCopiedBetween, reading, writing, stack_prefix, read_word, written_word}
-
--- lists in range, and their parts
-AllBelow-append : (count : ℕ) (s t : List ℕ) → AllBelow count s → AllBelow count t → AllBelow count (s ++ t)
-AllBelow-append count [] t h g = g
-AllBelow-append count (x ∷ s) t h g = (h.0, AllBelow-append count s t h.1 g)
-
-AllBelow-right : (count : ℕ) (s t : List ℕ) → AllBelow count (s ++ t) → AllBelow count t
-AllBelow-right count [] t h = h
-AllBelow-right count (x ∷ s) t h = AllBelow-right count s t h.1
-
--- equivalences one after the other
-pub joined : {A B C : Type 0} → (A → B) × (B → A) → (B → C) × (C → B) → (A → C) × (C → A)
-joined h g = (λ a. g.0 (h.0 a), λ c. h.1 (g.1 c))
 
 -- labels in range
 IsLabel-reading : (letters a : ℕ) → a < letters → IsLabel letters (reading a)

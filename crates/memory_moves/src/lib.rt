@@ -1,4 +1,5 @@
 //! Moves of cells, channels and stacks as transducers: one transducer relates the lists before and after a move, of every length.
+//! The machines have one state more than they exchange letters at the ends.
 #![tactic(auto)]
 
 mod machine;

@@ -1,4 +1,5 @@
 //! Transducers that exchange what stands at the two ends of a word, and copy what lies between.
+//! One state for each label of the prefix, one that copies, and one behind the suffix, if there is one.
 
 ghost use Rattle.std.specs.Prelude.{◌≡◌, ◌↔◌, ◌+◌, ◌++◌, ◌<◌, ◌≤◌, ◌^◌, ℕ, List, All, IfOk, IfSome, OnOk, length};
 ghost use Rattle.transducers.specs.Transducer.{Relates};

@@ -6,8 +6,9 @@ use Rattle.protocol_model.specs.declared.system.Move.TheVariants.{Set}
 use Rattle.protocol_model.specs.Moves.{IsMove}
 use Rattle.protocol_model.specs.Raised.{IsRaisedMove}
 use Rattle.memory_moves.specs.Machine.{IsCopiedBetween}
-use Rattle.memory_moves.proofs.MoveLemmas.{cell_relates, joined}
+use Rattle.memory_moves.proofs.MoveLemmas.{cell_relates}
 use Rattle.memory_moves.proofs.compile_cell.Goals as goal
+use Rattle.sequence.proofs.Tests.{joined}
 
 pub returns-clause-relates : goal.returns-clause-relates
 returns-clause-relates c =

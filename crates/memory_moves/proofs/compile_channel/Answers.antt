@@ -6,8 +6,9 @@ use Rattle.protocol_model.specs.System.{IsValidMove}
 use Rattle.protocol_model.specs.Moves.{IsMove}
 use Rattle.protocol_model.specs.Raised.{IsRaisedMove}
 use Rattle.memory_moves.specs.Machine.{IsCopiedBetween, reading, writing}
-use Rattle.memory_moves.proofs.MoveLemmas.{send_relates, receive_relates, joined}
+use Rattle.memory_moves.proofs.MoveLemmas.{send_relates, receive_relates}
 use Rattle.memory_moves.proofs.compile_channel.Goals as goal
+use Rattle.sequence.proofs.Tests.{joined}
 
 pub returns-in-Send-clause-relates : goal.returns-in-Send-clause-relates
 returns-in-Send-clause-relates c =

@@ -6,8 +6,9 @@ use Rattle.protocol_model.specs.System.{IsValidMove}
 use Rattle.protocol_model.specs.Moves.{IsMove}
 use Rattle.protocol_model.specs.Raised.{IsRaisedMove}
 use Rattle.memory_moves.specs.Machine.{IsLabel, IsCopiedBetween, stack_prefix}
-use Rattle.memory_moves.proofs.MoveLemmas.{stack_relates, stack_in_range, joined}
+use Rattle.memory_moves.proofs.MoveLemmas.{stack_relates, stack_in_range}
 use Rattle.memory_moves.proofs.compile_stack.Goals as goal
+use Rattle.sequence.proofs.Tests.{joined}
 
 pub copy_between-requires-clause-prefix : goal.copy_between-requires-clause-prefix
 copy_between-requires-clause-prefix c = subst (All (IsLabel c.args.letters)) (sym (c.as_slice-in-Stack.ensures.value ∙ c.in_ok-prefix-in-Stack.ensures

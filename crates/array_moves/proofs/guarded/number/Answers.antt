@@ -1,4 +1,5 @@
-use Rattle.std.proofs.Common.{◌≡◌, Bool, true, false, ◌&&◌, refl, sym, subst, Some, slice_get, true≢false}
+use Rattle.std.proofs.Common.{◌≡◌, true, sym, subst, Some, slice_get}
+use Rattle.std.proofs.lemmas.Bool.{and_parts}
 use mathlib.Core.Bool.{beq}
 use lib.Pointwise.{pointwise, pointwise_decides}
 use Rattle.array_moves.specs.contracts.plan.PhasePartialEq.TheImpl.{eq-value}
@@ -7,13 +8,9 @@ use Rattle.array_moves.specs.Phases.{Numbers}
 use Rattle.array_moves.proofs.PhaseLemmas.{beq_decides, Numbers-insert_key}
 use Rattle.array_moves.proofs.guarded.number.Goals as goal
 
-both : (a b : Bool) → (a && b) ≡ true → (a ≡ true) × (b ≡ true)
-both true b h = (refl, h)
-both false b h = absurd (true≢false (sym h))
-
 same : (x y : Phase) → eq-value.it x y ≡ true → x ≡ y
 same x y e =
-    let parts = both (beq x.moved y.moved) (pointwise beq x.met y.met) e in
+    let parts = and_parts (beq x.moved y.moved) (pointwise beq x.met y.met) e in
     let moved = (beq_decides x.moved y.moved).0 parts.0 in
     let met = (pointwise_decides {E = beq} beq_decides x.met y.met).0 parts.1 in
     λ i. record { moved = moved i; met = met i }

@@ -1,5 +1,6 @@
 use Rattle.std.proofs.Common.{◌≡◌, ◌++◌, drop, flat_map}
-use Rattle.certificate.specs.Writing.{final_states, final_text}
+use Rattle.certificate.specs.Writing.{final_states}
+use Rattle.certificate.specs.WritingParts.{final_text}
 use Rattle.certificate.proofs.writing.push_final_states.Given as goal
 
 abbrev pub invariant-states : goal.invariant-states

@@ -1,7 +1,8 @@
 use Rattle.std.proofs.Common.{◌≡◌, [], ◌∷◌, ◌++◌, length, codes, decimal, flat_map, sym, ap, subst, ◌∙◌}
 use Rattle.certificate.specs.SafeText.{MeansAutomaton}
-use Rattle.certificate.specs.Reading.{lines_text, opening_text}
-use Rattle.certificate.specs.Writing.{final_states, edge_lines, final_text}
+use Rattle.certificate.specs.LineLayout.{lines_text, opening_text}
+use Rattle.certificate.specs.Writing.{final_states, edge_lines}
+use Rattle.certificate.specs.WritingParts.{final_text}
 use Rattle.certificate.proofs.WritingLemmas.{written_text-is}
 use Rattle.certificate.proofs.WrittenLemmas.{written_means}
 use Rattle.certificate.proofs.writing.write_safe.Goals as goal

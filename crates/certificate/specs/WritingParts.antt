@@ -1,0 +1,6 @@
+-- The text of the line of an accepting state. Only private contracts speak of this.
+use Rattle.std.specs.Prelude.{ℕ, ◌+◌, List, [], ◌∷◌, ◌++◌, codes, decimal}
+
+-- the line of an accepting state, with its line feed
+abbrev pub final_text : ℕ → List ℕ
+final_text q = codes "final " ++ decimal q ++ 10 ∷ []
