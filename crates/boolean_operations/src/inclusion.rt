@@ -11,7 +11,7 @@ ghost use Rattle.boolean_operations.specs.Equality.{same_left_pairs};
 
 use crate::graph::Graph;
 use crate::merged_edges::seek;
-use crate::optional_states::{accepts_at, edges_at, start_of};
+use crate::optional_states::{accepts_at, code_of, edges_at, start_of};
 use crate::search::least_word_to_goal;
 use std::alloc::{AllocError, Global};
 use word_automata::{Dfa, Nfa};
@@ -86,10 +86,7 @@ impl Graph for PairGraph<'_> {
 
     fn code(&self, state: &LeftPair) -> usize {
         let width = self.right.states() + 1;
-        let right = match state.1 {
-            Some(right) => right,
-            None => self.right.states(),
-        };
+        let right = code_of(self.right, state.1);
         state.0.wrapping_mul(width).wrapping_add(right)
     }
 

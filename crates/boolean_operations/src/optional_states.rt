@@ -40,3 +40,11 @@ pub(crate) fn edges_at(automaton: &Dfa, state: Option<usize>) -> &[(u32, usize)]
         None => &[],
     }
 }
+
+/// The number of the state, or the number of states where there is none: a number that tells them apart.
+pub(crate) fn code_of(automaton: &Dfa, state: Option<usize>) -> usize {
+    match state {
+        Some(state) => state,
+        None => automaton.states(),
+    }
+}

@@ -6,7 +6,7 @@
 //! The list `groups` has the group of each state that was found, in the order in which it was found. The list `steps` has for each
 //! group but the first, whose word is empty, a group before it and a letter: its word is that group's and then the letter.
 
-ghost use Rattle.std.specs.Prelude.{◌≡◌, ◌<◌, ◌≤◌, ◌+◌, ◌↔◌, ℕ, List, [], true, All, Contains, length, reverse, slice_get, Some, MatchOption, IfOk, OnOk, IsTrue};
+ghost use Rattle.std.specs.Prelude.{◌≡◌, ◌<◌, ◌≤◌, ◌+◌, ℕ, List, [], All, length, reverse, slice_get, Some, MatchOption, IfOk, OnOk};
 ghost use Rattle.std.specs.List.Sorted.{IsPermutation};
 ghost use Rattle.sequence.specs.WordOrder.{IsLeastWord};
 ghost use Rattle.boolean_operations.specs.Search.{IsFound, IsIn, IsNotAfter, Spells, AreSteps, Reached, Done, BeginsAt, AreRising, AreStepsOf, IsGathered, AreInOrder, IsBounded, AreBefore, Extends, Joins, HasLastStep};
