@@ -31,7 +31,8 @@ is_accepting-bare (b ∷ accepting) (suc q) = is_accepting-bare accepting q
 -- one more bare state
 pub bare_more : (accepting : List Bool) (i : ℕ) (b : Bool) → i < length accepting → b ≡ get_or accepting i false → map bare (take i accepting) ++ bare b ∷ [] ≡ map bare (take (i + 1) accepting)
 bare_more accepting i b within read =
-    sym (ap (map bare) (take_more accepting i false within) ∙ map-append bare (take i accepting) (get_or accepting i false ∷ []) ∙ ap (λ (x : Bool). map bare (take i accepting) ++ bare x ∷ []) (sym read))
+    sym (ap (map bare) (take_more accepting i false within) ∙ map-append bare (take i accepting) (get_or accepting i false ∷ [])
+    ∙ ap (λ (x : Bool). map bare (take i accepting) ++ bare x ∷ []) (sym read))
 
 -- classes without edges
 pub moves_none : (a : Automaton) (firsts : List ℕ) (accepting : List Bool) (n : NondeterministicAutomaton) → n.letters ≡ a.letters → length accepting ≡ length a.states
@@ -120,7 +121,8 @@ moves_more a firsts seen more n m i j edge step within read is adds before = rec
     ]
 
 -- all edges of a state
-pub moves_next : (a : Automaton) (firsts : List ℕ) (seen : List Move) (n : NondeterministicAutomaton) (i j : ℕ) → length (edges_of a.states i) ≤ j → HasClassMoves a firsts seen n i j → HasClassMoves a firsts seen n (i + 1) 0
+pub moves_next : (a : Automaton) (firsts : List ℕ) (seen : List Move) (n : NondeterministicAutomaton) (i j : ℕ) → length (edges_of a.states i) ≤ j
+    → HasClassMoves a firsts seen n i j → HasClassMoves a firsts seen n (i + 1) 0
 moves_next a firsts seen n i j all before = record {
   class_states = before.class_states;
   added = λ p l r below there. elim (cases_lt p i) [

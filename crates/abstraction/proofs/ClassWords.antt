@@ -21,7 +21,8 @@ module _ (a : Automaton) (valid : IsValid a) (classes firsts : List ℕ) (count 
   same_first p q lp lq e = (are.same p q (omega arith) (omega arith)).1 e
 
   -- a path spells a merged word
-  run_merges : (moves : List (Option ℕ × ℕ)) (q end : ℕ) → q < length a.states → IsPath n.states (slice_index firsts q) moves end → IsTrue (is_accepting n.states end) → IsMergedFrom (HaveEqualClasses classes) a q (spelled (λ l. l) moves)
+  run_merges : (moves : List (Option ℕ × ℕ)) (q end : ℕ) → q < length a.states → IsPath n.states (slice_index firsts q) moves end
+      → IsTrue (is_accepting n.states end) → IsMergedFrom (HaveEqualClasses classes) a q (spelled (λ l. l) moves)
   run_merges [] q end there path accepting =
       let member = (has.class_states.acceptance end).0 accepting in
       (member.0, equal q member.0 there member.1 (path ∙ sym member.3), member.2)

@@ -65,7 +65,8 @@ module _ (a : Automaton) (valid : IsValid a) (R S : ℕ → ℕ → Type 0) (wit
   merged_weaker w merged = merged_from w 0 (merged_has_state R a w 0 merged) merged
 
 -- merging by classes is merging by the relation whose classes they are
-pub merged_by_classes : (a : Automaton) → IsValid a → (R : ℕ → ℕ → Type 0) (classes : List ℕ) → AreClasses R (length a.states) classes → (w : List ℕ) → IsMerged (HaveEqualClasses classes) a w ↔ IsMerged R a w
+pub merged_by_classes : (a : Automaton) → IsValid a → (R : ℕ → ℕ → Type 0) (classes : List ℕ) → AreClasses R (length a.states) classes
+    → (w : List ℕ) → IsMerged (HaveEqualClasses classes) a w ↔ IsMerged R a w
 merged_by_classes a valid R classes are w = (
   merged_weaker a valid (HaveEqualClasses classes) R (λ p q lp lq. (are.related p q lp lq).0) w,
   merged_weaker a valid R (HaveEqualClasses classes) (λ p q lp lq. (are.related p q lp lq).1) w,

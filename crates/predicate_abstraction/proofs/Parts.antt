@@ -73,7 +73,8 @@ module _ (classes : List ℕ) (pairs : List (ℕ × ℕ)) (column : ℕ) where
     found = λ part within. inl (ap (λ xs. get_or xs part 0) is ∙ get_or-replicate (2 * none) part none 0 within);
   }
 
-  module _ (firsts more finer : List ℕ) (none i part first : ℕ) (there : i < none) (is_part : IsPart classes pairs column i part) (within : part < 2 * none) (before : HasParts firsts finer none i) where
+  module _ (firsts more finer : List ℕ) (none i part first : ℕ) (there : i < none) (is_part : IsPart classes pairs column i part)
+      (within : part < 2 * none) (before : HasParts firsts finer none i) where
     earlier : (q : ℕ) → q < i → get_or (finer ++ first ∷ []) q 0 ≡ get_or finer q 0
     earlier q below = get_or_append_left finer (first ∷ []) 0 q (let e = before.count in omega arith)
 

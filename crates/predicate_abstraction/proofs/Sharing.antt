@@ -69,7 +69,8 @@ module _ (a b : Automaton) (into_a into_b : NondeterministicAutomaton) (rev_a : 
     led = λ k letter p s below left right. elim (cases_lt k next) [
       | inl earlier ↦
           let e = same k (omega arith) in
-          kept (p, s) (before.led k letter p s earlier (subst (λ (x : ℕ × ℕ). Contains (edges_of a.states p) (letter, x.0)) e left) (subst (λ (x : ℕ × ℕ). Contains (edges_of b.states s) (letter, x.1)) e right))
+          kept (p, s) (before.led k letter p s earlier (subst (λ (x : ℕ × ℕ). Contains (edges_of a.states p) (letter, x.0)) e left)
+          (subst (λ (x : ℕ × ℕ). Contains (edges_of b.states s) (letter, x.1)) e right))
       | inr from ↦
           let e : get_or new.pairs k (0, 0) ≡ pair = ap (λ j. get_or new.pairs j (0, 0)) {x = k} {y = next} (omega arith) ∙ same next there ∙ read in
           adds.added (p, s) (

@@ -19,4 +19,5 @@ edges-preserved c =
 pub returns : goal.returns
 returns c =
     let edges = c.edges_from-letter-items.result.now in
-    reversed_next c.args.a.now c.edges.builder c.args.state (take c.edges.letter-index edges) (take_all c.edges.letter-index edges (omega arith) ∙ c.edges_from-letter-items.ensures.edges) c.edges.invariant
+    reversed_next c.args.a.now c.edges.builder c.args.state (take c.edges.letter-index edges)
+    (take_all c.edges.letter-index edges (omega arith) ∙ c.edges_from-letter-items.ensures.edges) c.edges.invariant

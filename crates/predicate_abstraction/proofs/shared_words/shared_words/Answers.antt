@@ -21,7 +21,8 @@ pairs-preserved c =
     let new = c.add_predecessors.new.shared in
     shares_more c.args.a.now c.args.b.now c.in_ok-into_a.into_a c.in_ok-into_b.into_b c.in_ok-into_a.ensures c.in_ok-into_b.ensures c.requires old new c.pairs.next c.pair-p.result
     (let len = c.len.ensures in omega arith) (get_or_from_slice_get old.pairs c.pairs.next c.pair-p.result (0, 0) c.pair-p.ensures.pair)
-    (subst (λ (es : List (Option ℕ × ℕ)). AddsPairs (AreSources es c.in_ok-into_b.into_b.states c.args.b.now.letters c.pair-p.result.1) old new) c.edges_from.ensures.edges c.in_ok-add_predecessors.ensures)
+    (subst (λ (es : List (Option ℕ × ℕ)). AddsPairs (AreSources es c.in_ok-into_b.into_b.states c.args.b.now.letters c.pair-p.result.1) old new)
+    c.edges_from.ensures.edges c.in_ok-add_predecessors.ensures)
     c.pairs.invariant
 
 pub returns : goal.returns
