@@ -52,6 +52,15 @@ impl Graph for CommonGraph<'_> {
         self.pairs.add_steps(state, steps)
     }
 
+    // Few of the pairs are reached: they have no table of their own.
+    fn codes(&self) -> usize {
+        usize::MAX
+    }
+
+    fn code(&self, state: &LeftPair) -> usize {
+        self.pairs.code(state)
+    }
+
     ghost equality = { same_left_pairs };
 }
 
