@@ -68,5 +68,13 @@ impl<'a> TransitionSystem for Quotient<'a> {
         Ok(successors)
     }
 
+    fn codes(&self) -> usize {
+        self.automaton.states()
+    }
+
+    fn code(&self, state: &usize) -> usize {
+        *state
+    }
+
     ghost equality = { λ x y h. eqb-true x y h };
 }
