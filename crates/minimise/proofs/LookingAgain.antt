@@ -12,7 +12,7 @@ use Rattle.word_automata.specs.Automaton.{Automaton, IsValid}
 use Rattle.word_automata.proofs.Members.{Contains-here, Contains-there}
 use Rattle.minimise.specs.Signatures.{Signature}
 use Rattle.minimise.specs.Refinement.{live_class, live_edge, no_word}
-use Rattle.minimise.specs.Rounds.{AreToldApart, outgoing, StandsFrom, HasNumber, AreNumberedFrom, AgreeButFrom, IsRound, IsListed, HavePredecessors, IsLikeLeast, AreAlike}
+use Rattle.minimise.specs.Rounds.{AreToldApart, outgoing, hash_of, by_hash, StandsFrom, HasNumber, AreNumberedFrom, AgreeButFrom, IsRound, IsListed, HavePredecessors, IsLikeLeast, AreAlike}
 use Rattle.minimise.proofs.Edges.{is_accepting-past, live_edges-past}
 use Rattle.minimise.proofs.Refining.{index-zeros, outgoing_apart}
 
@@ -250,3 +250,11 @@ all_alike m classes count each p q e = by (slice_index classes q) refl
     by : (c : ℕ) → slice_index classes q ≡ c → outgoing m classes p ≡ outgoing m classes q
     by zero h = (like p).dead (e ∙ h) ∙ sym ((like q).dead h)
     by (suc r) h = (like p).live r (e ∙ h) ∙ sym ((like q).live r h)
+
+-- the number of a hash is that of the signature that has it
+pub number_by_hash : (m : Automaton) (classes : List ℕ) (q : ℕ) (old new : ℕ → Option ℕ) (hash number : ℕ) → hash ≡ hash_of (outgoing m classes q)
+    → HasNumber old new hash number → HasNumber (by_hash old) (by_hash new) (outgoing m classes q) number
+number_by_hash m classes q old new hash number is has = record {
+  number_is = ap new (sym is) ∙ has.number_is;
+  kept = λ t k e. has.kept (hash_of t) k e;
+}

@@ -51,10 +51,14 @@ AreAlike m classes = (p q : ℕ) → slice_index classes p ≡ slice_index class
 abbrev pub StandsFrom : List ℕ → ℕ → ℕ → Type 0
 StandsFrom states i q = (k : ℕ) × (i ≤ k) × (k < length states) × (slice_index states k ≡ q)
 
--- the signature has this number, and others keep theirs
-pub record HasNumber (old new : Signature → Option ℕ) (s : Signature) (number : ℕ) : Type 0 where
-  pub number_is : new s ≡ Some number
-  pub kept : (t : Signature) (k : ℕ) → old t ≡ Some k → new t ≡ Some k
+-- the key has this number, and others keep theirs
+pub record HasNumber {K : Type 0} (old new : K → Option ℕ) (key : K) (number : ℕ) : Type 0 where
+  pub number_is : new key ≡ Some number
+  pub kept : (t : K) (k : ℕ) → old t ≡ Some k → new t ≡ Some k
+
+-- the number that the hash of the signature has
+abbrev pub by_hash : (ℕ → Option ℕ) → Signature → Option ℕ
+by_hash numbers s = numbers (hash_of s)
 
 -- where the state does not stand in the list from place i on, its class is the number of its signature by the coarser classes
 abbrev pub AreNumberedFrom : Automaton → List ℕ → List ℕ → (Signature → Option ℕ) → List ℕ → ℕ → Type 0
@@ -88,10 +92,14 @@ pub record AddsPredecessor {A : Type 0} (old new : List (Vec ℕ A)) (edges : Li
   pub kept : (r p : ℕ) → IsListed old r p → IsListed new r p
   pub added : (edge : ℕ × ℕ) → Contains edges edge → edge.1 < length old → IsListed new edge.1 state
 
+-- the state is in the new list, and what was in the old one still is
+pub record AddsState (old new : List ℕ) (state : ℕ) : Type 0 where
+  pub added : Contains new state
+  pub kept : (q : ℕ) → Contains old q → Contains new q
+
 -- the states of the list are those that the next round looks at, and the others have the numbers of their signatures
-pub record IsRefining {A : Type 0} (m : Automaton) (classes finer : List ℕ) (numbers : Signature → Option ℕ) (waiting : List ℕ) (lists : List (Vec ℕ A)) : Type 0 where
+pub record IsRefining (m : Automaton) (classes finer : List ℕ) (numbers : Signature → Option ℕ) (waiting : List ℕ) : Type 0 where
   pub apart : AreToldApart m classes
   pub same : finer ≡ classes
   pub no_word : numbers no_word ≡ Some 0
   pub numbered : AreNumberedFrom m classes classes numbers waiting 0
-  pub predecessors : (length lists ≡ 0) ⊎ HavePredecessors m lists

@@ -1,5 +1,5 @@
-//! The classes of states that accept the same words. They are refined in rounds that look at few states, and then it is seen whether
-//! they are stable; where they were not, rounds over all states (E. F. Moore, 1956) would go on.
+//! The classes of states that accept the same words. They are refined in rounds of hashes, then in rounds that look at few states, and
+//! after both it is seen whether they are stable; where they were not, rounds over all states (E. F. Moore, 1956) would go on.
 
 ghost use Rattle.std.specs.Prelude.{◌≡◌, ◌<◌, ◌^◌, IfOk, OnOk, length};
 ghost use Rattle.std.specs.HashMap.{get};
@@ -28,14 +28,20 @@ pub fn classes(alloc: Global, automaton: &Dfa) -> Result<Vec<usize>, AllocError>
     if is_stable(alloc, automaton, &classes)? {
         return Ok(classes);
     }
-    looked_at_again(alloc, automaton)
+    looked_at_again(alloc, automaton, classes)
 }
 
-/// The same classes, refined by rounds that look at few states.
-fn looked_at_again(alloc: Global, automaton: &Dfa) -> Result<Vec<usize>, AllocError>
+/// The same classes from coarser ones, refined by rounds that look at few states.
+fn looked_at_again(
+    alloc: Global,
+    automaton: &Dfa,
+    coarse: Vec<usize>,
+) -> Result<Vec<usize>, AllocError>
+    requires valid { IsValid automaton.now }
+    requires coarse { AreCoarse automaton.now coarse.items }
     ensures { IfOk result (λ classes. AreClasses automaton.now classes.items) }
 {
-    let refined = refine(alloc, automaton)?;
+    let refined = refine(alloc, automaton, coarse)?;
     let classes = by_least_states(alloc, automaton, &refined)?;
     if is_stable(alloc, automaton, &classes)? {
         return Ok(classes);

@@ -1,40 +1,39 @@
 //! Refinement in rounds that look again only at states with an edge into a class that changed (J. Jacobs and T. Wissmann, 2023).
 //!
-//! A state's class is the number of its signature, the flag and the classes that its letters lead to. A class of which all states are
-//! looked at keeps its number, for the first signature that is found, and one of which some are not looked at keeps it for those.
+//! A state's class is the number of the hash of its signature. A class of which all states are looked at keeps its number, for the first
+//! hash that is found, and one of which some are not looked at keeps it for those. A round takes time linear in the edges that it looks
+//! at, on average.
 
-ghost use Rattle.std.specs.Prelude.{◌≡◌, ◌<◌, ◌⊎◌, ℕ, Contains, Some, IfOk, OnOk, length, slice_index};
+ghost use Rattle.std.specs.Prelude.{◌≡◌, ◌<◌, ◌⊎◌, ℕ, Contains, Some, IfOk, OnOk, IsTrue, length, nat_eq, slice_index};
 ghost use Rattle.std.specs.HashMap.{get};
 ghost use Rattle.word_automata.specs.Automaton.{IsValid};
-ghost use Rattle.minimise.specs.Signatures.{same_signature};
 ghost use Rattle.minimise.specs.Refinement.{no_word};
-ghost use Rattle.minimise.specs.Rounds.{AreToldApart, outgoing, StandsFrom, HasNumber, AreNumberedFrom, AgreeButFrom, IsRound, IsListed, HavePredecessors};
+ghost use Rattle.minimise.specs.Rounds.{AreToldApart, StandsFrom, by_hash, HasNumber, AreNumberedFrom, AgreeButFrom, IsRound, IsListed, HavePredecessors, AddsState};
 
+use crate::hashing::hash_of;
 use crate::predecessors::predecessors;
-use crate::refinement::live_edges;
-use crate::signature::Signature;
 use crate::sizes::Sizes;
-use indexmap::IndexSet;
 use std::alloc::{AllocError, Global};
 use std::collections::HashMap;
 use word_automata::Dfa;
 
-/// Classes of states of which any two different ones are told apart by words. They are the classes of states that accept the same
-/// words, unless memory was too small to hold them.
-pub fn refine(alloc: Global, automaton: &Dfa) -> Result<Vec<usize>, AllocError>
-    ensures valid { IfOk result (λ classes. IsValid automaton.now) }
-    ensures apart { IfOk result (λ classes. AreToldApart automaton.now classes.items) }
+/// Finer classes of states of which any two different ones are told apart by words. They are the classes of states that accept the same
+/// words, unless hashes fell together.
+pub fn refine(alloc: Global, automaton: &Dfa, coarse: Vec<usize>) -> Result<Vec<usize>, AllocError>
+    requires valid { IsValid automaton.now }
+    requires apart { AreToldApart automaton.now coarse.items }
+    ensures { IfOk result (λ classes. AreToldApart automaton.now classes.items) }
 {
     let count = automaton.states();
-    let mut sizes = Sizes::new(alloc, count)?;
-    let mut classes = vec![in alloc; 0; count]?;
-    let mut finer = vec![in alloc; 0; count]?;
+    let lists = predecessors(alloc, automaton)?;
+    let mut sizes = Sizes::new(alloc, &coarse)?;
+    let mut finer = Vec::from_slice(alloc, &coarse)?;
+    let mut classes = coarse;
     let mut numbers = first_numbers(alloc)?;
     let mut waiting = all_states(alloc, count)?;
-    let mut lists = Vec::new(alloc);
+    let mut places = vec![in alloc; 0; count]?;
     'rounds: for _ in 0..count {
         look_at(
-            alloc,
             automaton,
             &classes,
             &mut finer,
@@ -46,23 +45,17 @@ pub fn refine(alloc: Global, automaton: &Dfa) -> Result<Vec<usize>, AllocError>
         if changed.is_empty() {
             return Ok(classes);
         }
-        if changed.len() > count / 4 {
-            numbers = first_numbers(alloc)?;
-            waiting = all_states(alloc, count)?;
-        } else {
-            fill(alloc, automaton, &mut lists)?;
-            waiting = leading_to(alloc, &lists, &changed)?;
-        }
+        leading_to(&lists, &changed, &mut waiting, &mut places)?;
     }
     Ok(classes)
 }
 
-/// The signature of no word has number 0, and no other signature has a number.
-fn first_numbers(alloc: Global) -> Result<HashMap<Signature, usize>, AllocError>
-    ensures { IfOk result (λ numbers. get same_signature numbers no_word ≡ Some 0) }
+/// The hash of no word has number 0, and no other hash has a number.
+fn first_numbers(alloc: Global) -> Result<HashMap<usize, usize>, AllocError>
+    ensures { IfOk result (λ numbers. by_hash (get nat_eq numbers) no_word ≡ Some 0) }
 {
     let mut numbers = HashMap::new(alloc);
-    numbers.insert(Signature::new(0, false, Vec::new(alloc)), 0)?;
+    numbers.insert(0, 0)?;
     Ok(numbers)
 }
 
@@ -79,60 +72,44 @@ fn all_states(alloc: Global, count: usize) -> Result<Vec<usize>, AllocError>
 
 /// Gives the states that are looked at the numbers of their signatures as their finer classes.
 fn look_at(
-    alloc: Global,
     automaton: &Dfa,
     classes: &[usize],
     finer: &mut Vec<usize>,
-    numbers: &mut HashMap<Signature, usize>,
+    numbers: &mut HashMap<usize, usize>,
     sizes: &mut Sizes,
     states: &[usize],
 ) -> Result<(), AllocError>
     requires count { length classes.now ≡ length automaton.now.states }
     requires same { finer.old.items ≡ classes.now }
-    requires no_word { get same_signature numbers.old no_word ≡ Some 0 }
-    requires numbered { AreNumberedFrom automaton.now classes.now classes.now (get same_signature numbers.old) states.now 0 }
-    ensures { OnOk result (IsRound automaton.now classes.now finer.new.items (get same_signature numbers.new) states.now) }
+    requires no_word { by_hash (get nat_eq numbers.old) no_word ≡ Some 0 }
+    requires numbered { AreNumberedFrom automaton.now classes.now classes.now (by_hash (get nat_eq numbers.old)) states.now 0 }
+    ensures { OnOk result (IsRound automaton.now classes.now finer.new.items (by_hash (get nat_eq numbers.new)) states.now) }
 {
     sizes.begin(classes, states);
     'states: for state in states {
         if *state < classes.len() {
-            let signature = outgoing(alloc, automaton, classes, *state)?;
-            let number = number(numbers, sizes, signature, classes[*state])?;
+            let hash = hash_of(automaton, classes, *state);
+            let number = number(numbers, sizes, hash, classes[*state])?;
             finer[*state] = number;
         }
     }
     Ok(())
 }
 
-/// The signature of the state by the classes, without its own class.
-fn outgoing(
-    alloc: Global,
-    automaton: &Dfa,
-    classes: &[usize],
-    state: usize,
-) -> Result<Signature, AllocError>
-    requires count { length classes.now ≡ length automaton.now.states }
-    requires state { state < length automaton.now.states }
-    ensures { IfOk result (λ signature. signature ≡ outgoing automaton.now classes.now state) }
-{
-    let edges = live_edges(alloc, automaton, classes, state)?;
-    Ok(Signature::new(0, automaton.accepting(state), edges))
-}
-
-/// The number of the signature; a signature that is new gets one.
+/// The number of the hash; a hash that is new gets one.
 fn number(
-    numbers: &mut HashMap<Signature, usize>,
+    numbers: &mut HashMap<usize, usize>,
     sizes: &mut Sizes,
-    signature: Signature,
+    hash: usize,
     class: usize,
 ) -> Result<usize, AllocError>
-    ensures { IfOk result (HasNumber (get same_signature numbers.old) (get same_signature numbers.new) signature) }
+    ensures { IfOk result (HasNumber (get nat_eq numbers.old) (get nat_eq numbers.new) hash) }
 {
-    if let Some(number) = numbers.get(&signature) {
+    if let Some(number) = numbers.get(&hash) {
         return Ok(*number);
     }
     let number = sizes.number(class)?;
-    numbers.insert(signature, number)?;
+    numbers.insert(hash, number)?;
     Ok(number)
 }
 
@@ -164,40 +141,66 @@ fn settle(
     Ok(changed)
 }
 
-/// Fills the lists of predecessors, if there are none yet.
-fn fill(alloc: Global, automaton: &Dfa, lists: &mut Vec<Vec<usize>>) -> Result<(), AllocError>
-    requires { (length lists.old.items ≡ 0) ⊎ HavePredecessors automaton.now lists.old.items }
-    ensures { OnOk result (HavePredecessors automaton.now lists.new.items) }
-{
-    if lists.is_empty() {
-        *lists = predecessors(alloc, automaton)?;
-    }
-    Ok(())
-}
-
-/// The states with an edge to one of the states.
+/// Puts the states with an edge to one of the states in the place of what the list has.
 fn leading_to(
-    alloc: Global,
     lists: &[Vec<usize>],
     states: &[usize],
-) -> Result<Vec<usize>, AllocError>
-    ensures { IfOk result (λ leading. (q p : ℕ) → Contains states.now q → IsListed lists.now q p → Contains leading.items p) }
+    leading: &mut Vec<usize>,
+    places: &mut Vec<usize>,
+) -> Result<(), AllocError>
+    ensures { OnOk result ((q p : ℕ) → Contains states.now q → IsListed lists.now q p → Contains leading.new.items p) }
 {
-    let mut set = IndexSet::new(alloc);
+    leading.clear();
     'states: for state in states {
         if let Some(list) = lists.get(*state) {
-            add_all(&mut set, list)?;
+            add_all(leading, places, list)?;
         }
     }
-    Ok(Vec::from_slice(alloc, set.as_slice())?)
+    Ok(())
 }
 
-/// Adds the states to the set.
-fn add_all(set: &mut IndexSet<usize>, states: &[usize]) -> Result<(), AllocError>
-    ensures { OnOk result ((q : ℕ) → Contains set.old.keys q ⊎ Contains states.now q → Contains set.new.keys q) }
+/// Adds the states to the list.
+fn add_all(
+    list: &mut Vec<usize>,
+    places: &mut Vec<usize>,
+    states: &[usize],
+) -> Result<(), AllocError>
+    ensures { OnOk result ((q : ℕ) → Contains list.old.items q ⊎ Contains states.now q → Contains list.new.items q) }
 {
     'states: for state in states {
-        set.insert(*state)?;
+        add(list, places, *state)?;
     }
     Ok(())
+}
+
+/// Adds the state to the list where it is not in it already. The places say where states are to be looked for (P. Briggs and L. Torczon,
+/// 1993).
+fn add(list: &mut Vec<usize>, places: &mut Vec<usize>, state: usize) -> Result<(), AllocError>
+    ensures { OnOk result (AddsState list.old.items list.new.items state) }
+{
+    if is_found(list, places, state) {
+        return Ok(());
+    }
+    if let Some(place) = places.get_mut(state) {
+        *place = list.len();
+    }
+    list.push(state)?;
+    Ok(())
+}
+
+/// Whether the list has the state at the place that is kept for it.
+fn is_found(list: &[usize], places: &[usize], state: usize) -> bool
+    ensures { IsTrue result → Contains list.now state }
+{
+    match places.get(state) {
+        Some(place) => is_at(list, *place, state),
+        None => false,
+    }
+}
+
+/// Whether the list has the state at this place.
+fn is_at(list: &[usize], place: usize, state: usize) -> bool
+    ensures { IsTrue result → Contains list.now state }
+{
+    place < list.len() && list[place] == state
 }

@@ -10,11 +10,18 @@ pub struct Sizes {
 }
 
 impl Sizes {
-    /// All states are in class 0.
-    pub fn new(alloc: Global, states: usize) -> Result<Sizes, AllocError> {
+    /// The states are in these classes.
+    pub fn new(alloc: Global, classes: &[usize]) -> Result<Sizes, AllocError> {
+        let count = classes.len().saturating_add(1);
+        let mut all = vec![in alloc; 0usize; count]?;
+        'states: for class in classes {
+            if let Some(size) = all.get_mut(*class) {
+                *size = size.wrapping_add(1);
+            }
+        }
         Ok(Sizes {
-            all: vec![in alloc; states; 1]?,
-            waiting: vec![in alloc; 0; 1]?,
+            all,
+            waiting: vec![in alloc; 0; count]?,
         })
     }
 

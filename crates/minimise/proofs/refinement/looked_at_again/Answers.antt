@@ -1,13 +1,16 @@
 use Rattle.std.proofs.Common.{ℕ, List, length, slice_index, subst}
 use Rattle.minimise.specs.Refinement.{AreGrouped}
 use Rattle.minimise.specs.Rounds.{AreAlike}
-use Rattle.minimise.proofs.Refining.{least_coarse, stable}
+use Rattle.minimise.proofs.Refining.{least_coarse, coarse_apart, stable}
 use Rattle.minimise.proofs.refinement.looked_at_again.Goals as goal
+
+pub refine-requires-clause-apart : goal.refine-requires-clause-apart
+refine-requires-clause-apart c = coarse_apart c.args.automaton.now c.args.coarse.items c.requires.coarse
 
 pub rounds-requires-clause-coarse : goal.rounds-requires-clause-coarse
 rounds-requires-clause-coarse c =
     let m = c.args.automaton.now in
-    least_coarse m c.in_ok-refined.refined.items c.in_ok-classes.classes.items c.in_ok-refined.ensures.apart
+    least_coarse m c.in_ok-refined.refined.items c.in_ok-classes.classes.items c.in_ok-refined.ensures
     (subst (λ (xs : List ℕ). AreGrouped (slice_index xs) (length m.states) c.in_ok-classes.classes.items) c.deref.ensures.value c.in_ok-classes.ensures)
 
 pub returns-then-branch : goal.returns-then-branch
@@ -15,5 +18,5 @@ returns-then-branch c =
     let m = c.args.automaton.now in
     let classes = c.in_ok-classes.classes.items in
     let grouped = subst (λ (xs : List ℕ). AreGrouped (slice_index xs) (length m.states) classes) c.deref.ensures.value c.in_ok-classes.ensures in
-    stable m c.in_ok-refined.ensures.valid classes (least_coarse m c.in_ok-refined.refined.items classes c.in_ok-refined.ensures.apart grouped)
+    stable m c.requires.valid classes (least_coarse m c.in_ok-refined.refined.items classes c.in_ok-refined.ensures grouped)
     (subst (AreAlike m) c.deref-2.ensures.value (c.in_ok-is_stable.ensures c.if-branch.true))

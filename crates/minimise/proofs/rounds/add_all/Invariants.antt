@@ -3,6 +3,6 @@ use Rattle.minimise.proofs.rounds.add_all.Given as goal
 
 abbrev pub invariant-states : goal.invariant-states
 invariant-states l = record {
-  kept : (q : ℕ) → Contains l.fn.set.keys q → Contains l.set.keys q;
-  added : (k : ℕ) → k < l.state-index → Contains l.set.keys (slice_index l.states k);
+  kept : (q : ℕ) → Contains l.fn.list.items q → Contains l.list.items q;
+  added : (k : ℕ) → k < l.state-index → Contains l.list.items (slice_index l.states k);
 }

@@ -3,4 +3,4 @@ use Rattle.minimise.specs.Rounds.{IsListed}
 use Rattle.minimise.proofs.rounds.leading_to.Given as goal
 
 abbrev pub invariant-states : goal.invariant-states
-invariant-states l = (k p : ℕ) → k < l.state-index → IsListed l.lists (slice_index l.states k) p → Contains l.set.keys p
+invariant-states l = (k p : ℕ) → k < l.state-index → IsListed l.lists (slice_index l.states k) p → Contains l.leading.items p
