@@ -1,3 +1,4 @@
 pub mod Task
 pub mod Reversal
 pub mod FirstWords
+pub mod RuleLists
