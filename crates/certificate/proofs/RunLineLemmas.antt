@@ -1,5 +1,5 @@
 -- The lines of runs as they are written: their layout, and that no two steps have one line.
-use Rattle.std.proofs.Common.{◌≡◌, ◌<◌, ◌==◌, ◌||◌, ℕ, zero, suc, true, false, List, [], ◌∷◌, ◌++◌, IsTrue, length, slice_get, get_or, nat_lt, codes, flat_map, map}
+use Rattle.std.proofs.Common.{◌≡◌, ◌<◌, ◌==◌, ◌||◌, ℕ, zero, suc, true, List, [], ◌∷◌, ◌++◌, IsTrue, length, slice_get, get_or, nat_lt, codes, flat_map, map}
 use Rattle.std.proofs.Common.{refl, sym, ap, subst, ◌∙◌, inl, inr, arith, true≢false, Some, None, cond, bytes_eq}
 use Rattle.std.proofs.Common.{ltb-true}
 use Rattle.std.specs.List.{AllByRecursion, list_all, list_any, join_by, position_or_len}

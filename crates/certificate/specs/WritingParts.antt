@@ -1,5 +1,5 @@
 -- The text of the line of an accepting state. Only private contracts speak of this.
-use Rattle.std.specs.Prelude.{ℕ, ◌+◌, List, [], ◌∷◌, ◌++◌, codes, decimal}
+use Rattle.std.specs.Prelude.{ℕ, List, [], ◌∷◌, ◌++◌, codes, decimal}
 
 -- the line of an accepting state, with its line feed
 abbrev pub final_text : ℕ → List ℕ

@@ -1,7 +1,6 @@
 -- A text has one reading: what its tokens mean is what the reader has read at their end.
-use Rattle.std.proofs.Common.{◌≡◌, ◌<◌, ◌≤◌, ◌+◌, ℕ, zero, suc, List, [], ◌∷◌, Option, None, Some, length, get_or, refl, sym, ap, subst, ◌∙◌, arith, add-one}
-use Rattle.protocol_lexer.specs.declared.Token.{Token}
-use Rattle.protocol_lexer.specs.Tokens.{AreTokens, TokensAreDetermined, TokensExcludeBadByte, BadByteIsDetermined}
+use Rattle.std.proofs.Common.{◌≡◌, ◌<◌, ◌≤◌, ℕ, zero, suc, List, [], ◌∷◌, Option, None, Some, length, get_or, refl, sym, ap, subst, ◌∙◌, arith, add-one}
+use Rattle.protocol_lexer.specs.Tokens.{TokensAreDetermined, TokensExcludeBadByte, BadByteIsDetermined}
 use Rattle.protocol_model.specs.declared.system.Configuration.{Configuration}
 use Rattle.protocol_model.specs.System.{SystemData, IsValid}
 use Rattle.configuration_words.specs.declared.reading.Stage.TheVariants as Stages

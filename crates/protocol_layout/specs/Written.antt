@@ -1,10 +1,6 @@
 -- What was written behind what was written before. Only private contracts speak of this.
 use Rattle.std.specs.Prelude.{◌≡◌, ℕ, List, ◌++◌}
 use Rattle.std.specs.List.{flat_map}
-use Rattle.protocol_syntax.specs.declared.protocol.MoveBody.TheVariants as Moves
-use Rattle.protocol_syntax.specs.declared.protocol.Kind.TheVariants as Kinds
-use Rattle.protocol_syntax.specs.declared.protocol.Many.TheVariants as Counts
-use Rattle.protocol_syntax.specs.declared.protocol.Region.TheVariants as Regions
 use Rattle.protocol_syntax.specs.Spacing.{Word, spaced}
 use Rattle.protocol_layout.specs.Layout.{line}
 

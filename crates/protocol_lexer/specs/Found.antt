@@ -1,9 +1,8 @@
 -- The tokens of one piece. Only private contracts speak of this.
-use Rattle.std.specs.Prelude.{ℕ, ◌+◌, List, [], ◌∷◌, Some, None, length}
+use Rattle.std.specs.Prelude.{ℕ, ◌+◌, List, [], ◌∷◌, Some, None}
 use Rattle.protocol_lexer.specs.declared.Place.{Place}
 use Rattle.protocol_lexer.specs.declared.Token.{Token}
 use Rattle.protocol_lexer.specs.declared.Piece.{Piece}
-use Rattle.protocol_lexer.specs.Piece.{piece}
 
 -- the token that a piece at this offset and place is, in a list of its own; no token at white space or a comment
 abbrev pub tokens_of_piece : Piece → ℕ → Place → List Token

@@ -1,5 +1,5 @@
 -- A run has one answer.
-use Rattle.std.proofs.Common.{◌≡◌, ℕ, ◌+◌, List, [], ◌∷◌, ◌++◌, length, refl, sym, ap, subst, ◌∙◌, arith}
+use Rattle.std.proofs.Common.{◌≡◌, ℕ, List, [], ◌∷◌, ◌++◌, length, refl, sym, ap, subst, ◌∙◌, arith}
 use Rattle.protocol_model.specs.declared.system.Configuration.{Configuration}
 use Rattle.protocol_model.specs.declared.system.Run.{Run}
 use Rattle.protocol_model.specs.System.{SystemData}

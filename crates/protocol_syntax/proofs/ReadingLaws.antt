@@ -1,5 +1,5 @@
 -- A text has one reading: what the grammar says of its tokens is what the reader answers.
-use Rattle.std.proofs.Common.{◌≡◌, ℕ, ◌<◌, List, length, Result, Ok, Err, refl, sym, ◌∙◌, inl, inr, ◌⊎◌, arith}
+use Rattle.std.proofs.Common.{◌≡◌, ℕ, List, length, Ok, Err, refl, sym, ◌∙◌, inl, inr, ◌⊎◌, arith}
 use Rattle.std.proofs.lemmas.Bool.{cases_order}
 use Rattle.protocol_lexer.specs.declared.Token.{Token}
 use Rattle.protocol_lexer.specs.Tokens.{AreTokens, TokensAreDetermined, TokensExcludeBadByte, BadByteIsDetermined}
@@ -10,7 +10,7 @@ use Rattle.protocol_syntax.specs.Symbol.{source_of}
 use Rattle.protocol_syntax.specs.Grammar.{IsProtocol, IsFirstFault}
 use Rattle.protocol_syntax.specs.Reading.{Answer}
 use Rattle.protocol_syntax.specs.GrammarReading.{read_protocol}
-use Rattle.protocol_syntax.proofs.ParseLaws.{parse_protocol, parse_no_fault, parse_short_fault, parse_short_protocol, parse_failed_fault, parse_failed_protocol, bad_byte_fault, bad_byte_protocol}
+use Rattle.protocol_syntax.proofs.ParseLaws.{parse_protocol, parse_no_fault, parse_short_fault, parse_short_protocol, parse_failed_fault, parse_failed_protocol, bad_byte_fault}
 
 -- two indices are the same, or not
 same_or_not : (a b : ℕ) → (a ≡ b) ⊎ (a ≡ b → ⊥)
