@@ -105,7 +105,7 @@ def long_texts(folder, _):
 
 def long_words(folder, _):
     """A configuration in one word of 131,071 bytes, which are all that the system takes, and in a run of 1 MiB."""
-    folder.put(f=example("token.armc"), run=b"armc 1 unsafe\nstart P: t" + b" n" * ((MEGABYTE - 28) // 2) + b"\nend\n")
+    folder.put(f=example("token.armc"), run=b"armc 1 unsafe\nstart P: t" + b" n" * ((MEGABYTE - 4) // 2) + b"\nend\n")
     letters = b" n" * ((131_071 - 4) // 2)
     wrong = differs("one word", folder.run(["steps", "f", b"P: t" + letters]), (0, b"pass -> P: n t" + letters[2:] + b"\n", b""))
     return wrong + differs("a run of 1 MiB", folder.run(["verify", "f", "run"]), (7, b"not valid: not bad\n", b""))
