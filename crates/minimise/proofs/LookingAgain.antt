@@ -51,7 +51,8 @@ numbered_all m classes numbers states count none all q = elim (cases_lt q (lengt
   | inr past ↦ inr (ap numbers (outgoing-past m classes q past) ∙ none ∙ ap Some (sym (get_or_past classes q 0 (omega arith))))
 ]
 
-module _ (m : Automaton) (valid : IsValid m) (classes finer : List ℕ) (numbers : Signature → Option ℕ) (states : List ℕ) (apart : AreToldApart m classes) (round : IsRound m classes finer numbers states) where
+module _ (m : Automaton) (valid : IsValid m) (classes finer : List ℕ) (numbers : Signature → Option ℕ) (states : List ℕ)
+    (apart : AreToldApart m classes) (round : IsRound m classes finer numbers states) where
   pub round_apart : AreToldApart m finer
   round_apart = record {
     count = round.count ∙ apart.count;
@@ -113,7 +114,8 @@ looking_none m classes finer numbers states same none numbered = record {
   agree = λ q. inr (ap (λ xs. slice_index xs q) (sym same));
 }
 
-module _ (m : Automaton) (classes finer : List ℕ) (numbers : Signature → Option ℕ) (states : List ℕ) (i : ℕ) (count : length classes ≡ length m.states) (so_far : IsLooking m classes finer numbers states i) where
+module _ (m : Automaton) (classes finer : List ℕ) (numbers : Signature → Option ℕ) (states : List ℕ) (i : ℕ)
+    (count : length classes ≡ length m.states) (so_far : IsLooking m classes finer numbers states i) where
   pub looking_past : length classes ≤ slice_index states i → IsLooking m classes finer numbers states (i + 1)
   looking_past past = record {
     count = so_far.count;
@@ -142,7 +144,8 @@ module _ (m : Automaton) (classes finer : List ℕ) (numbers : Signature → Opt
       here : slice_index (set finer (slice_index states i) number) (slice_index states i) ≡ number
       here = get_or-set_same finer (slice_index states i) number 0 (let x = so_far.count in omega arith)
 
-      by : (q : ℕ) → (q ≡ (slice_index states i)) ⊎ (q ≡ (slice_index states i) → ⊥) → StandsFrom states (i + 1) q ⊎ (more (outgoing m classes q) ≡ Some (slice_index (set finer (slice_index states i) number) q))
+      by : (q : ℕ) → (q ≡ (slice_index states i)) ⊎ (q ≡ (slice_index states i) → ⊥)
+          → StandsFrom states (i + 1) q ⊎ (more (outgoing m classes q) ≡ Some (slice_index (set finer (slice_index states i) number) q))
       by q (inl e) = inr (subst (λ x. more (outgoing m classes x) ≡ Some (slice_index (set finer (slice_index states i) number) x)) (sym e) (has.number_is ∙ ap Some (sym here)))
       by q (inr ne) = elim (so_far.numbered q) [
         | inr is ↦ inr (has.kept (outgoing m classes q) (slice_index finer q) is ∙ ap Some (sym (get_or-set_other finer (slice_index states i) q number 0 ne)))
@@ -195,14 +198,17 @@ module _ (old finer classes changed states : List ℕ) (i : ℕ) (so_far : IsSet
     moved = λ q. other q (cases_eq q (slice_index states i));
   }
     where
-      by : (q : ℕ) → (q ≡ (slice_index states i)) ⊎ (q ≡ (slice_index states i) → ⊥) → StandsFrom states (i + 1) q ⊎ (slice_index (set classes (slice_index states i) after) q ≡ slice_index finer q)
-      by q (inl e) = inr (subst (λ x. slice_index (set classes (slice_index states i) after) x ≡ slice_index finer x) (sym e) (get_or-set_same classes (slice_index states i) after 0 (let x = so_far.count in omega arith) ∙ is))
+      by : (q : ℕ) → (q ≡ (slice_index states i)) ⊎ (q ≡ (slice_index states i) → ⊥)
+          → StandsFrom states (i + 1) q ⊎ (slice_index (set classes (slice_index states i) after) q ≡ slice_index finer q)
+      by q (inl e) = inr (subst (λ x. slice_index (set classes (slice_index states i) after) x ≡ slice_index finer x) (sym e)
+          (get_or-set_same classes (slice_index states i) after 0 (let x = so_far.count in omega arith) ∙ is))
       by q (inr ne) = elim (so_far.agree q) [
         | inr same ↦ inr (get_or-set_other classes (slice_index states i) q after 0 ne ∙ same)
         | inl stands ↦ elim (stands_more states i q stands) [ inl e ↦ absurd (ne (sym e)) | inr later ↦ inl later ]
       ]
 
-      other : (q : ℕ) → (q ≡ (slice_index states i)) ⊎ (q ≡ (slice_index states i) → ⊥) → Contains (changed ++ (slice_index states i) ∷ []) q ⊎ (slice_index old q ≡ slice_index (set classes (slice_index states i) after) q)
+      other : (q : ℕ) → (q ≡ (slice_index states i)) ⊎ (q ≡ (slice_index states i) → ⊥)
+          → Contains (changed ++ (slice_index states i) ∷ []) q ⊎ (slice_index old q ≡ slice_index (set classes (slice_index states i) after) q)
       other q (inl e) = inl (subst (Contains (changed ++ (slice_index states i) ∷ [])) (sym e) (Contains-push changed (slice_index states i)))
       other q (inr ne) = elim (so_far.moved q) [
         | inl there ↦ inl (Contains-append_left changed ((slice_index states i) ∷ []) q there)

@@ -15,7 +15,8 @@ pub record IsAdding {A : Type 0} (old new : List (Vec ℕ A)) (edges : List (ℕ
   pub kept : (r p : ℕ) → IsListed old r p → IsListed new r p
   pub added : (k : ℕ) → k < i → k < length edges → (get_or edges k (0, 0)).1 < length old → IsListed new (get_or edges k (0, 0)).1 state
 
-module _ {A : Type 0} (lists : List (Vec ℕ A)) (to state : ℕ) (list more : Vec ℕ A) (within : to < length lists) (list_is : list ≡ get_or lists to list) (grown : more.items ≡ list.items ++ state ∷ []) where
+module _ {A : Type 0} (lists : List (Vec ℕ A)) (to state : ℕ) (list more : Vec ℕ A)
+    (within : to < length lists) (list_is : list ≡ get_or lists to list) (grown : more.items ≡ list.items ++ state ∷ []) where
   replaced : slice_get (set lists to more) to ≡ Some more
   replaced = slice_get-get_or (set lists to more) to more (let e = length-set lists to more in omega arith) ∙ ap Some (get_or-set_same lists to more more within)
 

@@ -105,7 +105,8 @@ module _ (m n : Automaton) (c : IsCanonical m) (same : SameLanguage m n) where
   pub size-least : length m.states ≤ length n.states
   size-least =
       let all = has_partners (length m.states) (omega arith) in
-      let bound = length-le_from_distinct_below all.partners (length n.states) all.distinct (λ r among. let j = all.each r among in subst (λ x. x < length n.states) (sym j.3) (partner-below j.0 j.1)) in
+      let bound = length-le_from_distinct_below all.partners (length n.states) all.distinct
+      (λ r among. let j = all.each r among in subst (λ x. x < length n.states) (sym j.3) (partner-below j.0 j.1)) in
       let count = all.count in omega arith
 
   -- where n is canonical too, partners come in the order of the states
@@ -174,7 +175,8 @@ module _ (m n : Automaton) (c : IsCanonical m) (d : IsCanonical n) (same : SameL
   ]
 
 -- lists of nodes are equal where their flags and edges are
-pub same_nodes : (xs ys : List (Node ℕ)) → length xs ≡ length ys → ((q : ℕ) → q < length xs → is_accepting xs q ≡ is_accepting ys q) → ((q : ℕ) → q < length xs → edges_of xs q ≡ edges_of ys q) → xs ≡ ys
+pub same_nodes : (xs ys : List (Node ℕ)) → length xs ≡ length ys → ((q : ℕ) → q < length xs → is_accepting xs q ≡ is_accepting ys q)
+    → ((q : ℕ) → q < length xs → edges_of xs q ≡ edges_of ys q) → xs ≡ ys
 same_nodes [] [] l h k = refl
 same_nodes [] (y ∷ ys) l h k = cc
 same_nodes (x ∷ xs) [] l h k = cc

@@ -124,7 +124,8 @@ fn settle(
     requires count { length finer.now ≡ length classes.old.items }
     requires agree { AgreeButFrom classes.old.items finer.now states.now 0 }
     ensures classes { OnOk result (classes.new.items ≡ finer.now) }
-    ensures changed { IfOk result (λ changed. (q : ℕ) → Contains changed.items q ⊎ (slice_index classes.old.items q ≡ slice_index finer.now q)) }
+    ensures changed { IfOk result (λ changed. (q : ℕ) → Contains changed.items q
+        ⊎ (slice_index classes.old.items q ≡ slice_index finer.now q)) }
 {
     let mut changed = Vec::new(alloc);
     'states: for state in states {
