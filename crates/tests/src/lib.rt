@@ -7,19 +7,23 @@
 #[cfg(test)]
 mod automata;
 #[cfg(test)]
-mod canonical_automata;
+mod calls;
 #[cfg(test)]
-mod commands;
+mod canonical_automata;
 #[cfg(test)]
 mod configurations;
 #[cfg(test)]
 mod copies;
+#[cfg(test)]
+mod failing_calls;
 #[cfg(test)]
 mod images;
 #[cfg(test)]
 mod moves;
 #[cfg(test)]
 mod outside;
+#[cfg(test)]
+mod patterns;
 mod systems;
 #[cfg(test)]
 mod threads;

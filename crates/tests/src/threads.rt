@@ -1,8 +1,10 @@
-//! Images and preimages in threads: those of two rules are in work at once, and each rule is asked once.
+//! Images and preimages in threads: those of two rules are in work at once, also in a whole search, and each rule is asked once.
 
 ghost use Rattle.std.specs.Prelude.{◌≤◌};
 
+use crate::calls::{AMPLE, Call, answer_of};
 use crate::moves::{HANDOFF, system};
+use armc_commands::Status;
 use armc_io::Gate;
 use parallel_post::Compiled;
 use safety_problem::Problem;
@@ -111,6 +113,27 @@ fn images_of_two_rules_are_in_work_at_once(rt: HostRuntime) -> Result<(), Fail> 
 fn preimages_of_two_rules_are_in_work_at_once(rt: HostRuntime) -> Result<(), Fail> {
     let gate = Meeting::new();
     assert_eq!(rt; preimage_size(rt.alloc(), &rt, &gate, 2)?, 7);
+    assert!(rt; !gate.given_up.load(Ordering::SeqCst));
+    Ok(())
+}
+
+const CHECK: Call = Call {
+    words: &["check", "f", "--workers", "2"],
+    protocol: HANDOFF,
+    failing: &[],
+    out: AMPLE,
+    err: AMPLE,
+};
+
+const HANDOFF_PROOF: &[u8] =
+    b"armc 1 safe\nstates 4\nfinal 2\nedge 0 S.a 0\nedge 0 S.b 1\nedge 0 | 2\nedge 1 | 3\nedge 3 C.m 2\nend\n";
+
+#[test]
+fn rules_of_a_whole_search_are_in_work_at_once(rt: HostRuntime) -> Result<(), Fail> {
+    let gate = Meeting::new();
+    let answer = answer_of(rt.alloc(), &rt, &CHECK, &gate)?;
+    assert_eq!(rt; answer.status, Status::Done);
+    assert_eq!(rt; answer.out.as_slice(), HANDOFF_PROOF);
     assert!(rt; !gate.given_up.load(Ordering::SeqCst));
     Ok(())
 }
