@@ -2,6 +2,7 @@
 folder, and the pages for newcomers. Each check is a pair of a name and a list of lines that say what is wrong, or a word that says why it
 was skipped: a checker (mandoc, zsh, fish, vim) that is not on this machine.
 """
+import functools
 import glob
 import json
 import os
@@ -125,12 +126,19 @@ def launcher_interrupted():
     with tempfile.TemporaryDirectory() as folder:
         tree = Tree(folder)
         environment = {**tree.environment, "FAKE_SLEEP": "30"}
-        build = subprocess.Popen([os.path.join(tree.top, "tools", "build-program")], env=environment, stderr=subprocess.PIPE, text=True)
+        # (a program that a shell started in the background is handed a SIGINT that is ignored)
+        answering = functools.partial(signal.signal, signal.SIGINT, signal.SIG_DFL)
+        words = [os.path.join(tree.top, "tools", "build-program")]
+        build = subprocess.Popen(words, env=environment, stderr=subprocess.PIPE, text=True, preexec_fn=answering)
         end = time.monotonic() + 60
         while not os.path.exists(tree.list) and time.monotonic() < end:
             time.sleep(0.1)
         build.send_signal(signal.SIGINT)
-        said = build.communicate(timeout=60)[1]
+        try:
+            said = build.communicate(timeout=SECONDS)[1]
+        except subprocess.TimeoutExpired:
+            build.kill()
+            said = build.communicate()[1]
         wrong = [] if build.returncode == 130 and "interrupted; what is proved is kept" in said else [f"status {build.returncode}: {said!r}"]
         return wrong + differences(tree.call("x"), {"status": 3, "stdout": "words: x\n"})
 
