@@ -19,6 +19,8 @@ mod failing_calls;
 #[cfg(test)]
 mod images;
 #[cfg(test)]
+mod large_automata;
+#[cfg(test)]
 mod moves;
 #[cfg(test)]
 mod outside;

@@ -1,0 +1,61 @@
+//! Automata of many states, and over many letters.
+
+use boolean_operations::included;
+use minimise::canonical;
+use std::alloc::Global;
+use std::test::Fail;
+use word_automata::{Dfa, DfaBuilder};
+
+/// So many letters that nothing may be done for each of them.
+const LETTERS: u32 = 4_000_000_000;
+
+/// A row of a million states over one letter, of which the last accepts.
+const STATES: usize = 1_000_000;
+
+fn row(alloc: Global) -> Result<Dfa, Fail> {
+    let mut builder = DfaBuilder::new(alloc, 1);
+    let mut last = builder.state(false)?;
+    'states: for _ in 1..STATES {
+        let next = builder.state(false)?;
+        builder.edge(last, 0, next)?;
+        last = next;
+    }
+    builder.accept(last)?;
+    Ok(builder.finish())
+}
+
+/// The word of this letter alone, over all these letters.
+fn one_letter(alloc: Global, letter: u32) -> Result<Dfa, Fail> {
+    let mut builder = DfaBuilder::new(alloc, LETTERS);
+    let start = builder.state(false)?;
+    let end = builder.state(true)?;
+    builder.edge(start, letter, end)?;
+    Ok(builder.finish())
+}
+
+/// The least word of the one outside the other. Both are over the same letters.
+fn outside(alloc: Global, a: &Dfa, b: &Dfa) -> Result<Option<Vec<u32>>, Fail> {
+    let nondeterministic = a.as_nfa(alloc)?;
+    if nondeterministic.letters() != b.letters() {
+        return Err(Fail::new("other letters"));
+    }
+    Ok(included(alloc, &nondeterministic, b)?)
+}
+
+#[test]
+fn row_of_a_million_states_stays(rt: HostRuntime) -> Result<(), Fail> {
+    let row = canonical(rt.alloc(), &row(rt.alloc())?)?;
+    assert_eq!(rt; row.size(), STATES);
+    Ok(())
+}
+
+#[test]
+fn inclusion_over_many_letters(rt: HostRuntime) -> Result<(), Fail> {
+    let alloc = rt.alloc();
+    let zero = one_letter(alloc, 0)?;
+    let one = one_letter(alloc, 1)?;
+    assert!(rt; outside(alloc, &zero, &zero)?.is_none());
+    let word = outside(alloc, &zero, &one)?;
+    assert!(rt; word.is_some_and(|w| w.as_slice() == [0].as_slice()));
+    Ok(())
+}
