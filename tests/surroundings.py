@@ -17,13 +17,19 @@ import time
 TOP = os.path.dirname(os.path.dirname(os.path.abspath(__file__)))
 SECONDS = 300
 
-# A command rt that proves nothing: `lib` and `run` write what they were asked to a list, and `run` makes a program that prints its words.
+# A command rt that proves nothing: `all check` and `run` write what they were asked to a list, and `run` makes a program that prints its words.
 FAKE = """#!/usr/bin/env bash
 name=$(basename "$PWD")
 case $1 in
 version) echo "$FAKE_KIT logic 0" ;;
-lib) echo "$name" >>"$FAKE_LIST"; sleep "$FAKE_SLEEP"; [ "$name" != "$FAKE_FAULT" ] ;;
-run) echo "$name" >>"$FAKE_LIST"; mkdir -p out; cat >out/armc <<'END'
+all)
+  for crate in low middle other top armc tests; do
+    echo "$crate" >>"$FAKE_LIST"; sleep "$FAKE_SLEEP"
+    if [ "$crate" = "$FAKE_FAULT" ]; then printf '== %s\\nerror\\n== summary\\n%s: failed (1)\\n' "$crate" "$crate"; exit 1; fi
+    printf '== %s\\nlogic=proved functions=1\\n' "$crate"
+  done
+  printf '== summary\\n6 of 6 crates ok\\n' ;;
+run) echo "run-$name" >>"$FAKE_LIST"; mkdir -p out; cat >out/armc <<'END'
 #!/bin/sh
 [ "$1" = verify ] && { echo valid; exit 0; }
 echo "words: $*"; exit 3
@@ -91,9 +97,9 @@ def launcher():
         tree, wrong = Tree(folder), []
         found = tree.call("show", "a b")
         wrong += differences(found, {"status": 3, "stdout": "words: show a b\n"})
-        if sorted(found["asked"]) != ["armc", "low", "middle", "other", "top"] or found["asked"][0] != "low" or found["asked"][-1] != "armc":
+        if found["asked"] != ["low", "middle", "other", "top", "armc", "tests", "run-armc"]:
             wrong.append(f"it proves {found['asked']}")
-        if "armc: proved 5 of 5 crates, 0 min: armc\narmc: the program is built\n" not in found["stderr"]:
+        if "armc: proved 5 of 6 crates, 0 min: armc\narmc: proved 6 of 6 crates, 0 min: tests\narmc: the program is built\n" not in found["stderr"]:
             wrong.append(f"it says {found['stderr']!r}")
         wrong += differences(tree.call("x"), {"status": 3, "stdout": "words: x\n", "stderr": "", "asked": []})
         tree.forget()
