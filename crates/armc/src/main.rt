@@ -1,5 +1,5 @@
 //! The program: it answers the words after its name by one text on standard output and one on standard error. Words that are no text,
-//! or do not fit into memory, are answered as want of memory is.
+//! or do not fit into memory, are answered as any lack of memory is.
 #![tactic(auto)]
 
 use armc_commands::{Status, run};
@@ -7,7 +7,7 @@ use armc_io::{FileLibrary, NoGate, Sink, StreamSink};
 use std::env;
 use std::process::ExitCode;
 
-/// Tells of want of memory, as the commands do.
+/// Says that memory ran out, as the commands do.
 fn out_of_memory<E: Sink>(err: &mut E) -> ExitCode {
     match err.put(b"armc: out of memory\n") {
         Ok(()) => ExitCode::from(Status::Memory as u8),
