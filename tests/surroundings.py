@@ -399,6 +399,8 @@ def pages_for_newcomers():
         text = read("docs", page)
         for block in re.findall(r"^```\n(protocol .*?)^```$", text, re.M | re.S):
             wrong += [] if block in shown else [f"{page}: {block.splitlines()[0]} is in no file of examples"]
+        lines = re.findall(r"^(?:init|rule|bad) .*$", "".join(re.findall(r"^```\n(.*?)^```$", text, re.M | re.S)), re.M)
+        wrong += [f"{page}: no file of examples has the line {line}" for line in lines if not any(line in each for each in shown)]
         for path in re.findall(r"`((?:examples|docs|tools|tests)/[\w/.-]+)", text):
             wrong += [] if os.path.exists(os.path.join(TOP, path)) or "NAME" in path else [f"{page}: {path} is not there"]
         if page == "TUTORIAL.md":
