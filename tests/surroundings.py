@@ -124,7 +124,11 @@ def launcher_unproved():
         found = tree.call("verify", "examples/first.armc", "nowhere", ARMC_TRY="1")
         wrong = differences(found, {"status": 5, "stdout": f"words: verify {tree.top}/examples/first.armc nowhere\n", "asked": []})
         lines = found["stderr"].splitlines()
-        return wrong + ([] if lines[1:] == ["armc: not proved"] and "nothing of this run is proved" in lines[0] else [f"it says {lines}"])
+        wrong += [] if lines[1:] == ["armc: not proved"] and "nothing of this run is proved" in lines[0] else [f"it says {lines}"]
+        found = tree.call("x", ARMC_TRY="1", FAKE_KIT="rattle-kit-12")
+        if found["status"] != 126 or found["stderr"].count("\n") != 1 or "rattle-kit-13f or later is needed" not in found["stderr"]:
+            wrong.append(f"with an old kit: {found}")
+        return wrong
 
 
 def launcher_interrupted():
