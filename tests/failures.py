@@ -1,4 +1,4 @@
-"""Cut texts, texts as long as they may be, standard output and error that take only a part, reads that fail, and want of memory: what the program
+"""Cut texts, texts as long as they may be, standard output and error that take only a part, reads that fail, and running out of memory: what the program
 answers is the determined answer, or the one that the fault has, and a sink that failed has a beginning of its text. Each check is a pair of a name
 and a list of lines that say what is wrong.
 """

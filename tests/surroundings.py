@@ -124,7 +124,11 @@ def launcher_unproved():
         found = tree.call("verify", "examples/first.armc", "nowhere", ARMC_TRY="1")
         wrong = differences(found, {"status": 5, "stdout": f"words: verify {tree.top}/examples/first.armc nowhere\n", "asked": []})
         lines = found["stderr"].splitlines()
-        return wrong + ([] if lines[1:] == ["armc: not proved"] and "nothing of this run is proved" in lines[0] else [f"it says {lines}"])
+        wrong += [] if lines[1:] == ["armc: not proved"] and "nothing of this run is proved" in lines[0] else [f"it says {lines}"]
+        found = tree.call("x", ARMC_TRY="1", FAKE_KIT="rattle-kit-12")
+        if found["status"] != 126 or found["stderr"].count("\n") != 1 or "rattle-kit-13f or later is needed" not in found["stderr"]:
+            wrong.append(f"with an old kit: {found}")
+        return wrong
 
 
 def launcher_interrupted():
@@ -399,6 +403,8 @@ def pages_for_newcomers():
         text = read("docs", page)
         for block in re.findall(r"^```\n(protocol .*?)^```$", text, re.M | re.S):
             wrong += [] if block in shown else [f"{page}: {block.splitlines()[0]} is in no file of examples"]
+        lines = re.findall(r"^(?:init|rule|bad) .*$", "".join(re.findall(r"^```\n(.*?)^```$", text, re.M | re.S)), re.M)
+        wrong += [f"{page}: no file of examples has the line {line}" for line in lines if not any(line in each for each in shown)]
         for path in re.findall(r"`((?:examples|docs|tools|tests)/[\w/.-]+)", text):
             wrong += [] if os.path.exists(os.path.join(TOP, path)) or "NAME" in path else [f"{page}: {path} is not there"]
         if page == "TUTORIAL.md":
