@@ -1,10 +1,15 @@
 //! Deterministic automata from nondeterministic ones, by the subset construction.
 #![tactic(auto)]
 
+mod copying;
 mod emptiness;
 mod live_part;
 mod moves;
+mod order;
+mod pruning;
 mod silent;
+mod simulation;
+mod state_pairs;
 mod state_set;
 mod subset;
 mod subsets;
@@ -15,28 +20,48 @@ ghost use Rattle.word_automata.specs.Nondeterministic.{Accepts};
 
 use crate::emptiness::{dead_flags, is_flagged};
 use crate::live_part::live_part;
+use crate::order::has_ordered_edges;
+use crate::pruning::pruned;
 use crate::silent::silent_flags;
+use crate::simulation::simulation;
 use crate::subsets::Subsets;
 use exploration::explore_languages;
 use std::alloc::{AllocError, Global};
 use word_automata::{Dfa, Nfa};
 
 /// The deterministic automaton of the sets of states that words lead to (M. O. Rabin and D. Scott, 1959), which accepts the same
-/// words. States are numbered breadth first, letters in increasing order. States from which no word is accepted stand in no set. The
-/// time is linear in the edges of the automaton and in those that leave the states of the sets that are reached, up to sorting, on
-/// average.
+/// words. States are numbered breadth first, letters in increasing order. States from which no word is accepted stand in no set, and
+/// edges whose targets are simulated by those of other edges of the same state and letter are dropped first. The time is linear in the
+/// edges of the automaton and in those that leave the states of the sets that are reached, up to sorting, on average; and, where a
+/// letter leads from one state to two, in the edges of the pairs of states that are compared, at most 2 to the 18, times at most 32.
 pub fn determinise(alloc: Global, automaton: &Nfa) -> Result<Dfa, AllocError>
     ensures language { IfOk result (λ dfa. (w : List ℕ) → IsTrue (accepts dfa w) ↔ Accepts automaton.now w) }
     ensures letters { IfOk result (λ dfa. dfa.letters ≡ automaton.now.letters) }
     ensures valid { IfOk result IsValid }
 {
     let dead = dead_flags(alloc, automaton)?;
-    if is_flagged(&dead) {
+    if is_flagged(&dead) || !has_ordered_edges(automaton) {
         let live = live_part(alloc, automaton, &dead)?;
-        let dfa = subsets_of(alloc, &live)?;
+        let dfa = subsets_of_pruned(alloc, &live)?;
         return Ok(dfa);
     }
-    Ok(subsets_of(alloc, automaton)?)
+    Ok(subsets_of_pruned(alloc, automaton)?)
+}
+
+/// The deterministic automaton of the sets of states that words lead to without edges that others match.
+fn subsets_of_pruned(alloc: Global, automaton: &Nfa) -> Result<Dfa, AllocError>
+    ensures language { IfOk result (λ dfa. (w : List ℕ) → IsTrue (accepts dfa w) ↔ Accepts automaton.now w) }
+    ensures letters { IfOk result (λ dfa. dfa.letters ≡ automaton.now.letters) }
+    ensures valid { IfOk result IsValid }
+{
+    match simulation(alloc, automaton)? {
+        Some(pairs) => {
+            let pruned = pruned(alloc, automaton, &pairs)?;
+            let dfa = subsets_of(alloc, &pruned)?;
+            Ok(dfa)
+        }
+        None => subsets_of(alloc, automaton),
+    }
 }
 
 /// The deterministic automaton of the sets of states that words lead to.
