@@ -1,6 +1,6 @@
 //! The moves with a letter out of a set of states.
 
-ghost use Rattle.std.specs.Prelude.{◌≡◌, ◌↔◌, ◌<◌, ◌++◌, ℕ, Contains, IsTrue, length, map, IfOk, OnOk};
+ghost use Rattle.std.specs.Prelude.{◌≡◌, ◌↔◌, ◌<◌, ◌++◌, ℕ, Contains, IsPermutation, IsTrue, length, map, IfOk, OnOk};
 ghost use Rattle.std.specs.List.{filter_map};
 ghost use Rattle.word_automata.specs.StateSets.{AreStates};
 ghost use Rattle.determinise.specs.Subsets.{lettered_move, moves_from, order_key, HasOrderedLetters, AreOrderedMoves, IsRun};
@@ -20,9 +20,35 @@ pub fn ordered_moves(
     requires { AreStates automaton.now states.now }
     ensures { IfOk result (λ moves. AreOrderedMoves automaton.now states.now moves.items) }
 {
-    let mut moves = moves_from(alloc, automaton, states)?;
+    let moves = moves_from(alloc, automaton, states)?;
+    if are_ordered(&moves) {
+        return Ok(moves);
+    }
+    Ok(sorted(moves))
+}
+
+/// Whether the moves are in order, as those of one state are where its edges are.
+fn are_ordered(moves: &[(u32, usize)]) -> bool
+    ensures { IsTrue result → HasOrderedLetters moves.now }
+{
+    'moves: for at in 1..moves.len() {
+        let (before, from) = moves[at - 1];
+        let (letter, to) = moves[at];
+        if order_key(before, from) > order_key(letter, to) {
+            return false;
+        }
+    }
+    true
+}
+
+/// The moves in order.
+fn sorted(moves: Vec<(u32, usize)>) -> Vec<(u32, usize)>
+    ensures permutation { IsPermutation moves.items result.items }
+    ensures ordered { HasOrderedLetters result.items }
+{
+    let mut moves = moves;
     moves.sort_unstable_by_key(|&(letter, to)| order_key(letter, to));
-    Ok(moves)
+    moves
 }
 
 /// The letter above the last 32 bits of the target: one number, so that moves are compared at once.
@@ -41,11 +67,22 @@ fn moves_from(
     requires { AreStates automaton.now states.now }
     ensures { IfOk result (λ moves. moves.items ≡ moves_from automaton.now states.now) }
 {
-    let mut moves = Vec::new(alloc);
+    let mut moves = Vec::with_capacity(alloc, count_edges(automaton, states))?;
     'states: for state in states {
         add_moves(&mut moves, automaton.edges_from(*state))?;
     }
     Ok(moves)
+}
+
+/// The number of edges out of the states.
+fn count_edges(automaton: &Nfa, states: &[usize]) -> usize
+    requires { AreStates automaton.now states.now }
+{
+    let mut count: usize = 0;
+    'states: for state in states {
+        count = count.saturating_add(automaton.edges_from(*state).len());
+    }
+    count
 }
 
 /// Adds the moves of the edges with a letter.
@@ -55,13 +92,23 @@ fn add_moves(
 ) -> Result<(), AllocError>
     ensures { OnOk result (moves.new.items ≡ moves.old.items ++ filter_map lettered_move edges.now) }
 {
-    moves.reserve(edges.len())?;
     'edges: for &(letter, to) in edges {
         if let Some(letter) = letter {
             moves.push((letter, to))?;
         }
     }
     Ok(())
+}
+
+/// The number of places where a move has another letter than the one before, and one for the first.
+pub fn count_runs(moves: &[(u32, usize)]) -> usize {
+    let mut count: usize = 1;
+    'moves: for at in 1..moves.len() {
+        if moves[at - 1].0 != moves[at].0 {
+            count = count.saturating_add(1);
+        }
+    }
+    count
 }
 
 /// The place after the last move with the letter of the move at the place.

@@ -5,7 +5,7 @@ ghost use Rattle.std.specs.Cmp.Lexicographic.{bytes_decides};
 ghost use Rattle.word_automata.specs.Nondeterministic.{Accepts, AcceptsFromAny};
 ghost use Rattle.determinise.specs.Subsets.{IsSubset, ArePlainWhereFalse};
 
-use crate::moves::{end_of_run, ordered_moves, targets};
+use crate::moves::{count_runs, end_of_run, ordered_moves, targets};
 use crate::state_set::StateSet;
 use crate::subset::{accepts_some, subset_from, subset_of};
 use exploration::LanguageSystem;
@@ -65,7 +65,7 @@ impl<'a> LanguageSystem for Subsets<'a> {
         state: &StateSet,
     ) -> Result<Vec<(u32, StateSet)>, AllocError> {
         let moves = ordered_moves(alloc, self.automaton, state.as_slice())?;
-        let mut successors = Vec::new(alloc);
+        let mut successors = Vec::with_capacity(alloc, count_runs(&moves))?;
         let mut at = 0;
         'runs: while at < moves.len() {
             let end = end_of_run(&moves, at);

@@ -12,9 +12,9 @@ subset_of-requires-clause-states c =
     let moves = c.in_ok-moves.moves.items in
     let at = c.runs.at in
     let end = c.end_of_run-end.result in
-    let run = subst (λ (xs : List (ℕ × ℕ)). IsRun xs at end) c.deref.ensures.value c.end_of_run-end.ensures in
+    let run = subst (λ (xs : List (ℕ × ℕ)). IsRun xs at end) c.deref-in-runs.ensures.value c.end_of_run-end.ensures in
     AreStates-members n (map (λ (move : ℕ × ℕ). move.1) (run_of moves at end)) c.in_ok-targets.targets.items
-    (λ q there. subst (λ (xs : List (ℕ × ℕ)). Contains (map (λ (move : ℕ × ℕ). move.1) (run_of xs at end)) q) c.deref-in-runs.ensures.value ((c.in_ok-targets.ensures q).0 there))
+    (λ q there. subst (λ (xs : List (ℕ × ℕ)). Contains (map (λ (move : ℕ × ℕ). move.1) (run_of xs at end)) q) c.deref-in-runs-2.ensures.value ((c.in_ok-targets.ensures q).0 there))
     (targets_are_states n c.args.state.now i.subset moves i.ordered at end run.within)
 
 pub runs-preserved : goal.runs-preserved
@@ -26,9 +26,9 @@ runs-preserved c =
     let at = c.runs.at in
     let end = c.end_of_run-end.result in
     let subset = c.in_ok-subset.subset in
-    let run = subst (λ (xs : List (ℕ × ℕ)). IsRun xs at end) c.deref.ensures.value c.end_of_run-end.ensures in
+    let run = subst (λ (xs : List (ℕ × ℕ)). IsRun xs at end) c.deref-in-runs.ensures.value c.end_of_run-end.ensures in
     let members = subst (λ (xs : List (ℕ × ℕ)). (q : ℕ) → Contains c.in_ok-targets.targets.items q ↔ Contains (map (λ (move : ℕ × ℕ). move.1) (run_of xs at end)) q)
-    c.deref-in-runs.ensures.value c.in_ok-targets.ensures in
+    c.deref-in-runs-2.ensures.value c.in_ok-targets.ensures in
     let from = subset_members n c.in_ok-targets.targets.items (map (λ (move : ℕ × ℕ). move.1) (run_of moves at end)) subset members c.in_ok-subset.ensures in
     let letter : c.index.result.now.0 ≡ letter_of moves at =
     ap (λ (move : ℕ × ℕ). move.0) (c.index.ensures ∙ get_or_default moves at c.index.result.now (0, 0) (let a = run.some in let b = run.within in omega arith)) in
