@@ -1,10 +1,12 @@
 -- Copies with fewer start states and edges that accept along the same labels accept the same words.
-use Rattle.std.proofs.Common.{◌≡◌, ◌+◌, ◌<◌, ◌≤◌, ◌↔◌, ℕ, List, [], ◌∷◌, ◌++◌, Option, Contains, IsTrue, length, map, refl, sym, ap, subst, ◌∙◌, inl, inr, arith}
+use Rattle.std.proofs.Common.{◌≡◌, ◌+◌, ◌≤◌, ◌↔◌, ℕ, List, [], ◌∷◌, ◌++◌, Option, Contains, IsPermutation, IsTrue, length, map, refl, sym, ap, subst, ◌∙◌, inl, inr, arith}
 use Rattle.std.proofs.lemmas.Bool.{cases_eq}
 use Rattle.std.proofs.lemmas.List.{length-map}
 use Rattle.std.proofs.lemmas.List.Elements.{Contains-append_left, Contains-push, Contains-push_cases}
+use Rattle.std.proofs.lemmas.List.Sorted.{Contains-permutation, IsPermutation-sym}
 use Rattle.word_automata.specs.Path.{edges_of, is_accepting, IsPath, spelled, spelled_one}
-use Rattle.word_automata.specs.Nondeterministic.{NondeterministicAutomaton, Accepts}
+use Rattle.word_automata.specs.Nondeterministic.{NondeterministicAutomaton, Accepts, AcceptsFromAny}
+use Rattle.word_automata.proofs.Members.{Contains-none}
 use Rattle.determinise.specs.Reduction.{without_edges, states_alone, with_starts, AddsEdges, AcceptsAlong, KeepsStarts, KeepsEdges, IsReduced, KeepsWhere}
 use Rattle.determinise.proofs.Copies.{is_accepting-alone, edges_of-alone, edges_within}
 
@@ -60,14 +62,14 @@ module _ (n : NondeterministicAutomaton) where
       ((label, along.0) ∷ rest.0, rest.1, (along.1, rest.2), rest.3, ap (λ v. spelled_one label ++ v) rest.4)
 
 module _ (n m : NondeterministicAutomaton) (next : ℕ) (so : IsReduced n m next) (all : length n.states ≤ next) where
-  up : (labels : List (Option ℕ)) (p : ℕ) → AcceptsAlong m p labels → AcceptsAlong n p labels
+  pub up : (labels : List (Option ℕ)) (p : ℕ) → AcceptsAlong m p labels → AcceptsAlong n p labels
   up [] p along = sym (so.same_acceptance p) ∙ along
   up (label ∷ labels) p along =
       let within = edges_within m.states p (label, along.0) along.1 in
       let size = so.same_size in
       (along.0, (so.done p (omega arith)).only (label, along.0) along.1, up labels along.0 along.2)
 
-  down : (labels : List (Option ℕ)) (p : ℕ) → AcceptsAlong n p labels → AcceptsAlong m p labels
+  pub down : (labels : List (Option ℕ)) (p : ℕ) → AcceptsAlong n p labels → AcceptsAlong m p labels
   down [] p along = so.same_acceptance p ∙ along
   down (label ∷ labels) p along =
       let within = edges_within n.states p (label, along.0) along.1 in
@@ -86,6 +88,55 @@ module _ (n m : NondeterministicAutomaton) (next : ℕ) (so : IsReduced n m next
         let path = path_along m labels start.0 (down labels start.0 start.2) in
         (start.0, path.0, path.1, start.1, path.2, path.3, path.4 ∙ sym (spelled_path run.1) ∙ run.6),
   )
+
+-- states one by one, of which some are kept
+pub states_keep_none : (n : NondeterministicAutomaton) → KeepsStarts n [] []
+states_keep_none n = record { only = λ q there. there; kept = λ q labels there along. absurd (Contains-none q there) }
+
+module _ (n : NondeterministicAutomaton) (xs ys : List ℕ) (x : ℕ) (so : KeepsStarts n xs ys) where
+  pub states_keep_skip : ((labels : List (Option ℕ)) → AcceptsAlong n x labels → (r : ℕ) × Contains ys r × AcceptsAlong n r labels) → KeepsStarts n (xs ++ x ∷ []) ys
+  states_keep_skip covered = record {
+    only = λ q there. Contains-append_left xs (x ∷ []) q (so.only q there);
+    kept = λ q labels there along. elim (Contains-push_cases xs x q there) [
+      | inl earlier ↦ so.kept q labels earlier along
+      | inr is ↦ covered labels (subst (λ s. AcceptsAlong n s labels) (sym is) along)
+    ];
+  }
+
+  pub states_keep_more : KeepsStarts n (xs ++ x ∷ []) (ys ++ x ∷ [])
+  states_keep_more = record {
+    only = λ q there. elim (Contains-push_cases ys x q there) [
+      | inl earlier ↦ Contains-append_left xs (x ∷ []) q (so.only q earlier)
+      | inr is ↦ subst (Contains (xs ++ x ∷ [])) is (Contains-push xs x)
+    ];
+    kept = λ q labels there along. elim (Contains-push_cases xs x q there) [
+      | inl earlier ↦ let k = so.kept q labels earlier along in (k.0, Contains-append_left ys (x ∷ []) k.0 k.1, k.2)
+      | inr is ↦ (x, Contains-push ys x, subst (λ s. AcceptsAlong n s labels) (sym is) along)
+    ];
+  }
+
+pub states_keep_turned : (n : NondeterministicAutomaton) (old new turned : List ℕ) → KeepsStarts n old new → IsPermutation new turned → KeepsStarts n old turned
+states_keep_turned n old new turned so turns = record {
+  only = λ q there. so.only q (Contains-permutation turned new q (IsPermutation-sym new turned turns) there);
+  kept = λ q labels there along. let k = so.kept q labels there along in (k.0, Contains-permutation new turned k.0 turns k.1, k.2);
+}
+
+pub states_keep_twice : (n : NondeterministicAutomaton) (old mid new : List ℕ) → KeepsStarts n old mid → KeepsStarts n mid new → KeepsStarts n old new
+states_keep_twice n old mid new once twice = record {
+  only = λ q there. once.only q (twice.only q there);
+  kept = λ q labels there along. let k = once.kept q labels there along in twice.kept k.0 labels k.1 k.2;
+}
+
+-- what is kept accepts the same words
+pub kept_accept : (n : NondeterministicAutomaton) (old new : List ℕ) → KeepsStarts n old new → (w : List ℕ) → AcceptsFromAny n old w ↔ AcceptsFromAny n new w
+kept_accept n old new so w = (
+  λ run.
+      let labels = map (λ (move : Option ℕ × ℕ). move.0) run.1 in
+      let start = so.kept run.0 labels run.3 (along_path n run.1 run.0 run.2 run.4 run.5) in
+      let path = path_along n labels start.0 start.2 in
+      (start.0, path.0, path.1, start.1, path.2, path.3, path.4 ∙ sym (spelled_path run.1) ∙ run.6),
+  λ run. (run.0, run.1, run.2, so.only run.0 run.3, run.4, run.5, run.6),
+)
 
 -- all start states
 pub starts_keep : (n : NondeterministicAutomaton) (starts : List ℕ) → KeepsStarts n starts starts

@@ -1,15 +1,17 @@
 -- What simulations say of the words that states accept, and edges that they make needless.
-use Rattle.std.proofs.Common.{◌≡◌, ◌<◌, ℕ, false, not, eqb, List, [], ◌∷◌, ◌++◌, Option, None, Contains, IsPermutation, length, get_or, refl, sym, subst, ◌∙◌, inl, inr}
+use Rattle.std.proofs.Common.{◌≡◌, ◌<◌, ◌≤◌, ◌&&◌, ℕ, true, false, not, eqb, eq-eqb, List, [], ◌∷◌, ◌++◌, Option, None, Some, Contains, IsPermutation, length, get_or, refl, subst, ◌∙◌, inl, inr}
 use Rattle.std.specs.Option.{option_eq}
-use Rattle.std.proofs.lemmas.Bool.{not-false}
+use Rattle.std.proofs.lemmas.Bool.{not-false, and_from, and_parts}
 use Rattle.std.proofs.lemmas.List.{get_or_default}
 use Rattle.std.proofs.lemmas.List.Elements.{Contains-get_or, Contains-append_left, Contains-push, Contains-push_cases}
+use Rattle.std.proofs.lemmas.List.Folds.{list_any-from_Any, Any-from_list_any}
 use Rattle.std.proofs.lemmas.List.Sorted.{Contains-permutation, IsPermutation-sym}
 use Rattle.word_automata.specs.Path.{edges_of}
 use Rattle.word_automata.specs.Nondeterministic.{NondeterministicAutomaton}
 use Rattle.word_automata.proofs.Members.{Contains-none, same_label}
-use Rattle.determinise.specs.Reduction.{AcceptsAlong, KeepsEdges}
-use Rattle.determinise.specs.Simulation.{IsBelow, IsMatched, AreMatched, IsSimulatedBy, IsSimulation, DropsMatched}
+use Rattle.determinise.specs.Reduction.{AcceptsAlong, KeepsEdges, IsReduced}
+use Rattle.determinise.specs.Simulation.{IsBelow, IsMatched, AreMatched, IsSimulatedBy, IsSimulation, DropsMatched, accepts_along, AreIncluded}
+use Rattle.determinise.proofs.Reductions.{up, down}
 
 -- a state simulates itself
 pub simulated_by_itself : (n : NondeterministicAutomaton) (pairs : List (ℕ × ℕ)) (p : ℕ) → IsSimulatedBy n pairs p p
@@ -66,6 +68,49 @@ module _ (n : NondeterministicAutomaton) (pairs : List (ℕ × ℕ)) (simulation
           above_accepts labels above.0 top.0 top.2 (above_accepts labels q above.0 above.2 along),
         );
   }
+
+-- the test of a path
+same_label_test : (label : Option ℕ) → option_eq eqb label label ≡ true
+same_label_test None = refl
+same_label_test (Some a) = eq-eqb a a refl
+
+module _ (n : NondeterministicAutomaton) where
+  along_tested : (labels : List (Option ℕ)) (p : ℕ) → AcceptsAlong n p labels → accepts_along n p labels ≡ true
+  along_tested [] p along = along
+  along_tested (label ∷ labels) p along =
+      list_any-from_Any (λ (edge : Option ℕ × ℕ). option_eq eqb edge.0 label && accepts_along n edge.1 labels) (edges_of n.states p) (
+        along.1.0,
+        (label, along.0),
+        along.1.1,
+        along.1.2,
+        and_from (option_eq eqb label label) (accepts_along n along.0 labels) (same_label_test label) (along_tested labels along.0 along.2),
+      )
+
+  tested_along : (labels : List (Option ℕ)) (p : ℕ) → accepts_along n p labels ≡ true → AcceptsAlong n p labels
+  tested_along [] p tested = tested
+  tested_along (label ∷ labels) p tested =
+      let some = Any-from_list_any (λ (edge : Option ℕ × ℕ). option_eq eqb edge.0 label && accepts_along n edge.1 labels) (edges_of n.states p) tested in
+      let edge = some.1 in
+      let parts = and_parts (option_eq eqb edge.0 label) (accepts_along n edge.1 labels) some.4 in (
+        edge.1,
+        subst (λ l. Contains (edges_of n.states p) (l, edge.1)) (same_label edge.0 label parts.0) (some.0, some.2, some.3),
+        tested_along labels edge.1 parts.1,
+      )
+
+  pub below_accepts : (pairs : List (ℕ × ℕ)) → AreIncluded n pairs → (p q : ℕ) → IsBelow pairs p q → (labels : List (Option ℕ)) → AcceptsAlong n p labels → AcceptsAlong n q labels
+  below_accepts pairs included p q below labels along = elim below [
+    | inl same ↦ subst (λ x. AcceptsAlong n x labels) same along
+    | inr pair ↦ tested_along labels q (included p q pair labels (along_tested labels p along))
+  ]
+
+  pub included_none : (pairs : List (ℕ × ℕ)) → pairs ≡ [] → AreIncluded n pairs
+  included_none pairs none p q there = absurd (Contains-none (p, q) (subst (λ (xs : List (ℕ × ℕ)). Contains xs (p, q)) none there))
+
+-- a simulation of an automaton says the same of what is left of it
+pub included_reduced : (n m : NondeterministicAutomaton) (next : ℕ) → IsReduced n m next → length n.states ≤ next → (pairs : List (ℕ × ℕ)) → IsSimulation n pairs → AreIncluded m pairs
+included_reduced n m next so all pairs simulation p q pair labels tested =
+    along_tested m labels q
+    (down n m next so all labels q (above_accepts n pairs simulation labels p q (inr pair) (up n m next so all labels p (tested_along m labels p tested))))
 
 -- edges one by one
 module _ (pairs : List (ℕ × ℕ)) where

@@ -1,5 +1,7 @@
 -- What only private functions cite: simulations between the states of an automaton, and edges that they make needless.
-use Rattle.std.specs.Prelude.{◌≡◌, ◌⊎◌, ℕ, List, Option, Contains, IsTrue}
+use Rattle.std.specs.Prelude.{◌≡◌, ◌⊎◌, ◌&&◌, ℕ, Bool, List, [], ◌∷◌, Option, Contains, IsTrue, eqb}
+use Rattle.std.specs.List.{list_any}
+use Rattle.std.specs.Option.{option_eq}
 use Rattle.word_automata.specs.Path.{edges_of, is_accepting}
 use Rattle.word_automata.specs.Nondeterministic.{NondeterministicAutomaton}
 
@@ -28,3 +30,12 @@ IsSimulation n pairs = (p q : ℕ) → Contains pairs (p, q) → IsSimulatedBy n
 pub record DropsMatched (pairs : List (ℕ × ℕ)) (old new : List (Option ℕ × ℕ)) : Type 0 where
   pub only : (edge : Option ℕ × ℕ) → Contains new edge → Contains old edge
   pub matched : AreMatched pairs old new
+
+-- whether some path whose edges have these labels leads from the state to an accepting one
+abbrev pub accepts_along : NondeterministicAutomaton → ℕ → List (Option ℕ) → Bool
+accepts_along n p [] = is_accepting n.states p
+accepts_along n p (label ∷ labels) = list_any (λ (edge : Option ℕ × ℕ). option_eq eqb edge.0 label && accepts_along n edge.1 labels) (edges_of n.states p)
+
+-- the second state of each pair accepts along the labels along which the first one does
+abbrev pub AreIncluded : NondeterministicAutomaton → List (ℕ × ℕ) → Type 0
+AreIncluded n pairs = (p q : ℕ) → Contains pairs (p, q) → (labels : List (Option ℕ)) → IsTrue (accepts_along n p labels) → IsTrue (accepts_along n q labels)

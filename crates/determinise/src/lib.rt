@@ -4,6 +4,7 @@
 mod copying;
 mod emptiness;
 mod live_part;
+mod maximal;
 mod moves;
 mod order;
 mod pruning;
@@ -17,6 +18,7 @@ mod subsets;
 ghost use Rattle.std.specs.Prelude.{◌≡◌, ◌↔◌, List, ℕ, IsTrue, IfOk};
 ghost use Rattle.word_automata.specs.Automaton.{accepts, IsValid};
 ghost use Rattle.word_automata.specs.Nondeterministic.{Accepts};
+ghost use Rattle.determinise.specs.Simulation.{AreIncluded};
 
 use crate::emptiness::{dead_flags, is_flagged};
 use crate::live_part::live_part;
@@ -24,14 +26,16 @@ use crate::order::has_ordered_edges;
 use crate::pruning::pruned;
 use crate::silent::silent_flags;
 use crate::simulation::simulation;
+use crate::state_pairs::StatePairs;
 use crate::subsets::Subsets;
 use exploration::explore_languages;
 use std::alloc::{AllocError, Global};
 use word_automata::{Dfa, Nfa};
 
 /// The deterministic automaton of the sets of states that words lead to (M. O. Rabin and D. Scott, 1959), which accepts the same
-/// words. States are numbered breadth first, letters in increasing order. States from which no word is accepted stand in no set, and
-/// edges whose targets are simulated by those of other edges of the same state and letter are dropped first. The time is linear in the
+/// words. States are numbered breadth first, letters in increasing order. States from which no word is accepted stand in no set; edges
+/// whose targets are simulated by those of other edges of the same state and letter are dropped first, and so are states that others of
+/// a set simulate, as far as pairs of states were compared. The time is linear in the
 /// edges of the automaton and in those that leave the states of the sets that are reached, up to sorting, on average; and, where a
 /// letter leads from one state to two, in the edges of the pairs of states that are compared, at most 2 to the 18, times at most 32.
 pub fn determinise(alloc: Global, automaton: &Nfa) -> Result<Dfa, AllocError>
@@ -57,19 +61,24 @@ fn subsets_of_pruned(alloc: Global, automaton: &Nfa) -> Result<Dfa, AllocError>
     match simulation(alloc, automaton)? {
         Some(pairs) => {
             let pruned = pruned(alloc, automaton, &pairs)?;
-            let dfa = subsets_of(alloc, &pruned)?;
+            let dfa = subsets_of(alloc, &pruned, &pairs)?;
             Ok(dfa)
         }
-        None => subsets_of(alloc, automaton),
+        None => {
+            let pairs = StatePairs::new(alloc)?;
+            let dfa = subsets_of(alloc, automaton, &pairs)?;
+            Ok(dfa)
+        }
     }
 }
 
-/// The deterministic automaton of the sets of states that words lead to.
-fn subsets_of(alloc: Global, automaton: &Nfa) -> Result<Dfa, AllocError>
+/// The deterministic automaton of the sets of states that words lead to, without states that others of the set simulate.
+fn subsets_of(alloc: Global, automaton: &Nfa, pairs: &StatePairs) -> Result<Dfa, AllocError>
+    requires { AreIncluded automaton.now pairs.now }
     ensures language { IfOk result (λ dfa. (w : List ℕ) → IsTrue (accepts dfa w) ↔ Accepts automaton.now w) }
     ensures letters { IfOk result (λ dfa. dfa.letters ≡ automaton.now.letters) }
     ensures valid { IfOk result IsValid }
 {
     let silent = silent_flags(alloc, automaton)?;
-    Ok(explore_languages(alloc, &Subsets::new(automaton, &silent))?)
+    Ok(explore_languages(alloc, &Subsets::new(automaton, &silent, pairs))?)
 }

@@ -6,7 +6,7 @@ ghost use Rattle.std.specs.Prelude.{◌≡◌, ◌↔◌, ◌<◌, ℕ, List, If
 ghost use Rattle.word_automata.specs.Path.{edges_of};
 ghost use Rattle.word_automata.specs.Nondeterministic.{Accepts};
 ghost use Rattle.determinise.specs.Reduction.{KeepsEdges};
-ghost use Rattle.determinise.specs.Simulation.{IsSimulation, DropsMatched};
+ghost use Rattle.determinise.specs.Simulation.{IsSimulation, DropsMatched, AreIncluded};
 
 use crate::copying::{add_edges, add_starts, states_alone};
 use crate::simulation::is_matched;
@@ -19,6 +19,7 @@ pub fn pruned(alloc: Global, automaton: &Nfa, pairs: &StatePairs) -> Result<Nfa,
     requires { IsSimulation automaton.now pairs.now }
     ensures language { IfOk result (λ pruned. (w : List ℕ) → Accepts pruned w ↔ Accepts automaton.now w) }
     ensures letters { IfOk result (λ pruned. pruned.letters ≡ automaton.now.letters) }
+    ensures included { IfOk result (λ pruned. AreIncluded pruned pairs.now) }
 {
     let mut builder = states_alone(alloc, automaton)?;
     add_starts(&mut builder, automaton.starts())?;

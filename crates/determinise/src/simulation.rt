@@ -34,6 +34,7 @@ pub fn simulation(alloc: Global, automaton: &Nfa) -> Result<Option<StatePairs>, 
         let is_changed = take_out_unmatched(&mut pairs, automaton);
         if !is_changed {
             if has_one(&pairs, siblings) {
+                pairs.note_lows(automaton.states())?;
                 return Ok(Some(pairs));
             }
             return Ok(None);
@@ -289,7 +290,7 @@ pub fn is_matched(
 }
 
 /// Whether the states are one, or one of the pairs.
-fn is_below(pairs: &StatePairs, low: usize, high: usize) -> bool
+pub fn is_below(pairs: &StatePairs, low: usize, high: usize) -> bool
     ensures { IsTrue result → IsBelow pairs.now low high }
 {
     low == high || pairs.contains(low, high)

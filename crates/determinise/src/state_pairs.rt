@@ -2,7 +2,7 @@
 //! The Art of Computer Programming, volume 3, section 6.4) into slots, which are tried one after the other and of which at most half
 //! are taken. A look-up takes constant time, on average.
 
-ghost use Rattle.std.specs.Prelude.{◌≡◌, ◌<◌, Contains, IsTrue, length, slice_index_or};
+ghost use Rattle.std.specs.Prelude.{◌≡◌, ◌<◌, [], Contains, IsTrue, IfOk, OnOk, length, slice_index_or};
 
 use std::alloc::{AllocError, Global};
 use std::marker::Model;
@@ -22,6 +22,7 @@ pub struct StatePairs {
     alloc: Global,
     pairs: Vec<(usize, usize)>,
     slots: Vec<u32>,
+    lows: Vec<bool>,
 }
 
 impl Model for StatePairs {
@@ -34,11 +35,14 @@ impl Model for StatePairs {
 
 impl StatePairs {
     /// No pair.
-    pub fn new(alloc: Global) -> Result<StatePairs, AllocError> {
+    pub fn new(alloc: Global) -> Result<StatePairs, AllocError>
+        ensures { IfOk result (λ pairs. pairs ≡ []) }
+    {
         Ok(StatePairs {
             alloc,
             pairs: Vec::new(alloc),
             slots: vec![in alloc; NO_PLACE; FIRST_SLOTS]?,
+            lows: Vec::new(alloc),
         })
     }
 
@@ -102,6 +106,25 @@ impl StatePairs {
     {
         let low = self.pairs[place].0;
         self.pairs[place] = (low, low);
+    }
+
+    /// Notes which of so many states are the first of a pair of different states.
+    pub fn note_lows(&mut self, count: usize) -> Result<(), AllocError>
+        ensures { OnOk result (self.new ≡ self.old) }
+    {
+        let mut lows = vec![in self.alloc; false; count]?;
+        'pairs: for &(low, high) in &self.pairs {
+            if low != high && low < lows.len() {
+                lows[low] = true;
+            }
+        }
+        self.lows = lows;
+        Ok(())
+    }
+
+    /// Whether the state was noted.
+    pub fn is_low(&self, state: usize) -> bool {
+        state < self.lows.len() && self.lows[state]
     }
 
     /// Makes the slots four times as many.

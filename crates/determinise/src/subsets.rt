@@ -4,8 +4,11 @@ ghost use Rattle.std.specs.Prelude.{◌≡◌, ◌<◌, length};
 ghost use Rattle.std.specs.Cmp.Lexicographic.{bytes_decides};
 ghost use Rattle.word_automata.specs.Nondeterministic.{Accepts, AcceptsFromAny};
 ghost use Rattle.determinise.specs.Subsets.{IsSubset, ArePlainWhereFalse};
+ghost use Rattle.determinise.specs.Simulation.{AreIncluded};
 
+use crate::maximal::maximal_states;
 use crate::moves::{count_runs, end_of_run, ordered_moves, targets};
+use crate::state_pairs::StatePairs;
 use crate::state_set::StateSet;
 use crate::subset::{accepts_some, subset_from, subset_of};
 use exploration::LanguageSystem;
@@ -17,18 +20,26 @@ use word_automata::Nfa;
 pub struct Subsets<'a> {
     automaton: &'a Nfa,
     silent: &'a [bool],
+    pairs: &'a StatePairs,
     ghost count: { length silent.now ≡ length automaton.now.states },
     ghost plain: { ArePlainWhereFalse automaton.now silent.now },
+    ghost included: { AreIncluded automaton.now pairs.now },
 }
 
 impl<'a> Subsets<'a> {
-    /// The sets of states of this automaton, with a flag for each state, which is false only where no edge without a letter leaves it.
-    pub fn new(automaton: &'a Nfa, silent: &'a [bool]) -> Subsets<'a>
+    /// The sets of states of this automaton, with a flag for each state, which is false only where no edge without a letter leaves it,
+    /// and pairs of states of which the second one accepts what the first one does.
+    pub fn new(automaton: &'a Nfa, silent: &'a [bool], pairs: &'a StatePairs) -> Subsets<'a>
         requires count { length silent.now ≡ length automaton.now.states }
         requires plain { ArePlainWhereFalse automaton.now silent.now }
+        requires included { AreIncluded automaton.now pairs.now }
         ensures { result.automaton.now ≡ automaton.now }
     {
-        Subsets { automaton, silent }
+        Subsets {
+            automaton,
+            silent,
+            pairs,
+        }
     }
 }
 
@@ -70,7 +81,8 @@ impl<'a> LanguageSystem for Subsets<'a> {
         'runs: while at < moves.len() {
             let end = end_of_run(&moves, at);
             let targets = targets(alloc, &moves[at..end])?;
-            let subset = subset_of(alloc, self.automaton, self.silent, targets)?;
+            let kept = maximal_states(alloc, self.pairs, targets)?;
+            let subset = subset_of(alloc, self.automaton, self.silent, kept)?;
             successors.push((moves[at].0, subset))?;
             at = end;
         }

@@ -1,11 +1,13 @@
-use Rattle.std.proofs.Common.{◌≡◌, ◌<◌, ◌↔◌, ℕ, List, Option, Contains, All, length, sym, ap, subst, ◌∙◌, arith}
+use Rattle.std.proofs.Common.{◌≡◌, ◌<◌, ◌↔◌, ℕ, List, Option, All, length, sym, ap, subst, ◌∙◌, arith}
 use Rattle.std.proofs.lemmas.List.{length-map}
 use Rattle.std.proofs.lemmas.List.Elements.{All-contains}
 use Rattle.word_automata.specs.Nondeterministic.{NondeterministicAutomaton, Accepts, IsMoveInRange}
 use Rattle.word_automata.proofs.Members.{All-from_contains}
-use Rattle.determinise.specs.Reduction.{without_edges, with_starts, AddsEdges, KeepsStarts}
+use Rattle.determinise.specs.Reduction.{without_edges, with_starts, AddsEdges}
 use Rattle.determinise.proofs.Copies.{edges_in_range}
 use Rattle.determinise.proofs.Reductions.{reduced_none, reduced_more, reduced_accepts, starts_keep}
+use Rattle.determinise.specs.Simulation.{AreIncluded}
+use Rattle.determinise.proofs.Simulations.{included_reduced}
 use Rattle.determinise.proofs.pruning.pruned.Goals as goal
 
 pub add_starts-requires : goal.add_starts-requires
@@ -43,3 +45,9 @@ returns-clause-language c w =
     subst (λ m. Accepts m w ↔ Accepts c.args.automaton.now w) (sym c.finish.ensures)
     (reduced_accepts c.args.automaton.now c.states.builder c.states.state c.states.invariant
     (let e = c.states-state-end.ensures.count in let x = c.states-test.false in omega arith) w)
+
+pub returns-clause-included : goal.returns-clause-included
+returns-clause-included c =
+    subst (λ m. AreIncluded m c.args.pairs.now) (sym c.finish.ensures)
+    (included_reduced c.args.automaton.now c.states.builder c.states.state c.states.invariant
+    (let e = c.states-state-end.ensures.count in let x = c.states-test.false in omega arith) c.args.pairs.now c.requires)
