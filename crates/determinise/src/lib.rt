@@ -37,7 +37,7 @@ use word_automata::{Dfa, Nfa};
 /// whose targets are simulated by those of other edges of the same state and letter are dropped first, and so are states that others of
 /// a set simulate, as far as pairs of states were compared. The time is linear in the
 /// edges of the automaton and in those that leave the states of the sets that are reached, up to sorting, on average; and, where a
-/// letter leads from one state to two, in the edges of the pairs of states that are compared, at most 2 to the 18, times at most 32.
+/// letter leads from one state to two, in the edges of the pairs of states that are compared, at most 2 to the 18, times at most 16.
 pub fn determinise(alloc: Global, automaton: &Nfa) -> Result<Dfa, AllocError>
     ensures language { IfOk result (λ dfa. (w : List ℕ) → IsTrue (accepts dfa w) ↔ Accepts automaton.now w) }
     ensures letters { IfOk result (λ dfa. dfa.letters ≡ automaton.now.letters) }
@@ -65,7 +65,7 @@ fn subsets_of_pruned(alloc: Global, automaton: &Nfa) -> Result<Dfa, AllocError>
             Ok(dfa)
         }
         None => {
-            let pairs = StatePairs::new(alloc)?;
+            let pairs = StatePairs::new(alloc);
             let dfa = subsets_of(alloc, automaton, &pairs)?;
             Ok(dfa)
         }

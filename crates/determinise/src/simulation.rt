@@ -1,6 +1,6 @@
 //! A simulation between the states of an automaton (R. Milner, 1971), as far as it is asked for: the pairs of states to which one
 //! letter leads from one state, and the pairs on which these depend. Of the pairs those that do not hold are taken out, in rounds from
-//! the last to the first, until a round takes none out (the greatest fixpoint). There are at most 2 to the 18 pairs, and at most 32
+//! the last to the first, until a round takes none out (the greatest fixpoint). There are at most 2 to the 18 pairs, and at most 16
 //! rounds: where it takes more, there is no answer. Where no letter leads to two states, it costs one pass over the edges.
 
 ghost use Rattle.std.specs.Prelude.{◌≡◌, false, IsTrue, IfOk, IfSome};
@@ -18,13 +18,13 @@ const MOST_PAIRS: usize = 262_144;
 const PAIRS_PER_EDGE: usize = 64;
 
 /// Nor after so many rounds.
-const MOST_ROUNDS: usize = 32;
+const MOST_ROUNDS: usize = 16;
 
 /// A simulation that has two states to which one letter leads from one state, or `None` where none was found.
 pub fn simulation(alloc: Global, automaton: &Nfa) -> Result<Option<StatePairs>, AllocError>
     ensures { IfOk result (λ found. IfSome found (IsSimulation automaton.now)) }
 {
-    let mut pairs = StatePairs::new(alloc)?;
+    let mut pairs = StatePairs::new(alloc);
     ask_siblings(&mut pairs, automaton)?;
     let siblings = pairs.len();
     if siblings == 0 || !ask_all(&mut pairs, automaton)? {

@@ -2,7 +2,7 @@
 //! The Art of Computer Programming, volume 3, section 6.4) into slots, which are tried one after the other and of which at most half
 //! are taken. A look-up takes constant time, on average.
 
-ghost use Rattle.std.specs.Prelude.{◌≡◌, ◌<◌, [], Contains, IsTrue, IfOk, OnOk, length, slice_index_or};
+ghost use Rattle.std.specs.Prelude.{◌≡◌, ◌<◌, [], Contains, IsTrue, OnOk, length, slice_index_or};
 
 use std::alloc::{AllocError, Global};
 use std::marker::Model;
@@ -34,16 +34,16 @@ impl Model for StatePairs {
 }
 
 impl StatePairs {
-    /// No pair.
-    pub fn new(alloc: Global) -> Result<StatePairs, AllocError>
-        ensures { IfOk result (λ pairs. pairs ≡ []) }
+    /// No pair. It takes no memory.
+    pub fn new(alloc: Global) -> StatePairs
+        ensures { result ≡ [] }
     {
-        Ok(StatePairs {
+        StatePairs {
             alloc,
             pairs: Vec::new(alloc),
-            slots: vec![in alloc; NO_PLACE; FIRST_SLOTS]?,
+            slots: Vec::new(alloc),
             lows: Vec::new(alloc),
-        })
+        }
     }
 
     /// The number of pairs that were added.
