@@ -1,4 +1,5 @@
-//! Copies of an automaton with start states and edges of one's own choice.
+//! Copies of an automaton with start states and edges of one's own choice: the states first, then the start states, then the edges
+//! state by state. Each takes time linear in what it adds.
 
 ghost use Rattle.std.specs.Prelude.{◌≡◌, ◌<◌, All, IfOk, OnOk, length};
 ghost use Rattle.word_automata.specs.Nondeterministic.{IsMoveInRange};

@@ -33,11 +33,11 @@ use std::alloc::{AllocError, Global};
 use word_automata::{Dfa, Nfa};
 
 /// The deterministic automaton of the sets of states that words lead to (M. O. Rabin and D. Scott, 1959), which accepts the same
-/// words. States are numbered breadth first, letters in increasing order. States from which no word is accepted stand in no set; edges
-/// whose targets are simulated by those of other edges of the same state and letter are dropped first, and so are states that others of
-/// a set simulate, as far as pairs of states were compared. The time is linear in the
-/// edges of the automaton and in those that leave the states of the sets that are reached, up to sorting, on average; and, where a
-/// letter leads from one state to two, in the edges of the pairs of states that are compared, at most 2 to the 18, times at most 16.
+/// words. States are numbered breadth first, letters in increasing order. States from which no word is accepted stand in no set. Edges
+/// whose targets are simulated by those of other edges of the same state and letter are dropped first, and states that others of a set
+/// simulate stand in no set, as far as pairs of states were compared. The time is linear in the edges of the automaton and in those that
+/// leave the states of the sets that are reached, up to sorting, on average. Where a letter leads from one state to two, comparing takes
+/// time in the edges of at most 2 to the 18 pairs, at most 16 times each, and a set may take time quadratic in its states.
 pub fn determinise(alloc: Global, automaton: &Nfa) -> Result<Dfa, AllocError>
     ensures language { IfOk result (λ dfa. (w : List ℕ) → IsTrue (accepts dfa w) ↔ Accepts automaton.now w) }
     ensures letters { IfOk result (λ dfa. dfa.letters ≡ automaton.now.letters) }
