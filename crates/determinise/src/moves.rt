@@ -1,6 +1,6 @@
 //! The moves with a letter out of a set of states.
 
-ghost use Rattle.std.specs.Prelude.{◌≡◌, ◌↔◌, ◌<◌, ◌++◌, ℕ, Contains, IsPermutation, IsTrue, length, map, IfOk, OnOk};
+ghost use Rattle.std.specs.Prelude.{◌≡◌, ◌↔◌, ◌<◌, ◌++◌, ℕ, Contains, IsTrue, length, map, IfOk, OnOk};
 ghost use Rattle.std.specs.List.{filter_map};
 ghost use Rattle.word_automata.specs.StateSets.{AreStates};
 ghost use Rattle.determinise.specs.Subsets.{lettered_move, moves_from, order_key, HasOrderedLetters, AreOrderedMoves, IsRun};
@@ -20,11 +20,12 @@ pub fn ordered_moves(
     requires { AreStates automaton.now states.now }
     ensures { IfOk result (λ moves. AreOrderedMoves automaton.now states.now moves.items) }
 {
-    let moves = moves_from(alloc, automaton, states)?;
+    let mut moves = moves_from(alloc, automaton, states)?;
     if are_ordered(&moves) {
         return Ok(moves);
     }
-    Ok(sorted(moves))
+    moves.sort_unstable_by_key(|&(letter, to)| order_key(letter, to));
+    Ok(moves)
 }
 
 /// Whether the moves are in order, as those of one state are where its edges are.
@@ -39,16 +40,6 @@ fn are_ordered(moves: &[(u32, usize)]) -> bool
         }
     }
     true
-}
-
-/// The moves in order.
-fn sorted(moves: Vec<(u32, usize)>) -> Vec<(u32, usize)>
-    ensures permutation { IsPermutation moves.items result.items }
-    ensures ordered { HasOrderedLetters result.items }
-{
-    let mut moves = moves;
-    moves.sort_unstable_by_key(|&(letter, to)| order_key(letter, to));
-    moves
 }
 
 /// The letter above the last 32 bits of the target: one number, so that moves are compared at once.
@@ -98,17 +89,6 @@ fn add_moves(
         }
     }
     Ok(())
-}
-
-/// The number of places where a move has another letter than the one before, and one for the first.
-pub fn count_runs(moves: &[(u32, usize)]) -> usize {
-    let mut count: usize = 1;
-    'moves: for at in 1..moves.len() {
-        if moves[at - 1].0 != moves[at].0 {
-            count = count.saturating_add(1);
-        }
-    }
-    count
 }
 
 /// The place after the last move with the letter of the move at the place.

@@ -20,21 +20,20 @@ const PAIRS_PER_EDGE: usize = 64;
 /// Nor after so many rounds.
 const MOST_ROUNDS: usize = 16;
 
-/// A simulation that has two states to which one letter leads from one state, or `None` where none was found.
+/// A simulation that has a pair of different states, or `None` where none was found.
 pub fn simulation(alloc: Global, automaton: &Nfa) -> Result<Option<StatePairs>, AllocError>
     ensures { IfOk result (λ found. IfSome found (IsSimulation automaton.now)) }
 {
     let mut pairs = StatePairs::new(alloc);
     ask_siblings(&mut pairs, automaton)?;
-    let siblings = pairs.len();
-    if siblings == 0 || !ask_all(&mut pairs, automaton)? {
+    if pairs.len() == 0 || !ask_all(&mut pairs, automaton)? {
         return Ok(None);
     }
     'rounds: for _ in 0..MOST_ROUNDS {
         let is_changed = take_out_unmatched(&mut pairs, automaton);
         if !is_changed {
-            if has_one(&pairs, siblings) {
-                pairs.note_lows(automaton.states())?;
+            let is_some = pairs.note_lows(automaton.states())?;
+            if is_some {
                 return Ok(Some(pairs));
             }
             return Ok(None);
@@ -54,30 +53,12 @@ fn ask_siblings(pairs: &mut StatePairs, automaton: &Nfa) -> Result<(), AllocErro
 /// Adds the pairs of different targets of the edges, in order, with one letter.
 fn ask_within(pairs: &mut StatePairs, edges: &[(Option<u32>, usize)]) -> Result<(), AllocError> {
     let mut from = 0;
-    'edges: for at in 0..edges.len() {
+    'edges: for &(letter, to) in edges {
         if pairs.len() > MOST_PAIRS {
             return Ok(());
         }
-        let (letter, to) = edges[at];
         from = first_with(edges, from, letter);
-        ask_both(pairs, edges, from, at, to)?;
-    }
-    Ok(())
-}
-
-/// Adds the pairs of the state and a different target of the edges between the places, in both orders.
-fn ask_both(
-    pairs: &mut StatePairs,
-    edges: &[(Option<u32>, usize)],
-    from: usize,
-    end: usize,
-    to: usize,
-) -> Result<(), AllocError> {
-    'edges: for at in from..end {
-        if at < edges.len() && edges[at].1 != to {
-            pairs.add(to, edges[at].1)?;
-            pairs.add(edges[at].1, to)?;
-        }
+        ask_above(pairs, edges, from, end_of_letter(edges, from, letter), to)?;
     }
     Ok(())
 }
@@ -188,7 +169,7 @@ fn has_target(edges: &[(Option<u32>, usize)], from: usize, end: usize, to: usize
     false
 }
 
-/// Adds the pairs of the state and the targets of the edges between the places.
+/// Adds the pairs of the state and other targets of the edges between the places.
 fn ask_above(
     pairs: &mut StatePairs,
     edges: &[(Option<u32>, usize)],
@@ -197,24 +178,11 @@ fn ask_above(
     to: usize,
 ) -> Result<(), AllocError> {
     'edges: for at in from..end {
-        if at < edges.len() {
+        if at < edges.len() && edges[at].1 != to {
             pairs.add(to, edges[at].1)?;
         }
     }
     Ok(())
-}
-
-/// Whether one of the first pairs is left.
-fn has_one(pairs: &StatePairs, count: usize) -> bool {
-    'pairs: for place in 0..count {
-        if place < pairs.len() {
-            let (low, high) = pairs.pair(place);
-            if low != high {
-                return true;
-            }
-        }
-    }
-    false
 }
 
 /// Takes out pairs that do not hold, and tells whether there were some.

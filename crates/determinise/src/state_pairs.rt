@@ -77,7 +77,7 @@ impl StatePairs {
             if self.pairs[place].0 == low && self.pairs[place].1 == high {
                 return true;
             }
-            slot = next_slot(self.slots.len(), slot);
+            slot = slot.wrapping_add(1) & self.slots.len().saturating_sub(1);
         }
         false
     }
@@ -108,18 +108,20 @@ impl StatePairs {
         self.pairs[place] = (low, low);
     }
 
-    /// Notes which of so many states are the first of a pair of different states.
-    pub fn note_lows(&mut self, count: usize) -> Result<(), AllocError>
+    /// Notes which of so many states are the first of a pair of different states, and tells whether there are some.
+    pub fn note_lows(&mut self, count: usize) -> Result<bool, AllocError>
         ensures { OnOk result (self.new ≡ self.old) }
     {
         let mut lows = vec![in self.alloc; false; count]?;
+        let mut is_some = false;
         'pairs: for &(low, high) in &self.pairs {
             if low != high && low < lows.len() {
                 lows[low] = true;
+                is_some = true;
             }
         }
         self.lows = lows;
-        Ok(())
+        Ok(is_some)
     }
 
     /// Whether the state was noted.
@@ -147,11 +149,6 @@ fn first_slot(count: usize, low: usize, high: usize) -> usize {
     (code >> 32) & count.saturating_sub(1)
 }
 
-/// The slot that is tried after the slot.
-fn next_slot(count: usize, slot: usize) -> usize {
-    slot.wrapping_add(1) & count.saturating_sub(1)
-}
-
 /// Puts the place of the pair into the first free slot for it.
 fn put(slots: &mut [u32], low: usize, high: usize, place: u32) {
     let mut slot = first_slot(slots.len(), low, high);
@@ -163,6 +160,6 @@ fn put(slots: &mut [u32], low: usize, high: usize, place: u32) {
             slots[slot] = place;
             return;
         }
-        slot = next_slot(slots.len(), slot);
+        slot = slot.wrapping_add(1) & slots.len().saturating_sub(1);
     }
 }

@@ -7,13 +7,16 @@ ghost use Rattle.determinise.specs.Subsets.{IsSubset, ArePlainWhereFalse};
 ghost use Rattle.determinise.specs.Simulation.{AreIncluded};
 
 use crate::maximal::maximal_states;
-use crate::moves::{count_runs, end_of_run, ordered_moves, targets};
+use crate::moves::{end_of_run, ordered_moves, targets};
 use crate::state_pairs::StatePairs;
 use crate::state_set::StateSet;
 use crate::subset::{accepts_some, subset_from, subset_of};
 use exploration::LanguageSystem;
 use std::alloc::{AllocError, Global};
 use word_automata::Nfa;
+
+/// Room for so many successors of a set is made at once.
+const ROOM: usize = 8;
 
 /// The sets of states of the automaton out of which no move without a letter leads.
 #[derive(Drop)]
@@ -76,7 +79,7 @@ impl<'a> LanguageSystem for Subsets<'a> {
         state: &StateSet,
     ) -> Result<Vec<(u32, StateSet)>, AllocError> {
         let moves = ordered_moves(alloc, self.automaton, state.as_slice())?;
-        let mut successors = Vec::with_capacity(alloc, count_runs(&moves))?;
+        let mut successors = Vec::with_capacity(alloc, ROOM)?;
         let mut at = 0;
         'runs: while at < moves.len() {
             let end = end_of_run(&moves, at);

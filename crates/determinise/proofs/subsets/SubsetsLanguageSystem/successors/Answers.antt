@@ -14,10 +14,10 @@ subset_of-requires-clause-states c =
     let moves = c.in_ok-moves.moves.items in
     let at = c.runs.at in
     let end = c.end_of_run-end.result in
-    let run = subst (λ (xs : List (ℕ × ℕ)). IsRun xs at end) c.deref-in-runs.ensures.value c.end_of_run-end.ensures in
+    let run = subst (λ (xs : List (ℕ × ℕ)). IsRun xs at end) c.deref.ensures.value c.end_of_run-end.ensures in
     let keeps = c.in_ok-kept.ensures n c.args.self.now.included in
     AreStates-members n (map (λ (move : ℕ × ℕ). move.1) (run_of moves at end)) c.in_ok-kept.kept.items
-    (λ q there. subst (λ (xs : List (ℕ × ℕ)). Contains (map (λ (move : ℕ × ℕ). move.1) (run_of xs at end)) q) c.deref-in-runs-2.ensures.value ((c.in_ok-targets.ensures q).0 (keeps.only q there)))
+    (λ q there. subst (λ (xs : List (ℕ × ℕ)). Contains (map (λ (move : ℕ × ℕ). move.1) (run_of xs at end)) q) c.deref-in-runs.ensures.value ((c.in_ok-targets.ensures q).0 (keeps.only q there)))
     (targets_are_states n c.args.state.now i.subset moves i.ordered at end run.within)
 
 pub runs-preserved : goal.runs-preserved
@@ -29,9 +29,9 @@ runs-preserved c =
     let at = c.runs.at in
     let end = c.end_of_run-end.result in
     let subset = c.in_ok-subset.subset in
-    let run = subst (λ (xs : List (ℕ × ℕ)). IsRun xs at end) c.deref-in-runs.ensures.value c.end_of_run-end.ensures in
+    let run = subst (λ (xs : List (ℕ × ℕ)). IsRun xs at end) c.deref.ensures.value c.end_of_run-end.ensures in
     let members = subst (λ (xs : List (ℕ × ℕ)). (q : ℕ) → Contains c.in_ok-targets.targets.items q ↔ Contains (map (λ (move : ℕ × ℕ). move.1) (run_of xs at end)) q)
-    c.deref-in-runs-2.ensures.value c.in_ok-targets.ensures in
+    c.deref-in-runs.ensures.value c.in_ok-targets.ensures in
     let targets = c.in_ok-targets.targets.items in
     let kept = c.in_ok-kept.kept.items in
     let keeps = c.in_ok-kept.ensures n c.args.self.now.included in
