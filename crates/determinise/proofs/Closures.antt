@@ -61,10 +61,3 @@ plain_more n flags flag state count plain last p e = by (cases_order p state)
     by (inl same) = subst (IsPlain n) (sym same) (last (sym (get_or_push flags flag true state count) ∙ subst (λ x. get_or (flags ++ flag ∷ []) x true ≡ false) same e))
     by (inr (inl less)) = plain p (sym (get_or_append_left flags (flag ∷ []) true p (omega arith)) ∙ e)
     by (inr (inr past)) = absurd (true≢false (sym (get_or_past (flags ++ flag ∷ []) p true (let a = length-append flags (flag ∷ []) in omega arith)) ∙ e))
-
--- lists with the same members have the same subsets
-pub subset_members : (n : NondeterministicAutomaton) (old other subset : List ℕ) → ((q : ℕ) → Contains old q ↔ Contains other q) → IsSubsetFrom n old subset → IsSubsetFrom n other subset
-subset_members n old other subset same from = record {
-  states = from.states;
-  closure = IsClosure-members n old other subset subset same (λ q. ((λ h. h), (λ h. h))) from.closure;
-}

@@ -117,8 +117,9 @@ module _ (n : NondeterministicAutomaton) (states : List ℕ) (subset : IsSubset 
             move_edge (letter_of moves at) q (subst (Contains moves) same (at + k, bound, there))
 
     -- one more run
-    pub grouped_more : (r : List ℕ) → IsSubsetFrom n (map (λ move. move.1) (run_of moves at end)) r → IsGrouped (pairs ++ (letter_of moves at, r) ∷ []) end
-    grouped_more r from = record {
+    pub grouped_more : (kept r : List ℕ) → ((w : List ℕ) → AcceptsFromAny n (map (λ move. move.1) (run_of moves at end)) w ↔ AcceptsFromAny n kept w) → IsSubsetFrom n kept r
+        → IsGrouped (pairs ++ (letter_of moves at, r) ∷ []) end
+    grouped_more kept r same_words from = record {
       within = run.within;
       increasing = increasing-push pairs (letter_of moves at, r) g.increasing lower;
       letters_in_range = All-push (λ (pair : ℕ × List ℕ). pair.0 < n.letters) pairs (letter_of moves at, r) g.letters_in_range (letter_in_range at there);
@@ -143,10 +144,11 @@ module _ (n : NondeterministicAutomaton) (states : List ℕ) (subset : IsSubset 
           | inl same ↦
               let is : r ≡ s = (let k = subst (λ x. look_up (pairs ++ (letter_of moves at, r) ∷ []) x ≡ Some s) (sym same) h in let l = new in cc) in
               let step = step_accepts n states subset.closed (letter_of moves at) (map (λ move. move.1) (run_of moves at end)) run_step w in
-              let close = closure_accepts n (map (λ move. move.1) (run_of moves at end)) r from.closure w in
+              let same_word = same_words w in
+              let close = closure_accepts n kept r from.closure w in
               subst (λ x. AcceptsFromAny n states (x ∷ w) ↔ AcceptsFromAny n s w) same
               (subst (λ x. AcceptsFromAny n states (letter_of moves at ∷ w) ↔ AcceptsFromAny n x w) is
-              (λ accepted. close.0 (step.0 accepted), λ accepted. step.1 (close.1 accepted)))
+              (λ accepted. close.0 (same_word.0 (step.0 accepted)), λ accepted. step.1 (same_word.1 (close.1 accepted))))
           | inr other ↦ g.goes_on a s (sym (look_up-push_other pairs (letter_of moves at, r) a other) ∙ h) w
         ]
 

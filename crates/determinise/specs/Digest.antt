@@ -1,4 +1,4 @@
--- The number by which a set of states is hashed.
+-- The number by which a set of states is hashed. Only private functions cite it.
 use Rattle.std.specs.Prelude.{ℕ, ◌*◌, ◌%◌, List, [], ◌∷◌, bit_xor}
 
 -- the number with one more state

@@ -1,4 +1,5 @@
 pub mod Subsets
 pub mod Emptiness
-pub mod LivePart
+pub mod Reduction
+pub mod Simulation
 pub mod Digest

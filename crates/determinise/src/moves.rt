@@ -21,8 +21,25 @@ pub fn ordered_moves(
     ensures { IfOk result (λ moves. AreOrderedMoves automaton.now states.now moves.items) }
 {
     let mut moves = moves_from(alloc, automaton, states)?;
+    if are_ordered(&moves) {
+        return Ok(moves);
+    }
     moves.sort_unstable_by_key(|&(letter, to)| order_key(letter, to));
     Ok(moves)
+}
+
+/// Whether the moves are in order, as those of one state are where its edges are.
+fn are_ordered(moves: &[(u32, usize)]) -> bool
+    ensures { IsTrue result → HasOrderedLetters moves.now }
+{
+    'moves: for at in 1..moves.len() {
+        let (before, from) = moves[at - 1];
+        let (letter, to) = moves[at];
+        if order_key(before, from) > order_key(letter, to) {
+            return false;
+        }
+    }
+    true
 }
 
 /// The letter above the last 32 bits of the target: one number, so that moves are compared at once.
@@ -41,11 +58,22 @@ fn moves_from(
     requires { AreStates automaton.now states.now }
     ensures { IfOk result (λ moves. moves.items ≡ moves_from automaton.now states.now) }
 {
-    let mut moves = Vec::new(alloc);
+    let mut moves = Vec::with_capacity(alloc, count_edges(automaton, states))?;
     'states: for state in states {
         add_moves(&mut moves, automaton.edges_from(*state))?;
     }
     Ok(moves)
+}
+
+/// The number of edges out of the states.
+fn count_edges(automaton: &Nfa, states: &[usize]) -> usize
+    requires { AreStates automaton.now states.now }
+{
+    let mut count: usize = 0;
+    'states: for state in states {
+        count = count.saturating_add(automaton.edges_from(*state).len());
+    }
+    count
 }
 
 /// Adds the moves of the edges with a letter.
@@ -55,7 +83,6 @@ fn add_moves(
 ) -> Result<(), AllocError>
     ensures { OnOk result (moves.new.items ≡ moves.old.items ++ filter_map lettered_move edges.now) }
 {
-    moves.reserve(edges.len())?;
     'edges: for &(letter, to) in edges {
         if let Some(letter) = letter {
             moves.push((letter, to))?;

@@ -4,31 +4,45 @@ ghost use Rattle.std.specs.Prelude.{◌≡◌, ◌<◌, length};
 ghost use Rattle.std.specs.Cmp.Lexicographic.{bytes_decides};
 ghost use Rattle.word_automata.specs.Nondeterministic.{Accepts, AcceptsFromAny};
 ghost use Rattle.determinise.specs.Subsets.{IsSubset, ArePlainWhereFalse};
+ghost use Rattle.determinise.specs.Simulation.{AreIncluded};
 
+use crate::maximal::maximal_states;
 use crate::moves::{end_of_run, ordered_moves, targets};
+use crate::state_pairs::StatePairs;
 use crate::state_set::StateSet;
 use crate::subset::{accepts_some, subset_from, subset_of};
 use exploration::LanguageSystem;
 use std::alloc::{AllocError, Global};
 use word_automata::Nfa;
 
+/// Room for so many successors of a set is made at once.
+const ROOM: usize = 8;
+
 /// The sets of states of the automaton out of which no move without a letter leads.
 #[derive(Drop)]
 pub struct Subsets<'a> {
     automaton: &'a Nfa,
     silent: &'a [bool],
+    pairs: &'a StatePairs,
     ghost count: { length silent.now ≡ length automaton.now.states },
     ghost plain: { ArePlainWhereFalse automaton.now silent.now },
+    ghost included: { AreIncluded automaton.now pairs.now },
 }
 
 impl<'a> Subsets<'a> {
-    /// The sets of states of this automaton, with a flag for each state, which is false only where no edge without a letter leaves it.
-    pub fn new(automaton: &'a Nfa, silent: &'a [bool]) -> Subsets<'a>
+    /// The sets of states of this automaton, with a flag for each state, which is false only where no edge without a letter leaves it,
+    /// and pairs of states of which the second one accepts what the first one does.
+    pub fn new(automaton: &'a Nfa, silent: &'a [bool], pairs: &'a StatePairs) -> Subsets<'a>
         requires count { length silent.now ≡ length automaton.now.states }
         requires plain { ArePlainWhereFalse automaton.now silent.now }
+        requires included { AreIncluded automaton.now pairs.now }
         ensures { result.automaton.now ≡ automaton.now }
     {
-        Subsets { automaton, silent }
+        Subsets {
+            automaton,
+            silent,
+            pairs,
+        }
     }
 }
 
@@ -65,12 +79,13 @@ impl<'a> LanguageSystem for Subsets<'a> {
         state: &StateSet,
     ) -> Result<Vec<(u32, StateSet)>, AllocError> {
         let moves = ordered_moves(alloc, self.automaton, state.as_slice())?;
-        let mut successors = Vec::new(alloc);
+        let mut successors = Vec::with_capacity(alloc, ROOM)?;
         let mut at = 0;
         'runs: while at < moves.len() {
             let end = end_of_run(&moves, at);
             let targets = targets(alloc, &moves[at..end])?;
-            let subset = subset_of(alloc, self.automaton, self.silent, targets)?;
+            let kept = maximal_states(alloc, self.pairs, targets)?;
+            let subset = subset_of(alloc, self.automaton, self.silent, kept)?;
             successors.push((moves[at].0, subset))?;
             at = end;
         }

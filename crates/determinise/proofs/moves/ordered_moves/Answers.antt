@@ -1,8 +1,15 @@
-use Rattle.std.proofs.Common.{rules, ◌+◌, subst, arith, get_or, IsPermutation}
+use Rattle.std.proofs.Common.{rules, ◌+◌, subst, sym, arith, get_or, IsPermutation, Contains, List, ℕ}
 use Rattle.std.proofs.lemmas.List.Sorted.{Contains-permutation, IsPermutation-sym, IsNonDecreasingBy-from_sort_by_key}
-use Rattle.determinise.specs.Subsets.{moves_from, order_key}
+use Rattle.determinise.specs.Subsets.{moves_from, order_key, HasOrderedLetters}
 use Rattle.determinise.proofs.MoveLists.{letter_from_key}
 use Rattle.determinise.proofs.moves.ordered_moves.Goals as goal
+
+pub returns-then-are_ordered : goal.returns-then-are_ordered
+returns-then-are_ordered c = record {
+  to = λ move there. subst (λ (xs : List (ℕ × ℕ)). Contains xs move) (sym c.in_ok-moves.ensures) there;
+  from = λ move there. subst (λ (xs : List (ℕ × ℕ)). Contains xs move) c.in_ok-moves.ensures there;
+  ordered = subst (λ (xs : List (ℕ × ℕ)). HasOrderedLetters xs) c.deref.ensures.value (c.are_ordered.ensures c.if-are_ordered.true);
+}
 
 pub returns : goal.returns
 returns c =

@@ -1,7 +1,7 @@
 use Rattle.std.proofs.Common.{◌∙◌, ap, arith}
 use Rattle.word_automata.specs.Nondeterministic.{with_nondeterministic_state}
-use Rattle.determinise.proofs.LivePartLemmas.{first_alone_more}
-use Rattle.determinise.proofs.live_part.states_alone.Goals as goal
+use Rattle.determinise.proofs.Copies.{first_alone_more}
+use Rattle.determinise.proofs.copying.states_alone.Goals as goal
 
 pub states-preserved : goal.states-preserved
 states-preserved c =
