@@ -4,14 +4,14 @@
 mod canon;
 mod growth;
 mod hashing;
+mod incoming;
 mod laws;
 mod numbering;
-mod predecessors;
+mod parts;
 mod quotient;
 mod refinement;
-mod rounds;
 mod signature;
-mod sizes;
+mod splitters;
 mod stability;
 
 pub use canon::{Canon, canonical, canonical_nfa, same};
