@@ -8,3 +8,4 @@ pub mod OwnSignatures
 pub mod HashLemmas
 pub mod Chains
 pub mod SplitByMoves
+pub mod Firsts

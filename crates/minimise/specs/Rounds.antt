@@ -1,10 +1,10 @@
 -- What only private functions cite: rounds of refinement by hashes of signatures, and classes that are stable.
-use Rattle.std.specs.Prelude.{◌≡◌, ◌<◌, ◌+◌, ◌*◌, ◌%◌, ◌/◌, ◌^◌, ℕ, suc, List, length, slice_index, if◌then◌else◌}
+use Rattle.std.specs.Prelude.{◌≡◌, ◌<◌, ◌+◌, ◌*◌, ◌%◌, ◌/◌, ◌^◌, ℕ, suc, List, Option, ltb, length, slice_index, if◌then◌else◌}
 use Rattle.std.specs.List.{filter_map, fold}
 use Rattle.word_automata.specs.Path.{edges_of, is_accepting}
 use Rattle.word_automata.specs.Automaton.{Automaton, accepts_from}
 use Rattle.minimise.specs.Signatures.{Signature}
-use Rattle.minimise.specs.Refinement.{live_edge, no_word}
+use Rattle.minimise.specs.Refinement.{live_class, live_edge, no_word}
 
 -- states in different classes are told apart by some word
 pub record AreToldApart (m : Automaton) (classes : List ℕ) : Type 0 where
@@ -46,3 +46,7 @@ pub record IsLikeLeast (m : Automaton) (classes : List ℕ) (q : ℕ) : Type 0 w
 -- states of one class have one signature
 abbrev pub AreAlike : Automaton → List ℕ → Type 0
 AreAlike m classes = (p q : ℕ) → slice_index classes p ≡ slice_index classes q → outgoing m classes p ≡ outgoing m classes q
+
+-- what the table has at the class, none for 0, and beyond the table what is known beside it
+abbrev pub first_in : List ℕ → (ℕ → Option ℕ) → ℕ → Option ℕ
+first_in small others class = if ltb class (length small) then live_class (slice_index small class) else others class
