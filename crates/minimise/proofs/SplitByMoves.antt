@@ -260,7 +260,8 @@ module _ (moves : List (ℕ × ℕ)) (at end : ℕ) (run : IsRun moves at end) (
   run_sources m saturated = record {
     states = λ k l. saturated.states (letter_at moves at, source_at (run_of moves at end) k) (move_there k (let c = run_length in omega arith));
     apart = λ p q source absent.
-        let there : Contains moves (letter_at moves at, p) = subst (λ x. Contains moves (letter_at moves at, x)) source.2 (move_there source.0 (let c = run_length in let l = source.1 in omega arith)) in
+        let here = move_there source.0 (let c = run_length in let l = source.1 in omega arith) in
+        let there : Contains moves (letter_at moves at, p) = subst (λ x. Contains moves (letter_at moves at, x)) source.2 here in
         saturated.apart (letter_at moves at) p q there (λ member. absent (is_source q member));
   }
 

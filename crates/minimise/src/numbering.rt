@@ -49,7 +49,8 @@ impl Firsts {
     /// The number of the class. A class that is new gets one more than the state.
     fn first_of(&mut self, class: usize, state: usize) -> Result<usize, AllocError>
         requires { state < 2 ^ 63 }
-        ensures { IfOk result (FindsClass 0 (first_in self.old.small.items (get nat_eq self.old.others)) (first_in self.new.small.items (get nat_eq self.new.others)) class state) }
+        ensures { IfOk result (FindsClass 0 (first_in self.old.small.items (get nat_eq self.old.others))
+            (first_in self.new.small.items (get nat_eq self.new.others)) class state) }
     {
         if class >= self.small.len() {
             return Ok(first_in_map(&mut self.others, class, state)?);

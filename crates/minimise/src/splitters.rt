@@ -121,7 +121,8 @@ fn put_moves(
     found: &mut Vec<(u32, usize)>,
 ) -> Result<(), AllocError>
     requires chained { AreChained incoming.now.last.items incoming.now.edges.items }
-    ensures { OnOk result (AddsMovesOf incoming.now.last.items incoming.now.edges.items classes.now class states.now found.old.items found.new.items) }
+    ensures { OnOk result (AddsMovesOf incoming.now.last.items incoming.now.edges.items classes.now class states.now
+        found.old.items found.new.items) }
 {
     'states: for state in states {
         if class_of(classes, *state) == class {
@@ -191,7 +192,8 @@ fn move_sources(
 ) -> Result<(), AllocError>
     requires { AreListed classes.old.items members.old.items }
     ensures listed { OnOk result (AreListed classes.new.items members.new.items) }
-    ensures moved { OnOk result (AreMoved (target_of targets.now (length members.old.items)) moves.now classes.old.items classes.new.items) }
+    ensures moved { OnOk result (AreMoved (target_of targets.now (length members.old.items)) moves.now
+        classes.old.items classes.new.items) }
 {
     let count = members.len();
     'moves: for &(_, state) in moves {

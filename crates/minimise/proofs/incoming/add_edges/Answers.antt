@@ -20,7 +20,8 @@ edges-preserved c =
           let within : to < length last = (let t = w.if-to-len.true in let n = c.len.ensures in omega arith) in
           let before : w.index.result.now ≡ slice_index last to = w.index.ensures ∙ get_or_default last to w.index.result.now 0 within in
           let longer : w.push.new.self.items ≡ longer_by last edges to move = w.in_ok-push.ensures.items ∙ ap (λ x. edges ++ (move, x) ∷ []) before in
-          let number : w.len-then-to-len.result ≡ length edges + 1 = (let e = ap length longer in let p = length_push edges (move, slice_index last to) in let n = w.len-then-to-len.ensures in omega arith) in
+          let count : length w.push.new.self.items ≡ length edges + 1 = ap length longer ∙ length_push edges (move, slice_index last to) in
+          let number : w.len-then-to-len.result ≡ length edges + 1 = (let n = w.len-then-to-len.ensures in omega arith) in
           subst (λ xs. IsAddingEdges old_last old_edges xs c.if-to-len.edges.items leaving state (i + 1)) (sym (ap (λ v. v.items) w.last-is ∙ ap (set last to) number))
           (subst (λ xs. IsAddingEdges old_last old_edges (ended_by last edges to) xs leaving state (i + 1)) (sym (ap (λ v. v.items) w.edges-is ∙ longer))
           (adding_more old_last old_edges last edges leaving state i c.edges.invariant c.edges-test.true within))

@@ -10,4 +10,4 @@ returns c =
     let class = c.args.class in
     let within : class < length small = (let t = c.if-class-len.false in let n = c.len.ensures in omega arith) in
     inr (inr (first_new small (get nat_eq c.args.self.now.others) class c.if-class-eq0.false within c.args.state (c.args.state + 1) (add-one c.args.state)
-        (sym (c.index-first.ensures ∙ get_or_default small class c.index-first.result.now 0 within) ∙ c.if-first-ne0.false)))
+    (sym (c.index-first.ensures ∙ get_or_default small class c.index-first.result.now 0 within) ∙ c.if-first-ne0.false)))
