@@ -65,8 +65,9 @@ fn rounds(alloc: Global, automaton: &Dfa, coarse: Vec<usize>) -> Result<Vec<usiz
     }
 }
 
-/// The classes of states that have the same signature by the coarser classes.
-fn split(alloc: Global, automaton: &Dfa, classes: &[usize]) -> Result<Vec<usize>, AllocError>
+/// The classes of states that have the same signature by the coarser classes: 0 where it is that of no word, and else one more than the
+/// least state that has it. It takes time linear in the states and edges, on average.
+pub fn split(alloc: Global, automaton: &Dfa, classes: &[usize]) -> Result<Vec<usize>, AllocError>
     requires { length classes.now ≡ length automaton.now.states }
     ensures { IfOk result (λ finer. IsSplit automaton.now classes.now finer.items) }
 {
@@ -95,7 +96,7 @@ fn signature_of(
 }
 
 /// The letters of the state that lead to classes other than 0, each with the class.
-pub fn live_edges(
+fn live_edges(
     alloc: Global,
     automaton: &Dfa,
     classes: &[usize],
