@@ -1,17 +1,24 @@
-//! Which class to split by next, and which number a new part of a class gets. No contract rests on what it answers.
+//! Which class to split by next, and which number a new part of a class gets (J. Hopcroft, 1971: of two parts the smaller waits). A call
+//! takes time linear in the moves that it is given. No contract rests on what it answers.
 
 use std::alloc::{AllocError, Global};
 
-/// For each class how many states it has, how many of them an edge of the letter at hand leaves, and the class to which these go, which
-/// is the class itself where it is not split; then the classes that wait to be splitters, the classes with a source, and free numbers.
+/// The sizes of classes, where the sources of the moves at hand go, and which classes wait to be splitters.
 #[derive(Drop)]
 pub struct Parts {
+    /// For each class the number of its states.
     sizes: Vec<usize>,
+    /// For each class the number of its states that are sources of the moves at hand.
     sources: Vec<usize>,
+    /// For each class where its sources go: to a new class where others stay, and else to the class itself.
     targets: Vec<usize>,
+    /// For each class whether it waits.
     waits: Vec<bool>,
+    /// The classes that wait.
     waiting: Vec<usize>,
+    /// The classes that have sources.
     met: Vec<usize>,
+    /// Numbers that no class has.
     free: Vec<usize>,
 }
 
@@ -40,27 +47,11 @@ impl Parts {
         if class == 0 {
             return Ok(());
         }
-        if self.size(class) == 0 {
+        if number_at(&self.sizes, class) == 0 {
             self.free.push(class)?;
             return Ok(());
         }
         self.wait(class)
-    }
-
-    /// The number of states of the class.
-    fn size(&self, class: usize) -> usize {
-        match self.sizes.get(class) {
-            Some(size) => *size,
-            None => 0,
-        }
-    }
-
-    /// The number of states of the class that are sources.
-    fn sources(&self, class: usize) -> usize {
-        match self.sources.get(class) {
-            Some(sources) => *sources,
-            None => 0,
-        }
     }
 
     /// Makes the class wait, unless it waits already.
@@ -91,18 +82,16 @@ impl Parts {
         Some(class)
     }
 
-    /// The class to which sources of a class go.
+    /// For each class where its sources go.
     pub fn targets(&self) -> &[usize] {
         &self.targets
     }
 
-    /// Chooses where these states go: to a new class where others of their class stay.
-    pub fn choose(&mut self, classes: &[usize], run: &[(u32, usize)]) -> Result<(), AllocError> {
+    /// Chooses where the sources of the moves go.
+    pub fn choose(&mut self, classes: &[usize], moves: &[(u32, usize)]) -> Result<(), AllocError> {
         self.met.clear();
-        'sources: for &(_, state) in run {
-            if let Some(class) = classes.get(state) {
-                self.meet(*class)?;
-            }
+        'moves: for &(_, state) in moves {
+            self.meet(number_at(classes, state))?;
         }
         self.choose_targets();
         Ok(())
@@ -119,18 +108,11 @@ impl Parts {
         Ok(())
     }
 
-    /// Gives a free number to the sources of each class that has other states too. Numbers that are no state belong to class 0.
+    /// Gives a free number to the sources of each class that has other states. Class 0 always has: numbers that are no state.
     fn choose_targets(&mut self) {
         'met: for class in &self.met {
-            let all = match self.sizes.get(*class) {
-                Some(size) => *size,
-                None => 0,
-            };
-            let sources = match self.sources.get(*class) {
-                Some(sources) => *sources,
-                None => 0,
-            };
-            if *class == 0 || sources < all {
+            let is_split = number_at(&self.sources, *class) < number_at(&self.sizes, *class);
+            if *class == 0 || is_split {
                 if let Some(target) = self.targets.get_mut(*class) {
                     if let Some(number) = self.free.pop() {
                         *target = number;
@@ -140,42 +122,46 @@ impl Parts {
         }
     }
 
-    /// The states have gone where they were to go.
+    /// The sources have gone where they were to go.
     pub fn settle(&mut self) -> Result<(), AllocError> {
         'met: for place in 0..self.met.len() {
-            if let Some(class) = self.met.get(place) {
-                let class = *class;
-                self.settle_class(class)?;
-            }
+            let class = number_at(&self.met, place);
+            self.settle_class(class)?;
         }
         Ok(())
     }
 
     /// The sources of the class have gone where they were to go.
     fn settle_class(&mut self, class: usize) -> Result<(), AllocError> {
-        let moved = self.sources(class);
-        if let Some(sources) = self.sources.get_mut(class) {
-            *sources = 0;
-        }
-        let mut part = class;
-        if let Some(target) = self.targets.get_mut(class) {
-            part = *target;
-            *target = class;
-        }
+        let moved = number_at(&self.sources, class);
+        let part = number_at(&self.targets, class);
+        put(&mut self.sources, class, 0);
+        put(&mut self.targets, class, class);
         if part == class {
             return Ok(());
         }
-        let rest = self.size(class).wrapping_sub(moved);
-        if let Some(size) = self.sizes.get_mut(class) {
-            *size = rest;
-        }
-        if let Some(size) = self.sizes.get_mut(part) {
-            *size = moved;
-        }
+        let rest = number_at(&self.sizes, class).wrapping_sub(moved);
+        put(&mut self.sizes, class, rest);
+        put(&mut self.sizes, part, moved);
         if class == 0 || moved <= rest || self.is_waiting(class) {
             return self.wait(part);
         }
         self.wait(class)
+    }
+}
+
+/// The number at the place, 0 past the end.
+fn number_at(numbers: &[usize], place: usize) -> usize {
+    match numbers.get(place) {
+        Some(number) => *number,
+        None => 0,
+    }
+}
+
+/// Puts the number at the place, if it is there.
+fn put(numbers: &mut Vec<usize>, place: usize, number: usize) {
+    if let Some(there) = numbers.get_mut(place) {
+        *there = number;
     }
 }
 
