@@ -7,5 +7,8 @@ pub mod Comparisons
 pub mod OwnSignatures
 pub mod HashLemmas
 pub mod Chains
-pub mod SplitByMoves
+pub mod MemberLists
+pub mod FoundMoves
+pub mod LetterRuns
+pub mod MovedSources
 pub mod Firsts

@@ -1,4 +1,4 @@
-use Rattle.minimise.proofs.SplitByMoves.{run_ends}
+use Rattle.minimise.proofs.LetterRuns.{run_ends}
 use Rattle.minimise.proofs.splitters.end_of_run.Goals as goal
 
 pub returns-else-moves-end : goal.returns-else-moves-end

@@ -1,7 +1,8 @@
 use Rattle.std.proofs.Common.{ℕ, rules, subst, arith}
 use Rattle.std.proofs.lemmas.List.Sorted.{Contains-permutation, IsPermutation-sym, IsNonDecreasingBy-from_sort_by_key}
 use Rattle.minimise.specs.Splitters.{AddsMovesOf}
-use Rattle.minimise.proofs.SplitByMoves.{listed_less, members_less, moves_of}
+use Rattle.minimise.proofs.FoundMoves.{moves_of}
+use Rattle.minimise.proofs.MemberLists.{listed_less, members_less}
 use Rattle.minimise.proofs.splitters.find_moves.Goals as goal
 
 pub returns-in_ok-put_moves-clause-listed : goal.returns-in_ok-put_moves-clause-listed

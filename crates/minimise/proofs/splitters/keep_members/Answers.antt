@@ -1,7 +1,7 @@
 use Rattle.std.proofs.Common.{ℕ, nat_eq, slice_index, Contains, rules, sym, subst}
 use Rattle.std.proofs.lemmas.Bool.Decides.{Decides-eqb}
 use Rattle.std.proofs.lemmas.Fn.{filter_same}
-use Rattle.minimise.proofs.SplitByMoves.{Contains-filter}
+use Rattle.minimise.proofs.MemberLists.{Contains-filter}
 use Rattle.minimise.proofs.splitters.keep_members.Goals as goal
 
 pub returns : goal.returns

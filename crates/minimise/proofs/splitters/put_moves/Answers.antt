@@ -1,5 +1,5 @@
 use Rattle.std.proofs.Common.{◌+◌, sym, ap, subst, ◌∙◌, arith}
-use Rattle.minimise.proofs.SplitByMoves.{IsFinding, finding_same, finding_more, finding_all}
+use Rattle.minimise.proofs.FoundMoves.{IsFinding, finding_same, finding_more, finding_all}
 use Rattle.minimise.proofs.splitters.put_moves.Goals as goal
 use Rattle.minimise.proofs.splitters.put_moves.Goals.{then-class_of-class+in_ok-put_into, else-class_of-class}
 

@@ -1,4 +1,4 @@
-use Rattle.minimise.proofs.SplitByMoves.{IsFinding}
+use Rattle.minimise.proofs.FoundMoves.{IsFinding}
 use Rattle.minimise.proofs.splitters.put_moves.Given as goal
 
 abbrev pub invariant-states : goal.invariant-states

@@ -1,7 +1,8 @@
 use Rattle.std.proofs.Common.{◌≤◌, ℕ, List, length, slice_index, sym, subst}
 use Rattle.minimise.specs.Splitters.{AreListed, AreMovesInto, IsSaturated}
 use Rattle.minimise.proofs.Refining.{coarse_apart}
-use Rattle.minimise.proofs.SplitByMoves.{class_le, moves_saturated}
+use Rattle.minimise.proofs.FoundMoves.{moves_saturated}
+use Rattle.minimise.proofs.MemberLists.{class_le}
 use Rattle.minimise.proofs.splitters.refine.Goals as goal
 
 pub members-requires : goal.members-requires

@@ -1,6 +1,6 @@
 use Rattle.std.proofs.Common.{length}
 use Rattle.minimise.specs.Splitters.{target_of}
-use Rattle.minimise.proofs.SplitByMoves.{moved_soundly}
+use Rattle.minimise.proofs.MovedSources.{moved_soundly}
 use Rattle.minimise.proofs.splitters.split.Goals as goal
 
 pub returns-clause-sound : goal.returns-clause-sound

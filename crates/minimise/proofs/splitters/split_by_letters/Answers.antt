@@ -1,5 +1,5 @@
 use Rattle.std.proofs.Common.{arith}
-use Rattle.minimise.proofs.SplitByMoves.{run_sources, run_earlier}
+use Rattle.minimise.proofs.LetterRuns.{run_sources, run_earlier}
 use Rattle.minimise.proofs.splitters.split_by_letters.Goals as goal
 
 pub runs-preserved : goal.runs-preserved
