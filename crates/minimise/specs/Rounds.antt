@@ -1,4 +1,4 @@
--- What only private functions cite: rounds of refinement by hashes of signatures, and classes that are stable.
+-- What only private functions cite: rounds of refinement by hashes of signatures, classes that are stable, and first states of classes.
 use Rattle.std.specs.Prelude.{◌≡◌, ◌<◌, ◌+◌, ◌*◌, ◌%◌, ◌/◌, ◌^◌, ℕ, suc, List, Option, ltb, length, slice_index, if◌then◌else◌}
 use Rattle.std.specs.List.{filter_map, fold}
 use Rattle.word_automata.specs.Path.{edges_of, is_accepting}
@@ -6,10 +6,14 @@ use Rattle.word_automata.specs.Automaton.{Automaton, accepts_from}
 use Rattle.minimise.specs.Signatures.{Signature}
 use Rattle.minimise.specs.Refinement.{live_class, live_edge, no_word}
 
+-- some word tells the states apart
+abbrev pub AreApart : Automaton → ℕ → ℕ → Type 0
+AreApart m p q = (w : List ℕ) × (accepts_from m p w ≡ accepts_from m q w → ⊥)
+
 -- states in different classes are told apart by some word
 pub record AreToldApart (m : Automaton) (classes : List ℕ) : Type 0 where
   pub count : length classes ≡ length m.states
-  pub told_apart : (p q : ℕ) → (slice_index classes p ≡ slice_index classes q → ⊥) → (w : List ℕ) × (accepts_from m p w ≡ accepts_from m q w → ⊥)
+  pub told_apart : (p q : ℕ) → (slice_index classes p ≡ slice_index classes q → ⊥) → AreApart m p q
 
 -- the signature of the state without its own class
 abbrev pub outgoing : Automaton → List ℕ → ℕ → Signature

@@ -1,8 +1,8 @@
 -- What only private functions cite: edges by their targets, and classes that are split by the states from which a letter leads to a class.
 use Rattle.std.specs.Prelude.{◌≡◌, ◌<◌, ◌≤◌, ◌⊎◌, ◌&&◌, ltb, eqb, ℕ, zero, suc, List, Vec, Some, Contains, length, slice_index, slice_index_or, slice_get, if◌then◌else◌}
 use Rattle.word_automata.specs.Path.{edges_of}
-use Rattle.word_automata.specs.Automaton.{Automaton, accepts_from}
-use Rattle.minimise.specs.Rounds.{AreToldApart}
+use Rattle.word_automata.specs.Automaton.{Automaton}
+use Rattle.minimise.specs.Rounds.{AreApart, AreToldApart}
 
 -- a letter with the state that an edge leaves, and the number of the edge before it into the same state
 abbrev pub Link : Type 0
@@ -91,10 +91,6 @@ pub record IsRun (moves : List (ℕ × ℕ)) (at end : ℕ) : Type 0 where
   pub within : end ≤ length moves
   pub same : (k : ℕ) → at ≤ k → k < end → letter_at moves k ≡ letter_at moves at
   pub later : (k : ℕ) → end ≤ k → k < length moves → letter_at moves at < letter_at moves k
-
--- some word tells the states apart
-abbrev pub AreApart : Automaton → ℕ → ℕ → Type 0
-AreApart m p q = (w : List ℕ) × (accepts_from m p w ≡ accepts_from m q w → ⊥)
 
 -- states of the automaton that have a move under a letter are told apart from those that have none
 pub record IsSaturated (m : Automaton) (moves : List (ℕ × ℕ)) : Type 0 where
