@@ -5,9 +5,8 @@ ghost use Rattle.std.specs.Prelude.{◌≡◌, IsOk, OnOk};
 ghost use Rattle.future_abstraction.specs.Futures.{up_to, is_related, next_key};
 ghost use Rattle.future_abstraction.specs.FutureLaws.{related-equivalence, related-finer, next_key-over};
 
-use crate::splitting::split;
 use abstraction::{Abstraction, Refinable};
-use minimise::Canon;
+use minimise::{Canon, split};
 use std::alloc::{AllocError, Global};
 
 /// An abstraction by words of bounded length: states are related where each word of at most so many letters is accepted from both or

@@ -4,8 +4,6 @@
 
 mod futures;
 mod laws;
-mod signature;
-mod splitting;
 
 pub use futures::Futures;
 pub use laws::related_by_signature;

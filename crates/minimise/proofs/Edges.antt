@@ -3,11 +3,12 @@ use Rattle.std.proofs.Common.{◌≡◌, ◌<◌, ◌≤◌, ◌⊎◌, ℕ, zer
 use Rattle.std.proofs.lemmas.Bool.{cases_eq, cases_order}
 use Rattle.std.proofs.lemmas.List.{get_or_past}
 use Rattle.std.proofs.lemmas.List.Elements.{All-nil, All-weaker}
-use Rattle.std.proofs.lemmas.Option.{slice_get_past}
 use Rattle.std.specs.List.{filter_map}
 use Rattle.std.specs.Option.{option_and_then}
-use Rattle.word_automata.specs.Path.{Node, edges_of, is_accepting}
+use Rattle.word_automata.specs.Path.{Node, edges_of}
 use Rattle.word_automata.specs.Automaton.{Automaton, target, find_target, accepts_from, IsValid, HasIncreasingLetters as HasIncreasingEdges}
+use Rattle.word_automata.proofs.Edges.{edges_of-past}
+pub use Rattle.word_automata.proofs.Edges.{is_accepting-past}
 use Rattle.word_automata.proofs.Rows.{All-edges_of}
 use Rattle.exploration.specs.System.{System, look_up, HasIncreasingLetters, IsSuccessors}
 use Rattle.exploration.proofs.Lists.{look_up-here, look_up-there, look_up-beneath}
@@ -51,12 +52,6 @@ edges_differ (e ∷ es) (f ∷ fs) h k = by (cases_order e.0 f.0) (edges_differ 
 -- the edges of a state are by increasing letters
 pub edges_of-increasing : (m : Automaton) → IsValid m → (q : ℕ) → HasIncreasingLetters (edges_of m.states q)
 edges_of-increasing m valid q = HasIncreasingLetters-edges (edges_of m.states q) (All-edges_of HasIncreasingEdges m.states tt valid.ordered q)
-
-edges_of-past : (states : List (Node ℕ)) (q : ℕ) → length states ≤ q → edges_of states q ≡ []
-edges_of-past states q l = ap (λ o. elim o as (λ o. List (ℕ × ℕ)) [ None ↦ [] | Some node ↦ node.edges ]) (slice_get_past states q l)
-
-pub is_accepting-past : (states : List (Node ℕ)) (q : ℕ) → length states ≤ q → is_accepting states q ≡ false
-is_accepting-past states q l = ap (λ o. elim o as (λ o. Bool) [ None ↦ false | Some node ↦ node.accepting ]) (slice_get_past states q l)
 
 pub live_edges-past : (classes : List ℕ) (states : List (Node ℕ)) (q : ℕ) → length states ≤ q → filter_map (live_edge classes) (edges_of states q) ≡ []
 live_edges-past classes states q l = ap (filter_map (live_edge classes)) (edges_of-past states q l)

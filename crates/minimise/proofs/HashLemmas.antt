@@ -9,7 +9,7 @@ use Rattle.minimise.specs.Refinement.{live_edge}
 use Rattle.minimise.specs.Rounds.{AreToldApart, outgoing, mixed_in, mixed_in_edge, hash_of, AreHashes}
 use Rattle.minimise.proofs.Splitting.{live_edge_more, dead_edge_more}
 use Rattle.minimise.proofs.Refining.{outgoing_apart}
-use Rattle.minimise.proofs.LookingAgain.{outgoing-past}
+use Rattle.minimise.proofs.OwnSignatures.{outgoing-past}
 
 -- the hash so far, of the first i edges
 abbrev pub hash_before : ℕ → List ℕ → List (ℕ × ℕ) → ℕ → ℕ

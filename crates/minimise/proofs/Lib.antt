@@ -4,6 +4,11 @@ pub mod Refining
 pub mod Splitting
 pub mod Unique
 pub mod Comparisons
-pub mod LookingAgain
-pub mod PredecessorLists
+pub mod OwnSignatures
 pub mod HashLemmas
+pub mod Chains
+pub mod MemberLists
+pub mod FoundMoves
+pub mod LetterRuns
+pub mod MovedSources
+pub mod Firsts

@@ -9,7 +9,8 @@ use Rattle.word_automata.specs.Automaton.{Automaton}
 use Rattle.minimise.specs.Signatures.{Signature, same_signature}
 use Rattle.minimise.specs.SignatureLaws.{same_signature-decides}
 use Rattle.minimise.specs.Refinement.{live_class, live_edge, signature_of, no_word, FindsClass, AreGrouped}
-use Rattle.minimise.proofs.Edges.{is_accepting-past, live_edges-past}
+use Rattle.word_automata.proofs.Edges.{is_accepting-past}
+use Rattle.minimise.proofs.Edges.{live_edges-past}
 
 -- an edge of a signature, one after another
 module _ (classes : List ℕ) (edges : List (ℕ × ℕ)) (i : ℕ) (l : i < length edges) (done : List (ℕ × ℕ)) (h : done ≡ filter_map (live_edge classes) (take i edges)) where

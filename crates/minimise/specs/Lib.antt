@@ -3,3 +3,4 @@ pub mod Refinement
 pub mod Signatures
 pub mod SignatureLaws
 pub mod Rounds
+pub mod Splitters

@@ -1,13 +1,15 @@
-//! How many classes there are, about, and whether rounds still find new ones. It ends rounds alone: no contract rests on it.
+//! How many classes there are, about, and whether rounds still find new ones. It ends rounds alone: no contract rests on it. A call takes
+//! time linear in the states, as the table does memory.
 
 use std::alloc::{AllocError, Global};
 
-/// A table of places, each with whether a class fell on it, how many places had one after the last round, and how many rounds in a row
-/// have found few new classes.
+/// A table of places, each with whether a class fell on it, how many places had one after the last round, how many of them were new, and
+/// how many rounds in a row have found few new classes.
 #[derive(Drop)]
 pub struct Growth {
     places: Vec<bool>,
-    before: usize,
+    count: usize,
+    grown: usize,
     quiet: usize,
 }
 
@@ -16,18 +18,32 @@ impl Growth {
     pub fn new(alloc: Global, states: usize) -> Result<Growth, AllocError> {
         Ok(Growth {
             places: vec![in alloc; false; size(states)]?,
-            before: 0,
+            count: 0,
+            grown: 0,
             quiet: 0,
         })
     }
 
-    /// Whether classes grew by at most a sixteenth in each of the last three calls.
+    /// Whether classes grew by next to nothing, or for the third time in a row by at most a sixteenth, or by no more than before.
     pub fn is_over(&mut self, classes: &[usize]) -> bool {
-        'places: for place in &mut self.places {
-            *place = false;
-        }
-        let mut count = 0usize;
+        let before = self.count;
+        self.count_places(classes);
+        let grown = self.count.saturating_sub(before);
+        let is_quiet = grown <= before / 16 || grown <= self.grown;
+        self.grown = grown;
+        self.quiet = if is_quiet {
+            self.quiet.wrapping_add(1)
+        } else {
+            0
+        };
+        grown <= before / 1024 || self.quiet >= 3
+    }
+
+    /// Counts the places on which a class falls.
+    fn count_places(&mut self, classes: &[usize]) {
+        self.places.fill(false);
         let mask = self.places.len().wrapping_sub(1);
+        let mut count = 0usize;
         'classes: for class in classes {
             if let Some(place) = self.places.get_mut((*class / 65_536) & mask) {
                 if !*place {
@@ -36,14 +52,7 @@ impl Growth {
                 }
             }
         }
-        let is_quiet = count.saturating_sub(self.before) <= self.before / 16;
-        self.quiet = if is_quiet {
-            self.quiet.wrapping_add(1)
-        } else {
-            0
-        };
-        self.before = count;
-        self.quiet >= 3
+        self.count = count;
     }
 }
 

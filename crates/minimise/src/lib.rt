@@ -4,18 +4,19 @@
 mod canon;
 mod growth;
 mod hashing;
+mod incoming;
 mod laws;
 mod numbering;
-mod predecessors;
+mod parts;
 mod quotient;
 mod refinement;
-mod rounds;
 mod signature;
-mod sizes;
+mod splitters;
 mod stability;
 
 pub use canon::{Canon, canonical, canonical_nfa, same};
 pub use laws::{canonical_is_least, canonical_is_unique};
+pub use refinement::split;
 
 /// Asks for a type that threads may share and that may be moved between them.
 fn is_shared<T: Send + Sync>() {}

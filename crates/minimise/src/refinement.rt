@@ -1,5 +1,5 @@
-//! The classes of states that accept the same words. They are refined in rounds of hashes, then in rounds that look at few states, and
-//! after both it is seen whether they are stable; where they were not, rounds over all states (E. F. Moore, 1956) would go on.
+//! The classes of states that accept the same words. They are refined in rounds of hashes, then by splitters, and after both it is seen
+//! whether they are stable; where they were not, rounds over all states (E. F. Moore, 1956) would go on.
 
 ghost use Rattle.std.specs.Prelude.{◌≡◌, ◌<◌, ◌^◌, IfOk, OnOk, length};
 ghost use Rattle.std.specs.HashMap.{get};
@@ -11,15 +11,15 @@ ghost use Rattle.minimise.specs.Refinement.{live_edge, signature_of, no_word, Fi
 
 use crate::hashing::hashed_rounds;
 use crate::numbering::by_least_states;
-use crate::rounds::refine;
 use crate::signature::Signature;
+use crate::splitters::refine;
 use crate::stability::is_stable;
 use std::alloc::{AllocError, Global};
 use std::collections::HashMap;
 use word_automata::Dfa;
 
 /// The class of each state: 0 where no word is accepted from it, and else one more than the least state from which the same words
-/// are. It takes time linear in the edges, on average, times the logarithm of the states where classes split in halves.
+/// are. It takes time linear in the edges times the logarithm of the states, up to sorting by letters, on average over hashing.
 pub fn classes(alloc: Global, automaton: &Dfa) -> Result<Vec<usize>, AllocError>
     ensures { IfOk result (λ classes. AreClasses automaton.now classes.items) }
 {
@@ -28,11 +28,11 @@ pub fn classes(alloc: Global, automaton: &Dfa) -> Result<Vec<usize>, AllocError>
     if is_stable(alloc, automaton, &classes)? {
         return Ok(classes);
     }
-    looked_at_again(alloc, automaton, classes)
+    split_further(alloc, automaton, classes)
 }
 
-/// The same classes from coarser ones, refined by rounds that look at few states.
-fn looked_at_again(
+/// The same classes from coarser ones, refined by splitters.
+fn split_further(
     alloc: Global,
     automaton: &Dfa,
     coarse: Vec<usize>,
@@ -65,8 +65,9 @@ fn rounds(alloc: Global, automaton: &Dfa, coarse: Vec<usize>) -> Result<Vec<usiz
     }
 }
 
-/// The classes of states that have the same signature by the coarser classes.
-fn split(alloc: Global, automaton: &Dfa, classes: &[usize]) -> Result<Vec<usize>, AllocError>
+/// The classes of states that have the same signature by the coarser classes: 0 where it is that of no word, and else one more than the
+/// least state that has it. It takes time linear in the states and edges, on average.
+pub fn split(alloc: Global, automaton: &Dfa, classes: &[usize]) -> Result<Vec<usize>, AllocError>
     requires { length classes.now ≡ length automaton.now.states }
     ensures { IfOk result (λ finer. IsSplit automaton.now classes.now finer.items) }
 {
@@ -95,7 +96,7 @@ fn signature_of(
 }
 
 /// The letters of the state that lead to classes other than 0, each with the class.
-pub fn live_edges(
+fn live_edges(
     alloc: Global,
     automaton: &Dfa,
     classes: &[usize],

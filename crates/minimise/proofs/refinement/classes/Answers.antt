@@ -12,8 +12,8 @@ returns-then-branch c =
     stable m c.in_ok-hashed.ensures.valid classes (least_coarse m c.in_ok-hashed.hashed.items classes c.in_ok-hashed.ensures.apart grouped)
     (subst (AreAlike m) c.deref-2.ensures.value (c.in_ok-is_stable.ensures c.if-branch.true))
 
-pub looked_at_again-requires-clause-coarse : goal.looked_at_again-requires-clause-coarse
-looked_at_again-requires-clause-coarse c =
+pub split_further-requires-clause-coarse : goal.split_further-requires-clause-coarse
+split_further-requires-clause-coarse c =
     let m = c.args.automaton.now in
     least_coarse m c.in_ok-hashed.hashed.items c.in_ok-classes.classes.items c.in_ok-hashed.ensures.apart
     (subst (λ (xs : List ℕ). AreGrouped (slice_index xs) (length m.states) c.in_ok-classes.classes.items) c.deref.ensures.value c.in_ok-classes.ensures)

@@ -1,6 +1,6 @@
 use Rattle.std.proofs.Common.{arith, below_more}
 use Rattle.minimise.specs.Rounds.{IsLikeLeast}
-use Rattle.minimise.proofs.LookingAgain.{all_alike}
+use Rattle.minimise.proofs.OwnSignatures.{all_alike}
 use Rattle.minimise.proofs.stability.is_stable.Goals as goal
 
 pub states-preserved : goal.states-preserved

@@ -1,5 +1,0 @@
-use Rattle.std.proofs.Common.{◌≡◌, length}
-use Rattle.minimise.proofs.predecessors.empty_lists.Given as goal
-
-abbrev pub invariant-lists : goal.invariant-lists
-invariant-lists l = length l.lists.items ≡ l.counter

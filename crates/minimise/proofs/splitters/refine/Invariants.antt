@@ -1,0 +1,9 @@
+use Rattle.minimise.specs.Rounds.{AreToldApart}
+use Rattle.minimise.specs.Splitters.{AreListed}
+use Rattle.minimise.proofs.splitters.refine.Given as goal
+
+abbrev pub invariant-splitters : goal.invariant-splitters
+invariant-splitters l = record {
+  apart : AreToldApart l.automaton l.classes.items;
+  listed : AreListed l.classes.items l.members.items;
+}
