@@ -8,13 +8,13 @@ use Rattle.std.proofs.lemmas.Bool.{cases_lt}
 use Rattle.std.proofs.Math.ListN.{drop_of_length-le}
 use Rattle.indexmap.specs.IndexSet.{insert_key}
 use Rattle.indexmap.proofs.CallerLemmas.{Contains-list_any}
+use Rattle.sequence.proofs.Places.{slice_get-append_left, slice_get-push_cases, slice_get-push_last}
 use Rattle.word_automata.specs.Path.{edges_of, is_accepting, IsPath, spelled, spelled_one}
 use Rattle.transducers.specs.declared.Label.{Label}
 use Rattle.transducers.specs.declared.search.Position.{Position}
 use Rattle.transducers.specs.Transducer.{Transducer, RelatesFrom, Relates, read_of, write_of}
 use Rattle.transducers.specs.Search.{IsAmong, Grows, Inserts, Follows, IsBlocked, IsFollowed, IsEnd, AreStarts, Leads, Expands}
-use Rattle.transducers.proofs.ListLemmas.{slice_get-append_left, slice_get-push_cases, slice_get-push_last, place_from_Contains}
-use Rattle.transducers.proofs.ListLemmas.{spelled_one-cancel}
+use Rattle.transducers.proofs.ListLemmas.{place_from_Contains, spelled_one-cancel}
 
 -- what an insert into the set of positions leaves
 module _ (eq : Position → Position → Bool) (same : (x y : Position) → eq x y ≡ true → x ≡ y) (old : List Position) (p : Position) where

@@ -1,4 +1,5 @@
-//! Transducers that relate words to themselves.
+//! Transducers that relate words to themselves: one or two states, with an edge for each letter that is copied. They take time linear in
+//! the number of these letters.
 
 ghost use Rattle.std.specs.Prelude.{◌≡◌, ◌↔◌, ◌+◌, ◌^◌, ◌<◌, ◌≤◌, ℕ, List, [], ◌∷◌, All, Contains, IfOk, length};
 ghost use Rattle.transducers.specs.Transducer.{Relates};
