@@ -74,7 +74,8 @@ impl TransitionSystem for Product<'_> {
     fn successors(&self, alloc: Global, state: &Pair) -> Result<Vec<(u32, Pair)>, AllocError> {
         let left = edges_at(self.left, state.0);
         let right = edges_at(self.right, state.1);
-        let mut successors = Vec::new(alloc);
+        let most = left.len().saturating_add(right.len());
+        let mut successors = Vec::with_capacity(alloc, most)?;
         let mut i = 0;
         let mut j = 0;
         'letters: while i < left.len() || j < right.len() {
