@@ -1,5 +1,5 @@
 -- The gap behind an edge, or behind a letter that has none.
-use Rattle.std.proofs.Common.{◌≡◌, ◌+◌, ◌<◌, ◌≤◌, ℕ, List, length, sym, ap, ◌∙◌, subst, inl, inr, arith}
+use Rattle.std.proofs.Common.{◌+◌, ◌<◌, ◌≤◌, ℕ, List, length, subst, inl, inr, arith}
 use Rattle.std.proofs.lemmas.Bool.{cases_eq}
 use Rattle.word_automata.specs.Automaton.{HasIncreasingLetters}
 use Rattle.word_automata.specs.EdgeList.{letter_at, IsEdgeAt, IsGapFor}

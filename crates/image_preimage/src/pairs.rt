@@ -84,7 +84,8 @@ fn follow(
     requires automaton { automaton.IsValid a.now }
     requires edges { edges.now ≡ edges_of a.now.states pair.right }
     requires gap { IsGap edges.now near.old.gap.low near.old.gap.high }
-    ensures follows { OnOk result (Follows t.now a.now found.old.states.items found.new.states.items builder.old builder.new from pair edge) }
+    ensures follows { OnOk result (Follows t.now a.now found.old.states.items found.new.states.items
+        builder.old builder.new from pair edge) }
     ensures gap { IsGap edges.now near.new.gap.low near.new.gap.high }
 {
     if let Some(right) = advance(a, pair.right, edge.0.read, edges, &mut near.gap) {
