@@ -1,6 +1,6 @@
 -- Walks over pairs of states spell the words that one automaton accepts and the other refuses.
-use Rattle.std.proofs.Common.{◌≡◌, ◌+◌, ◌<◌, ◌≤◌, ◌⊎◌, ◌↔◌, ℕ, Bool, true, false, not, List, [], ◌∷◌, ◌++◌, Option, None, Some, All, Contains, get_or, is_some, length, slice_get, MatchOption, refl, sym, ap, subst, ◌∙◌, inl, inr, arith}
-use Rattle.std.proofs.lemmas.Bool.{false≢true, and_parts, and_from, cases_eq}
+use Rattle.std.proofs.Common.{◌≡◌, ◌+◌, ◌<◌, ◌≤◌, ◌⊎◌, ◌↔◌, ℕ, Bool, true, false, not, List, [], ◌∷◌, ◌++◌, Option, None, Some, All, Contains, get_or, length, slice_get, MatchOption, refl, sym, ap, subst, ◌∙◌, inl, inr, arith}
+use Rattle.std.proofs.lemmas.Bool.{and_parts, and_from, cases_eq, not-true}
 use Rattle.std.proofs.lemmas.Option.{same_Some, slice_get-get_or}
 use Rattle.std.proofs.lemmas.List.Elements.{All-contains, All-nil, Contains-append_left, Contains-push, Contains-push_cases}
 use Rattle.sequence.specs.WordOrder.{IsLeastWord}
@@ -15,17 +15,6 @@ use Rattle.boolean_operations.specs.Search.{Leads, letters_of, IsFound, Gathers}
 use Rattle.boolean_operations.specs.PairGraph.{IsPair, IsStartPair, advance, PairEdge, is_outside_pair, IsStartAmong, IsSilentAmong, IsStepAmong}
 use Rattle.boolean_operations.proofs.OptionalStates.{accepts_option, accepts_option-nil, accepts_option-cons, accepts_option-start, follow-within}
 use Rattle.boolean_operations.proofs.SearchCalls.{place_of, contains_at}
-
--- what a test of an option says
-pub none_from_test : (o : Option ℕ) (b : Bool) → is_some o ≡ not b → b ≡ true → o ≡ None
-none_from_test None b e t = refl
-none_from_test (Some x) true e t = absurd (false≢true (sym e))
-none_from_test (Some x) false e t = absurd (false≢true t)
-
-pub some_from_test : (o : Option ℕ) (b : Bool) → is_some o ≡ not b → b ≡ false → o ≡ None → ⊥
-some_from_test None true e t h = false≢true (sym t)
-some_from_test None false e t h = false≢true e
-some_from_test (Some x) b e t h = cc
 
 -- an edge that is read
 pub edge_read : (edges same : List (Option ℕ × ℕ)) (k : ℕ) (l : Option ℕ) → edges ≡ same → k < length edges → (get_or edges k (None, 0)).0 ≡ l
@@ -81,10 +70,6 @@ module _ {X : Type 0} (P : X → Type 0) where
   pub gathered_members : (R : X → Type 0) (new : List X) → Gathers P R [] new → (x : X) → Contains new x ↔ R x
   gathered_members R new g x = ((λ there. (only_new R x (g.only x there)).1), g.all x)
 
-not_true : (b : Bool) → not b ≡ true → b ≡ false
-not_true true turned = absurd (false≢true turned)
-not_true false turned = refl
-
 -- a walk over pairs, without the second parts
 abbrev pub strip : List (Option ℕ × (ℕ × Option ℕ)) → List (Option ℕ × ℕ)
 strip [] = []
@@ -130,7 +115,7 @@ module _ (n : NondeterministicAutomaton) (m : Automaton) where
             ∙ ap (λ q. accepts_option m q w) (sym begins.1)
             ∙ ap (accepts_option m s.1) (sym says)
             ∙ d.2
-            ∙ not_true (accepts_at m t.1) parts.1,
+            ∙ not-true (accepts_at m t.1) parts.1,
       )
 
   found_of_outside : (w : List ℕ) → IsOutside n m w → IsFound (IsStartPair n m) (PairEdge n m) (is_outside_pair n m) w

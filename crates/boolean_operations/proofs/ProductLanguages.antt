@@ -17,10 +17,6 @@ and_false false = refl
 abbrev pair_if : Bool → Option ℕ → Option ℕ → Option (Option ℕ × Option ℕ)
 pair_if b p q = if b then Some (p, q) else None
 
--- where a letter leads from a pair
-abbrev pub pair_step : Operation → Automaton → Automaton → Option ℕ → Option ℕ → ℕ → ℕ → Option (Option ℕ × Option ℕ)
-pair_step operation left right p q a b = pair_of operation (follow left p a) (follow right q a)
-
 module _ (operation : Operation) (left right : Automaton) where
   -- from a pair that is not live no word is accepted
   dead : (operation : Operation) (p q : Option ℕ) (w : List ℕ) → is_live operation p q ≡ false → combine operation (accepts_option left p w) (accepts_option right q w) ≡ false

@@ -52,11 +52,6 @@ module _ {S : Type 0} where
           let is : ◌≡◌ {A = ℕ × S} (b, t) (a, r) = same_Some (b, t) (a, r) (sym at ∙ sym (ap (slice_get pending) same) ∙ here) in
           subst (λ (x : ℕ × S). (h : ℕ) × IsIn found groups x.1 h × IsNotAfter steps h from x.0) is new
 
-  -- the state at a place of a longer list
-  same_state : (found new : List S) (place : ℕ) (s t : S) → ((i : ℕ) (x : S) → slice_get found i ≡ Some x → slice_get new i ≡ Some x)
-      → slice_get found place ≡ Some s → slice_get new place ≡ Some t → s ≡ t
-  same_state found new place s t kept at there = same_Some s t (sym (kept place s at) ∙ there)
-
 module _ {S : Type 0} (P start : S → Type 0) (edge : S → Option ℕ → S → Type 0) where
   -- a start that is found
   pub start_joined : (found new : List S) (groups new_groups : List ℕ) → Reached P start edge found groups [] (length found) → (s : S) → P s → start s

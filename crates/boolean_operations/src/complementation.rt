@@ -1,6 +1,6 @@
 //! The complement of an automaton among the words over its letters.
 
-ghost use Rattle.std.specs.Prelude.{◌≡◌, ◌&&◌, ℕ, not, List, Option, map, IfOk};
+ghost use Rattle.std.specs.Prelude.{◌≡◌, ◌&&◌, ℕ, not, List, Option, IfOk};
 ghost use Rattle.word_automata.specs.Automaton.{accepts, IsValid};
 ghost use Rattle.boolean_operations.specs.OptionalStates.{IsStateOrNone};
 ghost use Rattle.boolean_operations.specs.Complements.{are_letters, complement_system};

@@ -1,6 +1,6 @@
 //! Graphs whose edges have a letter or none, as a search for a least word sees them.
 
-ghost use Rattle.std.specs.Prelude.{◌≡◌, ◌↔◌, ℕ, Bool, List, Option, None, Some, [], true, All, Contains, IfOk, OnOk};
+ghost use Rattle.std.specs.Prelude.{◌≡◌, ◌↔◌, ℕ, Bool, Option, None, Some, [], true, All, Contains, IfOk, OnOk};
 ghost use Rattle.boolean_operations.specs.Search.{Gathers};
 
 use std::alloc::{AllocError, Global};

@@ -3,13 +3,11 @@
 
 mod common_words;
 mod complementation;
-mod found_states;
 mod graph;
 mod inclusion;
 mod least_words;
 mod merged_edges;
 mod optional_states;
-mod place_table;
 mod products;
 mod search;
 
@@ -17,4 +15,5 @@ pub use common_words::least_common_word;
 pub use complementation::complement;
 pub use inclusion::included;
 pub use least_words::{is_empty, least_word};
+pub use merged_edges::search_near;
 pub use products::{difference, intersect, union};

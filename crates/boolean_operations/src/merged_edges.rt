@@ -46,9 +46,10 @@ pub(crate) fn seek(edges: &[(u32, usize)], near: usize, letter: u32) -> (Option<
     }
 }
 
-/// The place of the edge with the letter, or else the one where it would go. The place `near` is looked at first, then the one that
-/// the edge has where there is an edge for each letter, and only then are the edges searched by halves.
-fn search_near(edges: &[(u32, usize)], near: usize, letter: u32) -> Result<usize, usize>
+/// The place of the edge with the letter among edges that are sorted by letter, or else the one where it would go. The place `near` is
+/// looked at first, then the one that the edge has where there is an edge for each letter, and only then are the edges searched by
+/// halves.
+pub fn search_near(edges: &[(u32, usize)], near: usize, letter: u32) -> Result<usize, usize>
     requires { HasIncreasingLetters edges.now }
     ensures found { IfOk result (IsEdgeAt edges.now letter) }
     ensures absent { IfErr result (IsGapFor edges.now letter) }

@@ -1,7 +1,7 @@
 //! States of an automaton that may be missing: where no edge leads on, there is none, and no word is accepted from there.
 
-ghost use Rattle.std.specs.Prelude.{◌≡◌, ◌<◌, length};
-ghost use Rattle.word_automata.specs.Automaton.{Automaton, IsValid};
+ghost use Rattle.std.specs.Prelude.{◌≡◌, ◌<◌};
+ghost use Rattle.word_automata.specs.Automaton.{IsValid};
 ghost use Rattle.boolean_operations.specs.OptionalStates.{start_of, accepts_at, edges_at, IsStateOrNone};
 
 use word_automata::Dfa;

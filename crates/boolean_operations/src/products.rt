@@ -1,9 +1,8 @@
 //! Union, intersection and difference, as products of two automata: the sorted edges of two states are merged.
 
-ghost use Rattle.std.specs.Prelude.{◌≡◌, ◌++◌, ◌&&◌, ◌||◌, ℕ, not, List, Option, map, IfOk, OnOk, IsTrue};
+ghost use Rattle.std.specs.Prelude.{◌≡◌, ◌&&◌, ◌||◌, ℕ, not, List, Option, IfOk};
 ghost use Rattle.word_automata.specs.Automaton.{accepts, IsValid};
-ghost use Rattle.exploration.specs.System.{IsSuccessors};
-ghost use Rattle.boolean_operations.specs.Products.{IsPairOfStates, combine, pair_of, is_live, pair_system};
+ghost use Rattle.boolean_operations.specs.Products.{IsPairOfStates, pair_of, is_live, pair_system};
 ghost use Rattle.boolean_operations.specs.Equality.{same_pairs};
 
 use crate::merged_edges::{least_letter, take};
@@ -74,7 +73,8 @@ impl TransitionSystem for Product<'_> {
     fn successors(&self, alloc: Global, state: &Pair) -> Result<Vec<(u32, Pair)>, AllocError> {
         let left = edges_at(self.left, state.0);
         let right = edges_at(self.right, state.1);
-        let mut successors = Vec::new(alloc);
+        let most = left.len().saturating_add(right.len());
+        let mut successors = Vec::with_capacity(alloc, most)?;
         let mut i = 0;
         let mut j = 0;
         'letters: while i < left.len() || j < right.len() {

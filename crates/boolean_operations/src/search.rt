@@ -11,8 +11,8 @@ ghost use Rattle.std.specs.List.Sorted.{IsPermutation};
 ghost use Rattle.sequence.specs.WordOrder.{IsLeastWord};
 ghost use Rattle.boolean_operations.specs.Search.{IsFound, IsIn, IsNotAfter, Spells, AreSteps, Reached, Done, BeginsAt, AreRising, AreStepsOf, IsGathered, AreInOrder, IsBounded, AreBefore, Extends, Joins, HasLastStep};
 
-use crate::found_states::FoundStates;
 use crate::graph::Graph;
+use exploration::FoundStates;
 use std::alloc::{AllocError, Global};
 
 /// The least word that leads from a start to a goal, or `None` where no word does.

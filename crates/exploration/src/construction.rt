@@ -97,7 +97,8 @@ fn expand<T: LanguageSystem>(
 }
 
 /// The number of the state, which is a new one where it was not found before. The state with the number `last` is looked at first,
-/// since neighbouring letters often lead to one state, and then the place that the table has. Only then is the state hashed.
+/// since neighbouring letters often lead to one state, and then the place that the table has, where states have codes. Only then is the
+/// state hashed.
 fn number<T: LanguageSystem>(
     system: &T,
     found: &mut IndexSet<T::State>,
@@ -112,14 +113,13 @@ fn number<T: LanguageSystem>(
     if holds(found, last, &state) {
         return Ok(last);
     }
-    let code = system.code(&state);
-    let known = places.place_of(code);
-    if holds(found, known, &state) {
-        return Ok(known);
+    if system.codes() > 0 {
+        let known = places.place_of(system.code(&state), found.len())?;
+        if holds(found, known, &state) {
+            return Ok(known);
+        }
     }
-    let number = find(system, found, builder, state)?;
-    places.put(code, number);
-    Ok(number)
+    Ok(find(system, found, builder, state)?)
 }
 
 /// Whether the state stands at the place.

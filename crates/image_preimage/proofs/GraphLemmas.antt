@@ -1,10 +1,11 @@
 -- States that are added to a graph, and what an automaton accepts behind an optional letter.
 use Rattle.std.proofs.Common.{◌≡◌, ℕ, zero, suc, ◌<◌, ◌≤◌, Bool, false, List, [], ◌∷◌, ◌++◌, length, Option, Some, None}
-use Rattle.std.proofs.Common.{refl, sym, ◌∙◌, subst, arith, IsTrue, true≢false}
+use Rattle.std.proofs.Common.{refl, sym, ◌∙◌, subst, arith, IsTrue, IfSome, true≢false}
 use Rattle.std.proofs.lemmas.Option.{same_Some}
 use Rattle.std.proofs.lemmas.List.{nil_from_length}
 use Rattle.word_automata.specs.Path.{Node, edges_of, is_accepting, spelled_one}
-use Rattle.word_automata.specs.Automaton.{Automaton, target, accepts_from}
+use Rattle.word_automata.specs.Automaton.{Automaton, target, accepts_from, IsValid}
+use Rattle.word_automata.proofs.Targets.{target_within}
 use Rattle.image_preimage.specs.Pairs.{advance}
 
 module _ {L : Type 0} where
@@ -55,6 +56,11 @@ module _ (a : Automaton) where
       → (to : ℕ) × (advance a q letter ≡ Some to) × IsTrue (accepts_from a to w)
   advance-accepts q None w h = (q, refl, h)
   advance-accepts q (Some x) w h = accepts_behind x w q (target a q x) refl h
+
+-- where a letter leads is a state
+pub leads_within : (a : Automaton) → IsValid a → (q letter : ℕ) (found : Option ℕ) → found ≡ target a q letter → IfSome found (λ to. to < length a.states)
+leads_within a valid q letter None e = tt
+leads_within a valid q letter (Some to) e = target_within a valid q letter to (sym e)
 
 -- without a state nothing is accepted
 pub accepts_nothing : (a : Automaton) (w : List ℕ) → length a.states ≡ 0 → accepts_from a 0 w ≡ false

@@ -1,5 +1,5 @@
+mod GapLemmas
 mod GraphLemmas
 mod PairLemmas
-mod PlaceLemmas
 mod ImageLemmas
 mod SamePairs

@@ -1,75 +1,94 @@
-//! Pairs of a state of a transducer and a state of an automaton that reads what the transducer reads.
+//! Pairs of a state of a transducer and a state of an automaton that reads what the transducer reads. The edges of both states are merged
+//! where those of the transducer are sorted by the letters that they read, and a pair is found by its number in a table where there are
+//! few: constant time for each edge of the transducer, on average.
 
 ghost use Rattle.std.specs.Prelude.{◌≡◌, ◌<◌, Contains, IfOk, IfSome, OnOk, length, slice_get};
-ghost use Rattle.indexmap.specs.IndexSet.{index_set_len};
 ghost use Rattle.word_automata.specs.Path.{edges_of};
-ghost use Rattle.word_automata.specs.Automaton.{target};
+ghost use Rattle.word_automata.specs.Automaton as automaton;
 ghost use Rattle.transducers.specs.Transducer.{IsValid, IsEdge};
+ghost use Rattle.image_preimage.specs.Gaps.{IsGap};
 ghost use Rattle.image_preimage.specs.Pairs.{advance, IsReached, Numbers, Follows, Expands};
 
-use crate::places::place_of;
-use indexmap::IndexSet;
+use crate::gap::Gap;
+use exploration::FoundStates;
 use std::alloc::AllocError;
 use transducers::{Label, Transducer};
 use word_automata::{Dfa, NfaBuilder};
 
 /// A state of the transducer, on the left, and a state of the automaton.
-#[derive(Clone, Copy, PartialEq, Eq, Hash, Debug)]
+#[derive(Clone, Copy, PartialEq, Eq, Debug)]
 pub(crate) struct Pair {
     pub(crate) left: usize,
     pub(crate) right: usize,
+}
+
+/// A number above the codes of all pairs.
+pub(crate) fn codes(t: &Transducer, a: &Dfa) -> usize {
+    t.states().saturating_mul(a.states())
+}
+
+/// The code of the pair: no other pair has it.
+fn code(a: &Dfa, pair: Pair) -> usize {
+    pair.left.wrapping_mul(a.states()).wrapping_add(pair.right)
 }
 
 /// Adds the edges that leave the pair with the number `from`, and the pairs that they lead to where they are new.
 pub(crate) fn expand(
     t: &Transducer,
     a: &Dfa,
-    found: &mut IndexSet<Pair>,
+    found: &mut FoundStates<Pair>,
     builder: &mut NfaBuilder,
     from: usize,
 ) -> Result<(), AllocError>
     requires valid { IsValid t.now }
-    requires there { from < index_set_len found.old }
-    requires reached { IsReached t.now a.now found.old.keys builder.old }
-    ensures { OnOk result (Expands t.now a.now found.old.keys found.new.keys builder.old builder.new from) }
+    requires there { from < length found.old.states.items }
+    requires reached { IsReached t.now a.now found.old.states.items builder.old }
+    ensures { OnOk result (Expands t.now a.now found.old.states.items found.new.states.items builder.old builder.new from) }
 {
     let pair = pair_at(found, from);
+    let edges = a.edges_from(pair.right);
     let mut near = Near {
         number: from,
-        place: 0,
+        gap: Gap::new(edges),
     };
     'edges: for edge in t.edges(pair.left) {
-        follow(t, a, found, builder, from, pair, *edge, &mut near)?;
+        follow(t, a, found, builder, from, pair, *edge, edges, &mut near)?;
     }
     Ok(())
 }
 
-/// What the last edge of a pair met: the number of the pair to which it led, and a place among the edges of the right state.
+/// What the last edge of a pair met: the number of the pair to which it led, and a gap between the edges of the right state.
 #[derive(Drop)]
 struct Near {
     number: usize,
-    place: usize,
+    gap: Gap,
 }
 
-/// Adds the edge of the pair to which an edge of its left state leads, where its right state goes on with the letter that is read.
-/// What is near the last edge is looked at first.
+/// Adds the edge of the pair to which an edge of its left state leads, where its right state, whose edges are given, goes on with the
+/// letter that is read. What is near the last edge is looked at first.
 fn follow(
     t: &Transducer,
     a: &Dfa,
-    found: &mut IndexSet<Pair>,
+    found: &mut FoundStates<Pair>,
     builder: &mut NfaBuilder,
     from: usize,
     pair: Pair,
     edge: (Label, usize),
+    edges: &[(u32, usize)],
     near: &mut Near,
 ) -> Result<(), AllocError>
     requires in_range { IsEdge t.now.letters (length t.now.states) edge }
     requires is_edge { Contains (edges_of t.now.states pair.left) edge }
-    requires there { slice_get found.old.keys from ≡ Some pair }
-    requires reached { IsReached t.now a.now found.old.keys builder.old }
-    ensures { OnOk result (Follows t.now a.now found.old.keys found.new.keys builder.old builder.new from pair edge) }
+    requires there { slice_get found.old.states.items from ≡ Some pair }
+    requires reached { IsReached t.now a.now found.old.states.items builder.old }
+    requires automaton { automaton.IsValid a.now }
+    requires edges { edges.now ≡ edges_of a.now.states pair.right }
+    requires gap { IsGap edges.now near.old.gap.low near.old.gap.high }
+    ensures follows { OnOk result (Follows t.now a.now found.old.states.items found.new.states.items
+        builder.old builder.new from pair edge) }
+    ensures gap { IsGap edges.now near.new.gap.low near.new.gap.high }
 {
-    if let Some(right) = advance(a, pair.right, edge.0.read, &mut near.place) {
+    if let Some(right) = advance(a, pair.right, edge.0.read, edges, &mut near.gap) {
         let next = Pair {
             left: edge.1,
             right,
@@ -82,84 +101,71 @@ fn follow(
 }
 
 /// The number of the pair, which is a new one where it was not found before. The pair with the number `last` is looked at first:
-/// neighbouring edges often lead to one pair, and then nothing is hashed.
+/// neighbouring edges often lead to one pair.
 pub(crate) fn number(
     t: &Transducer,
     a: &Dfa,
-    found: &mut IndexSet<Pair>,
+    found: &mut FoundStates<Pair>,
     builder: &mut NfaBuilder,
     pair: Pair,
     last: usize,
 ) -> Result<usize, AllocError>
     requires in_range { pair.right < length a.now.states }
-    requires reached { IsReached t.now a.now found.old.keys builder.old }
-    ensures { IfOk result (Numbers t.now a.now found.old.keys found.new.keys builder.old builder.new pair) }
+    requires reached { IsReached t.now a.now found.old.states.items builder.old }
+    ensures { IfOk result (Numbers t.now a.now found.old.states.items found.new.states.items builder.old builder.new pair) }
 {
-    if last < found.len() && pair_at(found, last) == pair {
+    if found.holds(last, &pair) {
         return Ok(last);
     }
-    Ok(find(t, a, found, builder, pair)?)
+    if let Some(number) = found.look_up(code(a, pair), &pair)? {
+        return Ok(number);
+    }
+    Ok(add(t, a, found, builder, pair)?)
 }
 
-/// The number of the pair, which is a new one where it was not found before.
-fn find(
+/// Adds the pair, and gives its number.
+fn add(
     t: &Transducer,
     a: &Dfa,
-    found: &mut IndexSet<Pair>,
+    found: &mut FoundStates<Pair>,
     builder: &mut NfaBuilder,
     pair: Pair,
 ) -> Result<usize, AllocError>
     requires in_range { pair.right < length a.now.states }
-    requires reached { IsReached t.now a.now found.old.keys builder.old }
-    ensures { IfOk result (Numbers t.now a.now found.old.keys found.new.keys builder.old builder.new pair) }
+    requires reached { IsReached t.now a.now found.old.states.items builder.old }
+    ensures { IfOk result (Numbers t.now a.now found.old.states.items found.new.states.items builder.old builder.new pair) }
 {
     let accepting = t.is_accepting(pair.left) && a.accepting(pair.right);
-    let (number, is_new) = found.insert_full(pair)?;
-    if is_new {
-        builder.state(accepting)?;
-    }
-    Ok(number)
+    found.push(pair)?;
+    Ok(builder.state(accepting)?)
 }
 
 /// The state to which the letter leads, if it leads anywhere; without a letter the state itself.
-fn advance(a: &Dfa, state: usize, letter: Option<u32>, near: &mut usize) -> Option<usize>
-    requires { state < length a.now.states }
+fn advance(
+    a: &Dfa,
+    state: usize,
+    letter: Option<u32>,
+    edges: &[(u32, usize)],
+    gap: &mut Gap,
+) -> Option<usize>
+    requires state { state < length a.now.states }
+    requires automaton { automaton.IsValid a.now }
+    requires edges { edges.now ≡ edges_of a.now.states state }
+    requires gap { IsGap edges.now gap.old.low gap.old.high }
     ensures value { result ≡ advance a.now state letter }
     ensures in_range { IfSome result (λ to. to < length a.now.states) }
+    ensures gap { IsGap edges.now gap.new.low gap.new.high }
 {
     match letter {
         None => Some(state),
-        Some(letter) => target_of(a, state, letter, near),
-    }
-}
-
-/// Where the letter leads from the state, if anywhere. `near` is a place among the edges of the state, at which and behind which the
-/// edge is looked for first: letters that come in increasing order then cost no search.
-fn target_of(a: &Dfa, state: usize, letter: u32, near: &mut usize) -> Option<usize>
-    requires { state < length a.now.states }
-    ensures value { result ≡ target a.now state letter }
-    ensures in_range { IfSome result (λ to. to < length a.now.states) }
-{
-    let edges = a.edges_from(state);
-    match place_of(edges, letter, *near) {
-        Ok(place) => {
-            *near = place;
-            Some(edges[place].1)
-        }
-        Err(place) => {
-            *near = place;
-            None
-        }
+        Some(letter) => gap.target(edges, letter),
     }
 }
 
 /// The pair with this number.
-fn pair_at(found: &IndexSet<Pair>, number: usize) -> Pair
-    requires { number < index_set_len found.now }
-    ensures { slice_get found.now.keys number ≡ Some result }
+fn pair_at(found: &FoundStates<Pair>, number: usize) -> Pair
+    requires { number < length found.now.states.items }
+    ensures { slice_get found.now.states.items number ≡ Some result }
 {
-    match found.get_index(number) {
-        Some(pair) => *pair,
-        None => unreachable!(),
-    }
+    found.states[number]
 }

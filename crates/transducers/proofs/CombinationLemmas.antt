@@ -5,12 +5,13 @@ use Rattle.std.proofs.Math.Nat.{add-zero}
 use Rattle.std.proofs.lemmas.List.{length-map}
 use Rattle.std.proofs.lemmas.List.Elements.{All-contains, All-map, All-weaker, All-append, Contains-append_left, Contains-append_right}
 use Rattle.std.proofs.lemmas.List.Elements.{Contains-append_cases}
+use Rattle.sequence.proofs.Places.{slice_get-append_left}
 use Rattle.word_automata.specs.Path.{Node, IsPath, spelled, spelled_one}
+use Rattle.word_automata.proofs.Members.{Contains-map, Contains-map_cases}
 use Rattle.transducers.specs.declared.Label.{Label}
 use Rattle.transducers.specs.Transducer.{Transducer, IsValid, IsEdge, Relates, RelatesFrom, read_of, write_of}
 use Rattle.transducers.specs.Combination.{shifted_edge, shifted_node, inverse_edge, inverse_node}
-use Rattle.transducers.proofs.ListLemmas.{slice_get-append_left, slice_get-append_right, slice_get-map_image, slice_get-map_cases}
-use Rattle.transducers.proofs.ListLemmas.{Contains-map_cases, Contains-map_image}
+use Rattle.transducers.proofs.ListLemmas.{slice_get-append_right, slice_get-map_image, slice_get-map_cases}
 use Rattle.transducers.proofs.PathLemmas.{Embeds, RelatesFrom-embed, RelatesFrom-project, edges_of-at, is_accepting-at, node_from_edge}
 use Rattle.transducers.proofs.PathLemmas.{node_from_accepting}
 
@@ -119,13 +120,13 @@ module _ (a b : Transducer) (a_valid : IsValid a) (b_valid : IsValid b) (same : 
       join (inl r) = record {
         start = r.start + 0;
         is_start = Contains-append_left (map (λ q. q + 0) a.starts) _ (r.start + 0)
-            (Contains-map_image (λ q. q + 0) a.starts r.start r.is_start);
+            (Contains-map (λ q. q + 0) a.starts r.start r.is_start);
         run = RelatesFrom-embed a (union_of a b) 0 a_embeds a_valid r.start u w r.run;
       }
       join (inr r) = record {
         start = r.start + length a.states;
         is_start = Contains-append_right (map (λ q. q + 0) a.starts) _ (r.start + length a.states)
-            (Contains-map_image (λ q. q + length a.states) b.starts r.start r.is_start);
+            (Contains-map (λ q. q + length a.states) b.starts r.start r.is_start);
         run = RelatesFrom-embed b (union_of a b) (length a.states) b_embeds b_valid r.start u w r.run;
       }
 
@@ -162,7 +163,7 @@ turned_path states turned at [] p q path = path
 turned_path states turned at (move ∷ moves) p q path =
     let from = node_from_edge states p move path.0 in (
       subst (λ edges. Contains edges (inverse_edge move)) (sym (edges_of-at turned p (inverse_node from.0) (at p from.0 from.1)))
-          (Contains-map_image inverse_edge from.0.edges move from.2),
+          (Contains-map inverse_edge from.0.edges move from.2),
       turned_path states turned at moves move.1 q path.1,
     )
 

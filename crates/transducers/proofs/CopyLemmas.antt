@@ -5,11 +5,12 @@ use Rattle.std.specs.List.{range_with_len}
 use Rattle.std.proofs.lemmas.List.Elements.{All-map, All-nil, All-cons, All-head, All-tail, Contains-get_or, Contains-push_cases}
 use Rattle.std.proofs.lemmas.Option.{same_Some}
 use Rattle.word_automata.specs.Path.{edges_of}
+use Rattle.word_automata.proofs.Members.{Contains-map, Contains-map_cases}
 use Rattle.transducers.specs.declared.Label.{Label}
 use Rattle.transducers.specs.Transducer.{Transducer, IsEdge, Relates}
 use Rattle.transducers.specs.Builder.{without_states, with_state, with_start, with_edges}
 use Rattle.transducers.specs.Combination.{exchange, copy_edge, copy_edges}
-use Rattle.transducers.proofs.ListLemmas.{Contains-map_cases, Contains-map_image, Contains-range_cases, Contains-range}
+use Rattle.transducers.proofs.ListLemmas.{Contains-range_cases, Contains-range}
 use Rattle.transducers.proofs.ExchangeLemmas.{Exchanges, HasExchanges, RelatesFrom-exchanges, exchanges_from_RelatesFrom}
 
 -- the letters from the offset on
@@ -39,7 +40,7 @@ copy_from_edge offset count to a b q h =
     (subst (IsLetter offset count) reads (Contains-range_cases offset count from.0 from.1), sym reads ∙ writes, sym (ap (λ e. e.1) from.2))
 
 pub copy_edge_from_letter : (offset count to a : ℕ) → IsLetter offset count a → Contains (copy_edges offset count to) (exchange a a, to)
-copy_edge_from_letter offset count to a h = Contains-map_image (copy_edge to) (range_with_len offset count) a
+copy_edge_from_letter offset count to a h = Contains-map (copy_edge to) (range_with_len offset count) a
     (Contains-range offset count a h.0 h.1)
 
 pub exchange_from_copy : (offset count to : ℕ) (edge : Label × ℕ) → Contains (copy_edges offset count to) edge → (a b : ℕ)

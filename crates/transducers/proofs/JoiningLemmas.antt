@@ -5,14 +5,15 @@ use Rattle.std.proofs.Math.Nat.{add-zero}
 use Rattle.std.proofs.lemmas.List.{length-map, append_assoc, drop_more}
 use Rattle.std.proofs.lemmas.List.Elements.{All-contains, All-map, All-weaker, All-append, Contains-append_left, Contains-append_right}
 use Rattle.std.proofs.lemmas.List.Elements.{Contains-append_cases, All-nil}
+use Rattle.sequence.proofs.Places.{slice_get-append_left}
 use Rattle.word_automata.specs.Path.{Node, IsPath, edges_of, is_accepting, spelled, spelled_one}
 use Rattle.word_automata.proofs.Paths.{IsPath-append, spelled-append}
+use Rattle.word_automata.proofs.Members.{Contains-map, Contains-map_cases}
 use Rattle.transducers.specs.declared.Label.{Label}
 use Rattle.transducers.specs.Transducer.{Transducer, IsValid, IsEdge, Relates, RelatesFrom, read_of, write_of}
 use Rattle.transducers.specs.Combination.{shifted_edge, shifted_node, copy_edge}
 use Rattle.transducers.specs.Joining.{AreJoined, RelatesJoined, bridges, bridged_node}
-use Rattle.transducers.proofs.ListLemmas.{slice_get-append_left, slice_get-append_right, slice_get-map_image, slice_get-within}
-use Rattle.transducers.proofs.ListLemmas.{Contains-map_cases, Contains-map_image}
+use Rattle.transducers.proofs.ListLemmas.{slice_get-append_right, slice_get-map_image, slice_get-within}
 use Rattle.transducers.proofs.PathLemmas.{Embeds, RelatesFrom-embed, RelatesFrom-project, edges_of-at, is_accepting-at, node_from_edge}
 use Rattle.transducers.proofs.PathLemmas.{node_from_accepting, target_in_range, spelled-shifted}
 use Rattle.transducers.proofs.CopyLemmas.{nothing_in_nil}
@@ -113,7 +114,7 @@ module _ (part : Transducer) (separator : ℕ) (rest : Transducer) (part_valid :
       subst (λ edges. Contains edges (shifted_edge n edge))
       (sym (edges_of-at (joined_of part separator rest).states (p + n) (bridged_node n separator rest.starts at.0) (part_at p at.0 at.1)))
       (Contains-append_left (map (shifted_edge n) at.0.edges) (bridges at.0.accepting separator rest.starts) (shifted_edge n edge)
-      (Contains-map_image (shifted_edge n) at.0.edges edge at.2))
+      (Contains-map (shifted_edge n) at.0.edges edge at.2))
 
   bridge_into : (p q : ℕ) → IsTrue (is_accepting part.states p) → Contains rest.starts q
       → Contains (edges_of (joined_of part separator rest).states (p + length rest.states)) (copy_edge q separator)
@@ -124,7 +125,7 @@ module _ (part : Transducer) (separator : ℕ) (rest : Transducer) (part_valid :
       (sym (edges_of-at (joined_of part separator rest).states (p + n) (bridged_node n separator rest.starts at.0) (part_at p at.0 at.1)))
       (Contains-append_right (map (shifted_edge n) at.0.edges) (bridges at.0.accepting separator rest.starts) (copy_edge q separator)
       (subst (λ b. Contains (bridges b separator rest.starts) (copy_edge q separator)) (sym at.2)
-      (Contains-map_image (λ to. copy_edge to separator) rest.starts q h)))
+      (Contains-map (λ to. copy_edge to separator) rest.starts q h)))
 
   path_into : (moves : List (Label × ℕ)) (p q : ℕ) → IsPath part.states p moves q
       → IsPath (joined_of part separator rest).states (p + length rest.states) (map (shifted_edge (length rest.states)) moves)
@@ -145,7 +146,7 @@ module _ (part : Transducer) (separator : ℕ) (rest : Transducer) (part_valid :
       subst (λ r. IsPath (joined_of part separator rest).states r tail.moves tail.last) (add-zero second.start) tail.path in
       record {
         start = first.start + n;
-        is_start = Contains-map_image (λ q. q + n) part.starts first.start first.is_start;
+        is_start = Contains-map (λ q. q + n) part.starts first.start first.is_start;
         run = record {
           moves = front ++ back;
           last = tail.last;

@@ -6,26 +6,9 @@ use Rattle.std.specs.Option.{option_map}
 use Rattle.std.proofs.Math.Nat.{add-zero, add-suc}
 use Rattle.std.proofs.lemmas.List.FromFn.{length-range_with_len, get_or-range_with_len}
 use Rattle.std.proofs.lemmas.Option.{slice_get_read, slice_get_within, same_Some, get_or_from_slice_get}
+pub use Rattle.sequence.proofs.Places.{slice_get-append_left, slice_get-push_last}
 use Rattle.word_automata.specs.Path.{spelled_one}
-
--- an element keeps its place when others go behind it
-pub slice_get-append_left : {X : Type 0} (xs ys : List X) (k : ℕ) (x : X) → slice_get xs k ≡ Some x → slice_get (xs ++ ys) k ≡ Some x
-slice_get-append_left [] ys k x e = cc
-slice_get-append_left (y ∷ xs) ys zero x e = e
-slice_get-append_left (y ∷ xs) ys (suc k) x e = slice_get-append_left xs ys k x e
-
--- an element after a push is an old one or the pushed one
-pub slice_get-push_cases : {X : Type 0} (xs : List X) (y : X) (k : ℕ) (x : X) → slice_get (xs ++ y ∷ []) k ≡ Some x
-    → (slice_get xs k ≡ Some x) ⊎ (y ≡ x)
-slice_get-push_cases [] y zero x e = inr (same_Some y x e)
-slice_get-push_cases [] y (suc k) x e = cc
-slice_get-push_cases (z ∷ xs) y zero x e = inl e
-slice_get-push_cases (z ∷ xs) y (suc k) x e = slice_get-push_cases xs y k x e
-
--- the pushed element is at the old length
-pub slice_get-push_last : {X : Type 0} (xs : List X) (y : X) → slice_get (xs ++ y ∷ []) (length xs) ≡ Some y
-slice_get-push_last [] y = refl
-slice_get-push_last (x ∷ xs) y = slice_get-push_last xs y
+pub use Rattle.word_automata.proofs.Members.{Contains-map_cases}
 
 -- between the two ways to say that a list has an element
 pub place_from_Contains : {X : Type 0} (xs : List X) (x : X) → Contains xs x → (k : ℕ) × (slice_get xs k ≡ Some x)
@@ -68,16 +51,6 @@ pub slice_get-map_image : {X Y : Type 0} (f : X → Y) (xs : List X) (k : ℕ) (
 slice_get-map_image f [] k x e = cc
 slice_get-map_image f (y ∷ xs) zero x e = ap (λ o. option_map f o) e
 slice_get-map_image f (y ∷ xs) (suc k) x e = slice_get-map_image f xs k x e
-
-pub Contains-map_cases : {X Y : Type 0} (f : X → Y) (xs : List X) (y : Y) → Contains (map f xs) y → (x : X) × Contains xs x × (f x ≡ y)
-Contains-map_cases f xs y h =
-    let at = place_from_Contains (map f xs) y h in
-    let from = slice_get-map_cases f xs at.0 y at.1 in
-    (from.0, Contains-from_place xs at.0 from.0 from.1, from.2)
-
-pub Contains-map_image : {X Y : Type 0} (f : X → Y) (xs : List X) (x : X) → Contains xs x → Contains (map f xs) (f x)
-Contains-map_image f xs x h = let at = place_from_Contains xs x h in Contains-from_place (map f xs) at.0 (f x)
-    (slice_get-map_image f xs at.0 x at.1)
 
 -- the numbers from the offset on
 pub Contains-range_cases : (offset count a : ℕ) → Contains (range_with_len offset count) a → (offset ≤ a) × (a < offset + count)

@@ -3,10 +3,11 @@ use Rattle.std.proofs.Common.{◌≡◌, ℕ, ◌+◌, ◌<◌, true, false, Lis
 use Rattle.std.proofs.Common.{sym, ap, ◌∙◌, subst, inl, inr, arith, IsTrue, All, true≢false}
 use Rattle.std.proofs.lemmas.List.Elements.{All-contains}
 use Rattle.word_automata.specs.Path.{Node, edges_of, is_accepting, IsPath, spelled, spelled_one}
+use Rattle.word_automata.proofs.Members.{Contains-map, Contains-map_cases}
 use Rattle.transducers.specs.declared.Label.{Label}
 use Rattle.transducers.specs.Transducer.{Transducer, IsValid, IsEdge, RelatesFrom, read_of, write_of}
 use Rattle.transducers.specs.Combination.{shifted_edge, shifted_node}
-use Rattle.transducers.proofs.ListLemmas.{slice_get-cases, slice_get-within, Contains-from_place, Contains-map_cases, Contains-map_image}
+use Rattle.transducers.proofs.ListLemmas.{slice_get-cases, slice_get-within, Contains-from_place}
 
 -- the edges and the flag of a state that is there
 pub edges_of-at : {L : Type 0} (states : List (Node L)) (p : ℕ) (node : Node L) → slice_get states p ≡ Some node
@@ -62,7 +63,7 @@ module _ (n : ℕ) (part whole : List (Node Label)) (embeds : Embeds n part whol
       let at = node_from_edge part p move path.0 in (
         subst (λ edges. Contains edges (shifted_edge n move))
             (sym (edges_of-at whole (p + n) (shifted_node n at.0) (embeds.at p at.0 at.1)))
-            (Contains-map_image (shifted_edge n) at.0.edges move at.2),
+            (Contains-map (shifted_edge n) at.0.edges move at.2),
         IsPath-embed moves move.1 q path.1,
       )
 

@@ -8,13 +8,13 @@ use Rattle.std.proofs.lemmas.Bool.{cases_lt}
 use Rattle.std.proofs.Math.ListN.{drop_of_length-le}
 use Rattle.indexmap.specs.IndexSet.{insert_key}
 use Rattle.indexmap.proofs.CallerLemmas.{Contains-list_any}
+use Rattle.sequence.proofs.Places.{slice_get-append_left, slice_get-push_cases, slice_get-push_last}
 use Rattle.word_automata.specs.Path.{edges_of, is_accepting, IsPath, spelled, spelled_one}
 use Rattle.transducers.specs.declared.Label.{Label}
 use Rattle.transducers.specs.declared.search.Position.{Position}
 use Rattle.transducers.specs.Transducer.{Transducer, RelatesFrom, Relates, read_of, write_of}
 use Rattle.transducers.specs.Search.{IsAmong, Grows, Inserts, Follows, IsBlocked, IsFollowed, IsEnd, AreStarts, Leads, Expands}
-use Rattle.transducers.proofs.ListLemmas.{slice_get-append_left, slice_get-push_cases, slice_get-push_last, place_from_Contains}
-use Rattle.transducers.proofs.ListLemmas.{spelled_one-cancel}
+use Rattle.transducers.proofs.ListLemmas.{place_from_Contains, spelled_one-cancel}
 
 -- what an insert into the set of positions leaves
 module _ (eq : Position → Position → Bool) (same : (x y : Position) → eq x y ≡ true → x ≡ y) (old : List Position) (p : Position) where
@@ -61,13 +61,6 @@ IsFollowed-grows Q u w old new p edge grows h = elim h
     [ inl blocked ↦ inl blocked | inr found ↦ inr (found.0, found.1, (found.2.0, grows.stays found.2.0 found.0 found.2.1)) ]
 
 module _ (edges : List (Label × ℕ)) (u w : List ℕ) (p : Position) (edge : Label × ℕ) (old : List Position) where
-  -- no edge followed yet
-  pub Expands-none : Expands [] u w p old old
-  Expands-none = record {
-    grows = record { stays = λ k q h. h; fresh = λ k q h. inl (k, h) };
-    followed = λ e h. absurd (omega (arith, h.1));
-  }
-
   wider : (q : Position) → Leads edges u w p q → Leads (edges ++ edge ∷ []) u w p q
   wider q l = record { edge = l.edge; is_edge = Contains-append_left edges (edge ∷ []) l.edge l.is_edge; follows = l.follows }
 
@@ -113,22 +106,6 @@ pub record IsSearching (t : Transducer) (u w : List ℕ) (found : List Position)
   pub no_end : (k : ℕ) (p : Position) → k < next → slice_get found k ≡ Some p → IsEnd t u w p → ⊥
 
 module _ (t : Transducer) (u w : List ℕ) where
-  -- at the start
-  pub IsSearching-start : (found : List Position) → AreStarts t.starts found → IsSearching t u w found 0
-  IsSearching-start found so =
-      record {
-        sound = λ k p at run. let o = so.only k p at in
-            record {
-              start = p.state;
-              is_start = o.2;
-              run = subst (λ n. RelatesFrom t p.state (drop n u) w) o.0
-                  (subst (λ n. RelatesFrom t p.state (drop p.read u) (drop n w)) o.1 run);
-            };
-        starts = so.all;
-        followed = λ k p below. absurd (omega arith);
-        no_end = λ k p below. absurd (omega arith);
-      }
-
   -- an edge and a run behind it are a run
   pub RelatesFrom-step : (p q : Position) (edge : Label × ℕ) → Contains (edges_of t.states p.state) edge → Follows u w p edge q
       → RelatesFrom t q.state (drop q.read u) (drop q.written w) → RelatesFrom t p.state (drop p.read u) (drop p.written w)

@@ -1,4 +1,4 @@
-//! Building a transducer state by state and edge by edge.
+//! Building a transducer state by state and edge by edge. Each call takes constant time for each edge that it adds, on average.
 
 ghost use Rattle.std.specs.Prelude.{◌≡◌, ◌<◌, ◌⊎◌, ◌∷◌, [], All, IfSome, IsSome, IfOk, OnOk, OnErr, length};
 ghost use Rattle.transducers.specs.Builder.{without_states, with_state, with_start, with_edges};
@@ -7,7 +7,7 @@ use crate::{Label, State, Transducer};
 use std::alloc::{AllocError, Global};
 use std::marker::Model;
 
-/// A transducer that is being built. After want of memory it is as before the call.
+/// A transducer that is being built. A call that runs out of memory leaves it as it was.
 #[derive(Drop)]
 pub struct TransducerBuilder {
     alloc: Global,

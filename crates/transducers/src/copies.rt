@@ -1,6 +1,7 @@
-//! Transducers that relate words to themselves.
+//! Transducers that relate words to themselves: one or two states, with an edge for each letter that is copied. They take time linear in
+//! the number of these letters.
 
-ghost use Rattle.std.specs.Prelude.{◌≡◌, ◌↔◌, ◌+◌, ◌^◌, ◌<◌, ◌≤◌, ℕ, List, [], ◌∷◌, All, Contains, IfOk, length};
+ghost use Rattle.std.specs.Prelude.{◌≡◌, ◌↔◌, ◌+◌, ◌^◌, ◌<◌, ◌≤◌, ℕ, List, [], ◌∷◌, All, IfOk};
 ghost use Rattle.transducers.specs.Transducer.{Relates};
 ghost use Rattle.transducers.specs.Combination.{copy_edges};
 

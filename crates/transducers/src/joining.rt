@@ -1,4 +1,6 @@
-//! Transducers of several sections: the parts one after another, with a separator between neighbours.
+//! Transducers of several sections: the parts one after another, with a separator between neighbours, as in the concatenation of automata
+//! (Thompson, 1968). They are joined from the last one back, so that states keep their numbers: time linear in the states and edges, and
+//! in the edges between neighbours.
 
 ghost use Rattle.std.specs.Prelude.{◌≡◌, ◌↔◌, ◌+◌, ◌^◌, ◌<◌, ◌++◌, ℕ, List, map, All, IfOk, OnOk, length};
 ghost use Rattle.transducers.specs.Transducer.{Relates};

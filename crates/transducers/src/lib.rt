@@ -1,4 +1,5 @@
-//! Finite transducers over words of letter numbers: relations of words that are told by paths of labelled edges.
+//! Finite transducers over words of letter numbers (Elgot and Mezei, 1965): relations of words that are told by paths of labelled edges.
+//! A state is its flag and a list of its edges, which are read in constant time.
 #![tactic(auto)]
 
 mod builder;

@@ -1,4 +1,6 @@
-//! Whether a transducer relates two words: a search over how far each word is read and written, and the state.
+//! Whether a transducer relates two words: a search breadth first over how far each word is read and written, and the state, in which each
+//! position is visited once (the membership of a pair of words in a rational relation). It takes time linear in the product of the
+//! lengths of the words and the number of edges, on average.
 
 ghost use Rattle.std.specs.Prelude.{◌≡◌, ◌↔◌, ◌<◌, ◌++◌, List, ℕ, IsTrue, IfOk, IfSome, IfNone, OnOk, MatchOption, Some, slice_get, drop};
 ghost use Rattle.indexmap.specs.IndexSet.{index_set_len};

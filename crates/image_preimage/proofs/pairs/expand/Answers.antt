@@ -15,12 +15,17 @@ follow-requires-clause-in_range c =
     target_in_range c.args.t.now c.pair_at-pair.result.left edge c.requires.valid
     (subst (λ es. Contains es edge) c.edges-edge-items.ensures (Contains-get_or edges c.edges.edge-index none lt))
 
+pub edges_from-edges-requires : goal.edges_from-edges-requires
+edges_from-edges-requires c = c.requires.reached.in_range c.args.from c.pair_at-pair.result c.pair_at-pair.ensures
+
 pub edges-preserved : goal.edges-preserved
 edges-preserved c =
     let edges = c.edges-edge-items.result.now in
     let none : Label × ℕ = (record { read = None; write = None }, 0) in
-    let lt : c.edges.edge-index < length edges = omega arith in
-    rw (take_more edges c.edges.edge-index none lt)
-    (FollowsAll-more c.args.t.now c.args.a.now c.args.found.now.keys c.args.builder.now c.args.from c.pair_at-pair.result
-    c.edges.found.keys c.follow.new.found.keys c.edges.builder c.follow.new.builder (take c.edges.edge-index edges)
-    (get_or edges c.edges.edge-index none) c.edges.invariant c.in_ok-follow.ensures)
+    let lt : c.edges.edge-index < length edges = omega arith in (
+      rw (take_more edges c.edges.edge-index none lt)
+          (FollowsAll-more c.args.t.now c.args.a.now c.args.found.now.states.items c.args.builder.now c.args.from c.pair_at-pair.result
+          c.edges.found.states.items c.follow.new.found.states.items c.edges.builder c.follow.new.builder (take c.edges.edge-index edges)
+          (get_or edges c.edges.edge-index none) c.edges.invariant.0 c.in_ok-follow.ensures.follows),
+      c.in_ok-follow.ensures.gap,
+    )

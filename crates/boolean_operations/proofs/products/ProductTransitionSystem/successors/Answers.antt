@@ -13,7 +13,7 @@ letters-init c =
     let s = c.args.self.now in
     let p = c.args.state.now.0 in
     let q = c.args.state.now.1 in
-    subst (IsMerging s.operation s.left.now s.right.now (edges_at s.left.now p) (edges_at s.right.now q) 0 0) (sym c.new-successors.ensures.items)
+    subst (IsMerging s.operation s.left.now s.right.now (edges_at s.left.now p) (edges_at s.right.now q) 0 0) (sym c.in_ok-successors.ensures.items)
     (merging_nothing s.operation s.left.now s.right.now s.same_letters c.requires.0 c.requires.1 p q)
 
 pub least_letter-letter-requires-clause-left : goal.least_letter-letter-requires-clause-left

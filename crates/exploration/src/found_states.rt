@@ -1,5 +1,5 @@
 //! The states that a search has found, in the order in which it found them. A state is looked up by its code in a table of places, and
-//! compared with the one that stands at its place.
+//! compared with the one that stands at its place: constant time, on average.
 
 ghost use Rattle.std.specs.Prelude.{◌≡◌, ◌++◌, [], ◌∷◌, true, length, slice_get, Some, IfOk, IfSome, OnOk, IsTrue};
 
@@ -8,14 +8,14 @@ use std::alloc::{AllocError, Global};
 
 /// The states that were found.
 #[derive(Drop)]
-pub(crate) struct FoundStates<S> {
-    pub(crate) states: Vec<S>,
+pub struct FoundStates<S> {
+    pub states: Vec<S>,
     places: PlaceTable,
 }
 
 impl<S: Copy + Eq + Drop> FoundStates<S> {
     /// No state yet, of those whose codes are below the number.
-    pub(crate) fn new(alloc: Global, codes: usize) -> Result<FoundStates<S>, AllocError>
+    pub fn new(alloc: Global, codes: usize) -> Result<FoundStates<S>, AllocError>
         ensures { IfOk result (λ found. found.states.items ≡ []) }
     {
         Ok(FoundStates {
@@ -25,14 +25,14 @@ impl<S: Copy + Eq + Drop> FoundStates<S> {
     }
 
     /// The number of states that were found.
-    pub(crate) fn len(&self) -> usize
+    pub fn len(&self) -> usize
         ensures { result ≡ length self.now.states.items }
     {
         self.states.len()
     }
 
     /// Whether the state stands at the place.
-    pub(crate) fn holds(&self, place: usize, state: &S) -> bool
+    pub fn holds(&self, place: usize, state: &S) -> bool
         requires { (x y : S) → S.eq x y ≡ true → x ≡ y }
         ensures { IsTrue result → slice_get self.now.states.items place ≡ Some state.now }
     {
@@ -40,7 +40,7 @@ impl<S: Copy + Eq + Drop> FoundStates<S> {
     }
 
     /// The place of the state, where it was found before. Where it was not, it is to be pushed next.
-    pub(crate) fn look_up(&mut self, code: usize, state: &S) -> Result<Option<usize>, AllocError>
+    pub fn look_up(&mut self, code: usize, state: &S) -> Result<Option<usize>, AllocError>
         requires { (x y : S) → S.eq x y ≡ true → x ≡ y }
         ensures same { self.new.states.items ≡ self.old.states.items }
         ensures place { IfOk result (λ found. IfSome found (λ place. slice_get self.old.states.items place ≡ Some state.now)) }
@@ -53,7 +53,7 @@ impl<S: Copy + Eq + Drop> FoundStates<S> {
     }
 
     /// Adds the state at the end.
-    pub(crate) fn push(&mut self, state: S) -> Result<(), AllocError>
+    pub fn push(&mut self, state: S) -> Result<(), AllocError>
         ensures { OnOk result (self.new.states.items ≡ self.old.states.items ++ state ∷ []) }
     {
         self.states.push(state)?;

@@ -1,0 +1,75 @@
+//! The gap between two neighbouring edges of a state, sorted by letter, in which the last letter fell. Two comparisons tell that a letter
+//! in it has no edge, and the edge behind it is looked at first. Letters that are asked for in increasing order thus merge two lists;
+//! others are searched by halves, in logarithmic time.
+
+ghost use Rattle.std.specs.Prelude.{◌≡◌, ◌≤◌, ◌<◌, ℕ, length};
+ghost use Rattle.word_automata.specs.Automaton.{HasIncreasingLetters, find_target};
+ghost use Rattle.word_automata.specs.EdgeList.{letter_at};
+ghost use Rattle.image_preimage.specs.Gaps.{IsGap};
+
+use boolean_operations::search_near;
+
+/// No edge has a letter above `low` and below `high`. The edge at the place, if there is one, is the first behind the gap.
+#[derive(Drop)]
+pub(crate) struct Gap {
+    pub(crate) low: u32,
+    pub(crate) high: u32,
+    place: usize,
+}
+
+impl Gap {
+    /// The gap before the first edge.
+    pub(crate) fn new(edges: &[(u32, usize)]) -> Gap
+        requires { HasIncreasingLetters edges.now }
+        ensures { IsGap edges.now result.low result.high }
+    {
+        Gap {
+            low: 0,
+            high: letter_from(edges, 0),
+            place: 0,
+        }
+    }
+
+    /// Where the letter leads, if anywhere. The gap is then the one behind the letter.
+    pub(crate) fn target(&mut self, edges: &[(u32, usize)], letter: u32) -> Option<usize>
+        requires sorted { HasIncreasingLetters edges.now }
+        requires gap { IsGap edges.now self.old.low self.old.high }
+        ensures value { result ≡ find_target edges.now letter }
+        ensures gap { IsGap edges.now self.new.low self.new.high }
+    {
+        if self.low < letter && letter < self.high {
+            return None;
+        }
+        match search_near(edges, self.place, letter) {
+            Ok(at) => {
+                self.set(letter, letter_from(edges, at + 1), at + 1);
+                Some(edges[at].1)
+            }
+            Err(at) => {
+                self.set(letter, letter_from(edges, at), at);
+                None
+            }
+        }
+    }
+
+    /// Makes this the gap between these letters, behind which the place is.
+    fn set(&mut self, low: u32, high: u32, place: usize)
+        ensures low { self.new.low ≡ low }
+        ensures high { self.new.high ≡ high }
+    {
+        self.low = low;
+        self.high = high;
+        self.place = place;
+    }
+}
+
+/// The letter of the edge at the place, or the greatest number where there is none: those of later edges are not below it.
+fn letter_from(edges: &[(u32, usize)], place: usize) -> u32
+    requires { HasIncreasingLetters edges.now }
+    ensures { (j : ℕ) → place ≤ j → j < length edges.now → result ≤ letter_at edges.now j }
+{
+    if place < edges.len() {
+        return edges[place].0;
+    }
+    u32::MAX
+}
