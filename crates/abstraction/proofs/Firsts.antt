@@ -3,7 +3,8 @@ use Rattle.std.proofs.Common.{◌≡◌, ◌<◌, ◌+◌, ◌⊎◌, ℕ, List,
 use Rattle.std.proofs.lemmas.Bool.{cases_eq}
 use Rattle.std.proofs.lemmas.List.{get_or_append_left, get_or_push}
 use Rattle.std.proofs.lemmas.Option.{slice_get-get_or, same_Some}
-use Rattle.abstraction.specs.ClassAutomata.{IsKnownFirst, IsNewFirst, AreFirsts}
+use Rattle.abstraction.specs.ClassAutomata.{IsKnownFirst, IsNewFirst}
+use Rattle.abstraction.specs.FirstStates.{AreFirsts}
 
 -- the states before i have the first states of their classes, which are known
 pub record HasFirsts (known : ℕ → Option ℕ) (classes firsts : List ℕ) (i : ℕ) : Type 0 where

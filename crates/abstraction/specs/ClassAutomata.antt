@@ -1,5 +1,5 @@
 -- Cited by private functions alone: the nondeterministic automaton over classes of states, each of which has the number of its first state.
-use Rattle.std.specs.Prelude.{◌≡◌, ◌↔◌, ◌⊎◌, ◌<◌, ℕ, List, Option, None, Some, IsTrue, Contains, length, slice_index, slice_get, slice_index_or}
+use Rattle.std.specs.Prelude.{◌≡◌, ◌↔◌, ◌⊎◌, ◌<◌, ℕ, List, Option, None, Some, IsTrue, Contains, length, slice_index, slice_index_or}
 use Rattle.word_automata.specs.Path.{edges_of, is_accepting}
 use Rattle.word_automata.specs.Automaton.{Automaton}
 use Rattle.word_automata.specs.Nondeterministic.{NondeterministicAutomaton}
@@ -16,13 +16,6 @@ pub record IsNewFirst (old new : ℕ → Option ℕ) (class state first : ℕ) :
   pub first_is : first ≡ state
   pub added : new class ≡ Some state
   pub same : (c : ℕ) → (class ≡ c → ⊥) → new c ≡ old c
-
--- a state for each state, equal exactly where their classes are
-pub record AreFirsts (classes firsts : List ℕ) : Type 0 where
-  pub count : length firsts ≡ length classes
-  pub within : (p : ℕ) → p < length classes → slice_index firsts p < length classes
-  pub same : (p q : ℕ) → p < length classes → q < length classes
-      → (slice_index firsts p ≡ slice_index firsts q) ↔ (slice_get classes p ≡ slice_get classes q)
 
 -- a state of the automaton for each of its states
 pub record AreTargetsOf (a : Automaton) (firsts : List ℕ) : Type 0 where

@@ -28,7 +28,7 @@ pub trait Abstraction {
 pub trait Refinable: Abstraction {
     ghost next: { Key → Automaton → Key };
 
-    /// Refines the abstraction by a refuted set, which has the letters of the key's automata. After want of memory it is as before.
+    /// Refines the abstraction by a refuted set, which has the letters of the key's automata. When out of memory it is as before.
     fn refine(&mut self, alloc: Global, refuted: &Canon) -> Result<(), AllocError>
         requires { IsOver refuted.now.letters (Self.key self.old) }
         ensures ok { OnOk result (Self.key self.new ≡ next (Self.key self.old) refuted.now) }

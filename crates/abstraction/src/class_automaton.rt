@@ -1,13 +1,13 @@
 //! The nondeterministic automaton over the classes of states. A class has the number of its first state, and the edges that its
 //! states have, each once. It takes time linear in the edges, on average.
 
-ghost use Rattle.std.specs.Prelude.{◌≡◌, ◌↔◌, ◌<◌, ◌+◌, ℕ, List, [], true, false, Some, IfOk, OnOk, length, slice_index};
+ghost use Rattle.std.specs.Prelude.{◌≡◌, ◌↔◌, ◌<◌, ◌+◌, ℕ, List, [], true, false, Some, IfOk, OnOk, length};
 ghost use Rattle.std.specs.List.{slice_index_or};
 ghost use Rattle.word_automata.specs.Nondeterministic.{Accepts, IsMoveInRange};
 ghost use Rattle.abstraction.specs.Merging.{HaveEqualClasses, IsMerged};
-ghost use Rattle.abstraction.specs.ClassAutomata.{AreFirsts, AreTargetsOf, IsAcceptingClass, HasClassStates, HasClassMoves, AddsMoveOnce};
+ghost use Rattle.abstraction.specs.ClassAutomata.{AreTargetsOf, IsAcceptingClass, HasClassMoves, AddsMoveOnce};
 
-use crate::first_states::first_states;
+use crate::class_numbers::first_states;
 use indexmap::IndexSet;
 use std::alloc::{AllocError, Global};
 use word_automata::{Dfa, Nfa, NfaBuilder};

@@ -4,10 +4,11 @@
 
 mod abstractions;
 mod class_automaton;
-mod first_states;
+mod class_numbers;
 mod laws;
 mod merging;
 
 pub use abstractions::{Abstraction, Excluding, Refinable};
+pub use class_numbers::first_states;
 pub use laws::one_merged_language;
 pub use merging::{merge, merge_related};

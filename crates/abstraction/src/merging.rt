@@ -1,6 +1,6 @@
 //! The automaton whose states of one class are merged: a nondeterministic automaton over the classes, made canonical.
 
-ghost use Rattle.std.specs.Prelude.{◌≡◌, ℕ, IfOk, length};
+ghost use Rattle.std.specs.Prelude.{◌≡◌, IfOk, length};
 ghost use Rattle.safety_problem.specs.Task.{IsAutomatonOf};
 ghost use Rattle.abstraction.specs.Merging.{IsOver, HaveEqualClasses, IsMerged};
 

@@ -1,36 +1,35 @@
 -- Pairs of classes as numbers, and the classes that two lists have in common.
-use Rattle.std.proofs.Common.{◌≡◌, ◌<◌, ◌+◌, ◌*◌, ℕ, zero, suc, List, [], ◌∷◌, ◌++◌, Some, length, get_or, refl, sym, ap, subst, ◌∙◌, inl, inr, arith}
+use Rattle.std.proofs.Common.{◌≡◌, ◌<◌, ◌+◌, ◌*◌, ℕ, List, [], ◌∷◌, ◌++◌, Some, length, get_or, sym, ap, subst, ◌∙◌, inl, inr, arith, length-append}
+use Rattle.std.proofs.lemmas.Bool.{cases_eq}
+use Rattle.std.proofs.lemmas.List.{get_or_append_left, get_or_push}
 use Rattle.std.proofs.lemmas.List.Elements.{Contains-append_left, Contains-append_right, Contains-append_cases}
 use Rattle.std.proofs.lemmas.Option.{slice_get-get_or, same_Some}
 use Rattle.word_automata.specs.Automaton.{Automaton}
-use Rattle.abstraction.specs.ClassAutomata.{AreFirsts}
+use Rattle.abstraction.specs.FirstStates.{AreFirsts}
 use Rattle.predicate_abstraction.specs.Splitting.{AreNumbers, AreClassesBy, AreCommon}
 use Rattle.predicate_abstraction.proofs.Marks.{place-row, place-column}
 
--- the places of pairs of numbers in a table of so many columns
-pub pair_places : ℕ → List ℕ → List ℕ → List ℕ
-pair_places columns [] b = []
-pair_places columns (x ∷ a) [] = []
-pair_places columns (x ∷ a) (y ∷ b) = (x * columns + y) ∷ pair_places columns a b
+-- the places of the pairs of the first numbers of both lists
+pub record HasPlaces (a b places : List ℕ) (i : ℕ) : Type 0 where
+  pub count : length places ≡ i
+  pub at : (p : ℕ) → p < i → get_or places p 0 ≡ get_or a p 0 * length a + get_or b p 0
 
-pub length-pair_places : (columns : ℕ) (a b : List ℕ) → length b ≡ length a → length (pair_places columns a b) ≡ length a
-unfolding pair_places
-length-pair_places columns [] b same = refl
-length-pair_places columns (x ∷ a) [] same = absurd (omega arith)
-length-pair_places columns (x ∷ a) (y ∷ b) same = ap (λ (n : ℕ). suc n) (length-pair_places columns a b (omega arith))
+pub places_none : (a b places : List ℕ) → places ≡ [] → HasPlaces a b places 0
+places_none a b places empty = record { count = ap length empty; at = λ p below. absurd (omega arith) }
 
-pub pair_place_at : (columns : ℕ) (a b : List ℕ) (p : ℕ) → length b ≡ length a → p < length a
-    → get_or (pair_places columns a b) p 0 ≡ get_or a p 0 * columns + get_or b p 0
-unfolding pair_places
-pair_place_at columns [] b p same there = absurd (omega arith)
-pair_place_at columns (x ∷ a) [] p same there = absurd (omega arith)
-pair_place_at columns (x ∷ a) (y ∷ b) zero same there = refl
-pair_place_at columns (x ∷ a) (y ∷ b) (suc p) same there = pair_place_at columns a b p (omega arith) (omega arith)
+pub places_more : (a b places : List ℕ) (i place : ℕ) → place ≡ get_or a i 0 * length a + get_or b i 0 → HasPlaces a b places i → HasPlaces a b (places ++ place ∷ []) (i + 1)
+places_more a b places i place is before = record {
+  count = (let l = length-append places (place ∷ []) in let c = before.count in omega arith);
+  at = λ p below. elim (cases_eq p i) [
+    | inl same ↦ subst (λ q. get_or (places ++ place ∷ []) q 0 ≡ get_or a q 0 * length a + get_or b q 0) (sym same) (get_or_push places place 0 i before.count ∙ is)
+    | inr other ↦ get_or_append_left places (place ∷ []) 0 p (let c = before.count in omega arith) ∙ before.at p (omega arith)
+  ];
+}
 
 -- the first states of pairs are the classes that both lists have in common
-pub common_all : (a b both : List ℕ) → length b ≡ length a → AreNumbers (length a) a → AreNumbers (length a) b → AreFirsts (pair_places (length a) a b) both
+pub common_all : (a b places both : List ℕ) → HasPlaces a b places (length a) → AreNumbers (length a) a → AreNumbers (length a) b → AreFirsts places both
     → AreCommon a b both
-common_all a b both count small_a small_b are = record {
+common_all a b places both has small_a small_b are = record {
   numbers = record {
     count = are.count ∙ long;
     below = λ p there. subst (λ n. get_or both p 0 < n) long (are.within p (let l = long in omega arith));
@@ -39,8 +38,8 @@ common_all a b both count small_a small_b are = record {
       let same = are.same p q (let l = long in omega arith) (let l = long in omega arith) in
       let at_p = slice_get-get_or places p 0 (let l = long in omega arith) in
       let at_q = slice_get-get_or places q 0 (let l = long in omega arith) in
-      let place_p = pair_place_at n a b p count lp in
-      let place_q = pair_place_at n a b q count lq in (
+      let place_p = has.at p lp in
+      let place_q = has.at q lq in (
         λ e.
             let equal : get_or a p 0 * n + get_or b p 0 ≡ get_or a q 0 * n + get_or b q 0 =
             sym place_p ∙ same_Some (get_or places p 0) (get_or places q 0) (sym at_p ∙ same.0 e ∙ at_q) ∙ place_q in (
@@ -57,11 +56,8 @@ common_all a b both count small_a small_b are = record {
     n : ℕ
     n = length a
 
-    places : List ℕ
-    places = pair_places n a b
-
     long : length places ≡ length a
-    long = length-pair_places n a b count
+    long = has.count
 
 -- the classes that the automata of two lists have in common are those of both lists of automata
 pub classes_by_both : (first rest : List Automaton) (a : Automaton) (x y both : List ℕ) → AreClassesBy first a x → AreClassesBy rest a y → AreCommon x y both

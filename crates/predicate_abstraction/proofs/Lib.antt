@@ -1,6 +1,8 @@
 pub mod Adding
+pub mod Blocks
 pub mod ClassPairs
 pub mod Edges
+pub mod Links
 pub mod Marks
 pub mod Parts
 pub mod Reverses

@@ -7,6 +7,7 @@ use Rattle.std.proofs.lemmas.List.Elements.{All-nil, Contains-append_left, Conta
 use Rattle.word_automata.specs.Path.{edges_of}
 use Rattle.word_automata.specs.Automaton.{Automaton, accepts_from}
 use Rattle.word_automata.specs.Nondeterministic.{NondeterministicAutomaton, IsInRange}
+use Rattle.word_automata.proofs.Edges.{accepting_within}
 use Rattle.word_automata.proofs.Members.{Contains-none}
 use Rattle.word_automata.proofs.Rows.{All-edges_of}
 use Rattle.predicate_abstraction.specs.Predicates.{SharesWord}
@@ -14,7 +15,7 @@ use Rattle.predicate_abstraction.specs.Pairs.{Pairs, AddsPairs}
 use Rattle.predicate_abstraction.specs.Reversal.{IsReverse}
 use Rattle.predicate_abstraction.specs.Sources.{AreSourcesByLetter}
 use Rattle.predicate_abstraction.specs.SharedWords.{AreShared, SharesWords, AreAccepting, AreSources}
-use Rattle.predicate_abstraction.proofs.Edges.{accepting_within, accepts_along, accepts_first}
+use Rattle.predicate_abstraction.proofs.Edges.{accepts_along, accepts_first}
 use Rattle.predicate_abstraction.proofs.SourceLists.{letter_within}
 
 -- the pairs of accepting states

@@ -1,26 +1,25 @@
 -- Two states that share a word share a short one, so states are related by predicates exactly where their signatures are equal.
-use Rattle.std.specs.Prelude.{◌≡◌, ◌↔◌, ◌⊎◌, ◌<◌, ◌≤◌, ◌+◌, ◌*◌, ◌++◌, ◌&&◌, ◌||◌, ℕ, zero, suc, Bool, true}
-use Rattle.std.specs.Prelude.{false, nat_eq, List, [], ◌∷◌, None, Some, IsTrue, All, Contains, map, take, length, get_or, if◌then◌else◌}
+use Rattle.std.specs.Prelude.{◌≡◌, ◌↔◌, ◌⊎◌, ◌<◌, ◌≤◌, ◌+◌, ◌*◌, ◌++◌, ◌&&◌, ℕ, zero, suc, Bool, true}
+use Rattle.std.specs.Prelude.{false, nat_eq, List, [], ◌∷◌, IsTrue, Contains, map, take, length, get_or}
 use Rattle.std.specs.List.{IsDistinct, flat_map, list_any, range_with_len, sum_by}
 use Rattle.std.proofs.Common.{refl, sym, ap, subst, ◌∙◌, inl, inr, arith}
 use Rattle.std.proofs.lemmas.Bool.{cases_Bool, and_parts, and_from, or_cases, true≢false, false≢true, eqb-true}
 use Rattle.std.proofs.Math.Nat.{mul_comm}
 use Rattle.std.proofs.lemmas.Nat.{mul-add-lt, same_from_place}
-use Rattle.std.proofs.lemmas.List.{length-append, get_or_default, same_lists}
-use Rattle.std.proofs.lemmas.List.Concat.{flat_map-cons, get_or-flat_map, length-flat_map}
+use Rattle.std.proofs.lemmas.List.{length-append, same_lists}
+use Rattle.std.proofs.lemmas.List.Concat.{get_or-flat_map}
 use Rattle.std.proofs.lemmas.List.Folds.{list_any_at}
 use Rattle.std.proofs.lemmas.List.Sums.{sum_by-cons}
 use Rattle.std.proofs.lemmas.List.FromFn.{length-map-range_with_len, get_or-map-range_with_len}
 use Rattle.word_automata.proofs.Members.{Contains-here, Contains-there}
 use Rattle.std.proofs.lemmas.Map.Steps.{length-le_from_distinct_below}
 use Rattle.word_automata.specs.Automaton.{Automaton, accepts_from, IsValid}
-use Rattle.abstraction.specs.Merging.{Key}
 use Rattle.abstraction.specs.BoundedWords.{words_up_to}
 use Rattle.abstraction.proofs.ListMembers.{distinct_more, some_passes}
-use Rattle.abstraction.proofs.MergedWords.{accepting_within, leads_within}
+use Rattle.word_automata.proofs.Edges.{accepting_within, leads_within}
 use Rattle.abstraction.proofs.BoundedWordLemmas.{contains_accepted}
-use Rattle.predicate_abstraction.specs.Predicates.{SharesWord, is_related}
-use Rattle.predicate_abstraction.specs.Signatures.{shares_word, signature, tests, RelatedBySignature}
+use Rattle.predicate_abstraction.specs.Predicates.{SharesWord}
+use Rattle.predicate_abstraction.specs.Signatures.{shares_word, RelatedBySignature}
 use Rattle.predicate_abstraction.specs.PredicateLaws.{accepts_first, accepts_along}
 
 module _ (a b : Automaton) where

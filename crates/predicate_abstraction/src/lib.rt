@@ -2,9 +2,11 @@
 //! (Bouajjani, Habermehl and Vojnar, CAV 2004). A refuted set is one more of these automata.
 #![tactic(auto)]
 
+mod columns;
 mod common_classes;
 mod laws;
 mod pair_set;
+mod partition;
 mod place;
 mod predicates;
 mod reversal;

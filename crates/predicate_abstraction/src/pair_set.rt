@@ -1,6 +1,6 @@
 //! Sets of pairs of small numbers: a mark for each possible pair, and the pairs in the order in which they were added.
 
-ghost use Rattle.std.specs.Prelude.{◌≡◌, ◌↔◌, ◌<◌, ◌*◌, ◌+◌, ◌^◌, [], Some, Contains, IsTrue, IfOk, OnOk, length, slice_get};
+ghost use Rattle.std.specs.Prelude.{◌≡◌, ◌<◌, [], Some, IfOk, OnOk, length, slice_get};
 ghost use Rattle.predicate_abstraction.specs.Pairs.{AddsPairs};
 
 use crate::place::place;
@@ -42,6 +42,13 @@ impl PairSet {
         })
     }
 
+    /// The number of columns.
+    pub fn columns(&self) -> usize
+        ensures { result ≡ self.now.columns }
+    {
+        self.columns
+    }
+
     /// The number of pairs in the set.
     pub fn len(&self) -> usize
         ensures { result ≡ length self.now.pairs }
@@ -58,15 +65,6 @@ impl PairSet {
     {
         let _ = &self.rows; // pairs are in range
         self.pairs[number]
-    }
-
-    /// Whether the pair is in the set.
-    pub fn contains(&self, row: usize, column: usize) -> bool
-        requires row { row < self.now.rows }
-        requires column { column < self.now.columns }
-        ensures { IsTrue result ↔ Contains self.now.pairs (row, column) }
-    {
-        self.marks[place(self.rows, self.columns, row, column)]
     }
 
     /// Adds the pair, if it is not in the set.

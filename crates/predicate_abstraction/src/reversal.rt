@@ -1,7 +1,6 @@
 //! The edges of an automaton, turned round.
 
-ghost use Rattle.std.specs.Prelude.{◌≡◌, ◌<◌, ◌+◌, [], IfOk, OnOk, length};
-ghost use Rattle.word_automata.specs.Path.{edges_of};
+ghost use Rattle.std.specs.Prelude.{◌<◌, ◌+◌, [], IfOk, OnOk, length};
 ghost use Rattle.predicate_abstraction.specs.Reversal.{IsReverse, HasReversed};
 
 use std::alloc::{AllocError, Global};

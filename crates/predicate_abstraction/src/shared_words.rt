@@ -2,7 +2,6 @@
 //! is visited once, so that it takes time linear in the pairs of edges with the same letter.
 
 ghost use Rattle.std.specs.Prelude.{◌≡◌, ◌<◌, All, IfOk, IfSome, OnOk, length};
-ghost use Rattle.word_automata.specs.Path.{is_accepting};
 ghost use Rattle.predicate_abstraction.specs.Pairs.{AddsPairs};
 ghost use Rattle.predicate_abstraction.specs.Sources.{AreSourcesByLetter};
 ghost use Rattle.predicate_abstraction.specs.SharedWords.{AreShared, SharesWords, IsAcceptingIn, IsSource, AreSources};

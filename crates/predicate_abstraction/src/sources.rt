@@ -1,7 +1,6 @@
 //! The edges of an automaton by the state that they lead into and by their letter.
 
-ghost use Rattle.std.specs.Prelude.{◌≡◌, ◌<◌, ◌*◌, ◌+◌, [], IfOk, OnOk, length};
-ghost use Rattle.word_automata.specs.Path.{edges_of};
+ghost use Rattle.std.specs.Prelude.{◌<◌, ◌+◌, [], IfOk, OnOk, length};
 ghost use Rattle.predicate_abstraction.specs.Sources.{AreSourcesByLetter, HasSources};
 
 use crate::place::place;

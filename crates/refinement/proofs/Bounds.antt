@@ -1,9 +1,9 @@
 -- A larger budget keeps a history that is decided, and a run bounds the rounds.
-use Rattle.std.proofs.Common.{◌≡◌, ◌≢◌, ◌<◌, ◌≤◌, ◌+◌, ◌∙◌, ℕ, zero, suc, List, [], ◌∷◌, Option, None, Some, IsTrue, length, arith, refl, sym, subst, reverse, inr}
+use Rattle.std.proofs.Common.{◌≡◌, ◌≢◌, ◌≤◌, ◌+◌, ℕ, zero, suc, List, [], ◌∷◌, Option, Some, IsTrue, length, arith, refl, sym, subst, reverse, inr}
 use Rattle.std.specs.List.{last_or, AllByRecursion}
 use Rattle.word_automata.specs.Automaton.{Automaton, accepts}
 use Rattle.safety_problem.specs.Task.{Task}
-use Rattle.abstraction.specs.Merging.{Key, IsMerged}
+use Rattle.abstraction.specs.Merging.{Key}
 use Rattle.search_history.specs.Rounds.{Relation, Forward, spent_before_merging, stops, goes_on, IsRound, IsEndAt, GoesOnFrom}
 use Rattle.search_history.specs.Replays.{Backward, Level, levels, IsReplayFrom, IsReplayEndAt}
 use Rattle.search_history.specs.Replays.{stops as ends_back, goes_on as goes_back}

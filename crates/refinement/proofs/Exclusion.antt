@@ -9,7 +9,7 @@ use Rattle.safety_problem.specs.Task.{Task, IsAutomatonOf}
 use Rattle.abstraction.specs.Merging.{Key, IsMerged}
 use Rattle.abstraction.specs.Excluding.{Misses, MergedMisses, refined_by, Excludes}
 use Rattle.search_history.specs.Rounds.{Relation, Forward, spent_before_merging, stops, goes_on, IsReachedBy, IsRound, IsEndAt, MeetsBadWords}
-use Rattle.search_history.specs.Replays.{Backward, Level, level_of, levels, IsReplayFrom, IsReplayEndAt, IsInBoth, AreDisjoint}
+use Rattle.search_history.specs.Replays.{Backward, Level, level_of, levels, IsReplayFrom, IsReplayEndAt, AreDisjoint}
 use Rattle.search_history.specs.Replays.{stops as ends_back, goes_on as goes_back}
 use Rattle.search_history.specs.Histories.{Method, SearchRound, IsSearchRound, IsReplayed, History, ends}
 use Rattle.search_history.specs.Histories.{goes_on as goes_round}
@@ -17,7 +17,7 @@ use Rattle.search_history.specs.declared.round.RoundEnd.{RoundEnd}
 use Rattle.search_history.specs.declared.round.RoundEnd.TheVariants.{Closed, MeetsBad, Spent}
 use Rattle.search_history.specs.declared.log.LogEnd.{LogEnd}
 use Rattle.search_history.specs.declared.log.LogEnd.TheVariants as log_end
-use Rattle.refinement.specs.Exclusion.{IsRefutedBy, StaysOut, IsNotRefutedAgain, AreRefutedOnce}
+use Rattle.refinement.specs.Exclusion.{StaysOut, IsNotRefutedAgain, AreRefutedOnce}
 
 refined_by-last : (next : Key → Automaton → Key) (key : Key) (xs : List Automaton) (y : Automaton)
     → refined_by next key (xs ++ y ∷ []) ≡ next (refined_by next key xs) y

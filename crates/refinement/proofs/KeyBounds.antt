@@ -1,5 +1,5 @@
 -- The rounds of a history are bounded by their keys.
-use Rattle.std.proofs.Common.{◌≡◌, ◌≤◌, ◌^◌, ℕ, Bool, List, Some, length, sym, subst, ◌∙◌}
+use Rattle.std.proofs.Common.{◌≤◌, ◌^◌, ℕ, Bool, List, length, sym, subst, ◌∙◌}
 use Rattle.std.proofs.lemmas.Option.{same_Some}
 use Rattle.word_automata.specs.Automaton.{Automaton}
 use Rattle.safety_problem.specs.Task.{Task}

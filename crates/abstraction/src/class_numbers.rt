@@ -1,8 +1,9 @@
-//! Classes of states by their first states.
+//! Numbers of classes: each class has that of its first state. It takes time linear in the states, on average.
 
-ghost use Rattle.std.specs.Prelude.{◌≡◌, ◌⊎◌, IfOk, nat_eq};
+ghost use Rattle.std.specs.Prelude.{◌⊎◌, IfOk, nat_eq};
 ghost use Rattle.std.specs.HashMap.{get};
-ghost use Rattle.abstraction.specs.ClassAutomata.{AreFirsts, IsKnownFirst, IsNewFirst};
+ghost use Rattle.abstraction.specs.FirstStates.{AreFirsts};
+ghost use Rattle.abstraction.specs.ClassAutomata.{IsKnownFirst, IsNewFirst};
 
 use std::alloc::{AllocError, Global};
 use std::collections::HashMap;
