@@ -1,21 +1,21 @@
 -- Lemmas on the machines for moves that change two positions.
-use Rattle.std.proofs.Common.{◌≡◌, ℕ, zero, suc, ◌+◌, ◌-◌, ◌<◌, ◌≤◌, false, List, [], ◌∷◌, ◌++◌, Contains, refl, sym, ap, ◌∙◌, subst, inl}
+use Rattle.std.proofs.Common.{◌≡◌, ◌↔◌, ℕ, zero, suc, ◌+◌, ◌-◌, ◌<◌, ◌≤◌, false, List, [], ◌∷◌, ◌++◌, Contains, refl, sym, ap, ◌∙◌, subst, inl}
 use Rattle.std.proofs.Common.{inr, arith, IsTrue, ◌⊎◌, true≢false, All}
-use Rattle.std.proofs.lemmas.List.Elements.{All-from_recursion, All-append, Contains-append_cases, Contains-append_right}
-use Rattle.word_automata.specs.Path.{Node, edges_of, is_accepting, IsPath}
+use Rattle.std.proofs.lemmas.List.Elements.{All-from_recursion, All-append, Contains-append_cases}
+use Rattle.word_automata.specs.Path.{Node, edges_of, is_accepting}
 use Rattle.transducers.specs.declared.Label.{Label}
-use Rattle.transducers.specs.Transducer.{IsEdge, IsValid, Relates, RelatesFrom, IsAccessible, IsTrim}
+use Rattle.transducers.specs.Transducer.{IsEdge, IsValid, Relates}
 use Rattle.transducers.specs.Combination.{exchange, copy_edges}
-use Rattle.transducers.proofs.ExchangeLemmas.{RelatesFrom-exchanges}
 use Rattle.transducers.proofs.CopyLemmas.{IsEdge-copies, exchange_from_copy, copy_from_edge, Contains-single, nothing_in_nil}
-use Rattle.protocol_model.specs.System.{AllBelow}
-use Rattle.protocol_model.specs.Words.{raised}
-use Rattle.protocol_model.specs.Moves.{IsPairMove, IsRingMove, IsTwoMove, ChangesTwo}
+use Rattle.protocol_model.specs.declared.system.Move.{Move}
+use Rattle.protocol_model.specs.declared.system.Move.TheVariants.{At, Pair, Ring, Two, Set, Send, Recv, Stack}
+use Rattle.protocol_model.specs.System.{AllBelow, IsValidMove}
+use Rattle.protocol_model.specs.Moves.{IsMove, IsPairMove, IsRingMove, IsTwoMove, ChangesTwo}
 use Rattle.protocol_model.specs.Raised.{IsRaisedMove}
 use Rattle.protocol_model.proofs.Below.{AllBelow-left, AllBelow-right}
-use Rattle.array_moves.specs.Fixed.{exchange_edge, pair_states, ring_states, two_states}
+use Rattle.array_moves.specs.Fixed.{exchange_edge, pair_states, ring_states, two_states, fixed_states, ChangesTwoPositions}
 use Rattle.array_moves.proofs.LetterLemmas.{nothing_below_zero, same_exchange, HasLetters, Changes}
-use Rattle.array_moves.proofs.LetterLemmas.{exchanges_from_Changes, Relates-raised, Leaves, leave, stay, enter}
+use Rattle.array_moves.proofs.LetterLemmas.{Relates-raised, Leaves, leave, stay, enter}
 
 -- an edge of a list of one or two
 Contains-first : {X : Type 0} (x : X) (xs : List X) → Contains (x ∷ xs) x
@@ -139,7 +139,7 @@ module _ (offset : ℕ) (states : List (Node Label)) (p n x y q : ℕ) where
       by (inr l) = leaves_by (exchange_edge offset x y q ∷ []) s t l (Contains-single (exchange_edge offset x y q) _ l.edge)
 
 module _ (a b c d offset count : ℕ) (valid : AllBelow count (a ∷ b ∷ c ∷ d ∷ [])) where
-  pub pair_valid : (letters : ℕ) → offset + count ≤ letters
+  pair_valid : (letters : ℕ) → offset + count ≤ letters
       → IsValid (record { letters = letters; starts = 0 ∷ []; states = pair_states a b c d offset count })
   pair_valid letters fits =
       record {
@@ -161,7 +161,7 @@ module _ (a b c d offset count : ℕ) (valid : AllBelow count (a ∷ b ∷ c ∷
         );
       }
 
-  pub ring_valid : (letters : ℕ) → offset + count ≤ letters
+  ring_valid : (letters : ℕ) → offset + count ≤ letters
       → IsValid (record { letters = letters; starts = 0 ∷ []; states = ring_states a b c d offset count })
   ring_valid letters fits =
       record {
@@ -183,7 +183,7 @@ module _ (a b c d offset count : ℕ) (valid : AllBelow count (a ∷ b ∷ c ∷
         );
       }
 
-  pub two_valid : (letters : ℕ) → offset + count ≤ letters
+  two_valid : (letters : ℕ) → offset + count ≤ letters
       → IsValid (record { letters = letters; starts = 0 ∷ []; states = two_states a b c d offset count })
   two_valid letters fits =
       record {
@@ -361,143 +361,46 @@ module _ (a b c d offset count : ℕ) (valid : AllBelow count (a ∷ b ∷ c ∷
       (Contains-second (exchange_edge offset a c 1) (exchange_edge offset b d 2) [])
 
   module _ (letters : ℕ) (u w : List ℕ) where
-    pub pair_relates : (Relates (record { letters = letters; starts = 0 ∷ []; states = pair_states a b c d offset count }) u w
+    pair_relates : (Relates (record { letters = letters; starts = 0 ∷ []; states = pair_states a b c d offset count }) u w
         → IsRaisedMove (IsPairMove a b c d) offset count u w)
         × (IsRaisedMove (IsPairMove a b c d) offset count u w
         → Relates (record { letters = letters; starts = 0 ∷ []; states = pair_states a b c d offset count }) u w)
     pair_relates = Relates-raised offset count (pair_states a b c d offset count) pair_letters letters (IsPairMove a b c d) pair_there
         pair_back u w
 
-    pub ring_relates : (Relates (record { letters = letters; starts = 0 ∷ []; states = ring_states a b c d offset count }) u w
+    ring_relates : (Relates (record { letters = letters; starts = 0 ∷ []; states = ring_states a b c d offset count }) u w
         → IsRaisedMove (IsRingMove a b c d) offset count u w)
         × (IsRaisedMove (IsRingMove a b c d) offset count u w
         → Relates (record { letters = letters; starts = 0 ∷ []; states = ring_states a b c d offset count }) u w)
     ring_relates = Relates-raised offset count (ring_states a b c d offset count) ring_letters letters (IsRingMove a b c d) ring_there
         ring_back u w
 
-    pub two_relates : (Relates (record { letters = letters; starts = 0 ∷ []; states = two_states a b c d offset count }) u w
+    two_relates : (Relates (record { letters = letters; starts = 0 ∷ []; states = two_states a b c d offset count }) u w
         → IsRaisedMove (IsTwoMove a b c d) offset count u w)
         × (IsRaisedMove (IsTwoMove a b c d) offset count u w
         → Relates (record { letters = letters; starts = 0 ∷ []; states = two_states a b c d offset count }) u w)
     two_relates = Relates-raised offset count (two_states a b c d offset count) two_has_letters letters (IsTwoMove a b c d) two_there
         two_back u w
 
--- trim machines
-module _ (letters offset count : ℕ) (states : List (Node Label)) where
-  -- a state from which some lists are changed reaches an accepting state
-  live : (p : ℕ) (s t : List ℕ) → Changes offset states p s t → (u w : List ℕ)
-      × RelatesFrom (record { letters = letters; starts = 0 ∷ []; states = states }) p u w
-  live p s t h = (
-    raised offset s,
-    raised offset t,
-    RelatesFrom-exchanges (record { letters = letters; starts = 0 ∷ []; states = states })
-        (raised offset s) (raised offset t) p (exchanges_from_Changes offset states s t p h),
-  )
+-- the machine of a move that changes two positions
+pub fixed_valid : (m : Move) (offset count letters : ℕ) → ChangesTwoPositions m → IsValidMove count m → offset + count ≤ letters
+    → IsValid (record { letters = letters; starts = 0 ∷ []; states = fixed_states m offset count })
+fixed_valid (At f t guards table) offset count letters two valid fits = absurd two
+fixed_valid (Pair a b c d) offset count letters two valid fits = pair_valid a b c d offset count valid letters fits
+fixed_valid (Ring a b c d) offset count letters two valid fits = ring_valid a b c d offset count valid letters fits
+fixed_valid (Two a b c d) offset count letters two valid fits = two_valid a b c d offset count valid letters fits
+fixed_valid (Set a b) offset count letters two valid fits = absurd two
+fixed_valid (Send a) offset count letters two valid fits = absurd two
+fixed_valid (Recv a) offset count letters two valid fits = absurd two
+fixed_valid (Stack pop push) offset count letters two valid fits = absurd two
 
-  -- a state at the end of a path from state 0 is accessible
-  reached : (p : ℕ) (moves : List (Label × ℕ)) → IsPath states 0 moves p
-      → IsAccessible (record { letters = letters; starts = 0 ∷ []; states = states }) p
-  reached p moves path = record { start = 0; is_start = (0, omega arith, refl); moves = moves; path = path }
-
-  further_edge : (p n to : ℕ) (further : List (Label × ℕ)) (edge : Label × ℕ) → edges_of states p ≡ copy_edges offset n to ++ further
-      → Contains further edge → Contains (edges_of states p) edge
-  further_edge p n to further edge edges h = subst (λ es. Contains es edge) (sym edges)
-      (Contains-append_right (copy_edges offset n to) further edge h)
-
-module _ (a b c d letters offset count : ℕ) where
-  pub pair_trim : IsTrim (record { letters = letters; starts = 0 ∷ []; states = pair_states a b c d offset count })
-  pair_trim = record { accessible = there; coaccessible = back }
-    where
-      one : Contains (edges_of (pair_states a b c d offset count) 0) (exchange_edge offset a c 1)
-      one = further_edge letters offset count (pair_states a b c d offset count) 0 count 0 (exchange_edge offset a c 1
-          ∷ []) (exchange_edge offset a c 1) refl (Contains-first (exchange_edge offset a c 1) [])
-
-      two : Contains (edges_of (pair_states a b c d offset count) 1) (exchange_edge offset b d 2)
-      two = further_edge letters offset count (pair_states a b c d offset count) 1 0 1 (exchange_edge offset b d 2
-          ∷ []) (exchange_edge offset b d 2) refl (Contains-first (exchange_edge offset b d 2) [])
-
-      third : Changes offset (pair_states a b c d offset count) 2 [] []
-      third = refl
-
-      there : (p : ℕ) → p < 3 → IsAccessible (record { letters = letters; starts = 0 ∷ []; states = pair_states a b c d offset count }) p
-      there zero h = reached letters offset count (pair_states a b c d offset count) 0 [] refl
-      there (suc zero) h = reached letters offset count (pair_states a b c d offset count) 1 (exchange_edge offset a c 1 ∷ []) (one, refl)
-      there (suc (suc zero)) h = reached letters offset count (pair_states a b c d offset count) 2 (exchange_edge offset a c 1
-          ∷ exchange_edge offset b d 2 ∷ []) (one, (two, refl))
-      there (suc (suc (suc p))) h = absurd (omega arith)
-
-      back : (p : ℕ) → p < 3 → (u w : List ℕ) × RelatesFrom
-          (record { letters = letters; starts = 0 ∷ []; states = pair_states a b c d offset count }) p u w
-      back zero h = live letters offset count (pair_states a b c d offset count) 0 (a ∷ b ∷ []) (c ∷ d ∷ []) (1, one, (2, two, third))
-      back (suc zero) h = live letters offset count (pair_states a b c d offset count) 1 (b ∷ []) (d ∷ []) (2, two, third)
-      back (suc (suc zero)) h = live letters offset count (pair_states a b c d offset count) 2 [] [] third
-      back (suc (suc (suc p))) h = absurd (omega arith)
-
-  pub ring_trim : IsTrim (record { letters = letters; starts = 0 ∷ []; states = ring_states a b c d offset count })
-  ring_trim = record { accessible = there; coaccessible = back }
-    where
-      one : Contains (edges_of (ring_states a b c d offset count) 0) (exchange_edge offset b d 1)
-      one = further_edge letters offset count (ring_states a b c d offset count) 0 0 0 (exchange_edge offset b d 1
-          ∷ []) (exchange_edge offset b d 1) refl (Contains-first (exchange_edge offset b d 1) [])
-
-      two : Contains (edges_of (ring_states a b c d offset count) 1) (exchange_edge offset a c 2)
-      two = further_edge letters offset count (ring_states a b c d offset count) 1 count 1 (exchange_edge offset a c 2
-          ∷ []) (exchange_edge offset a c 2) refl (Contains-first (exchange_edge offset a c 2) [])
-
-      third : Changes offset (ring_states a b c d offset count) 2 [] []
-      third = refl
-
-      there : (p : ℕ) → p < 3 → IsAccessible (record { letters = letters; starts = 0 ∷ []; states = ring_states a b c d offset count }) p
-      there zero h = reached letters offset count (ring_states a b c d offset count) 0 [] refl
-      there (suc zero) h = reached letters offset count (ring_states a b c d offset count) 1 (exchange_edge offset b d 1 ∷ []) (one, refl)
-      there (suc (suc zero)) h = reached letters offset count (ring_states a b c d offset count) 2 (exchange_edge offset b d 1
-          ∷ exchange_edge offset a c 2 ∷ []) (one, (two, refl))
-      there (suc (suc (suc p))) h = absurd (omega arith)
-
-      back : (p : ℕ) → p < 3 → (u w : List ℕ) × RelatesFrom
-          (record { letters = letters; starts = 0 ∷ []; states = ring_states a b c d offset count }) p u w
-      back zero h = live letters offset count (ring_states a b c d offset count) 0 (b ∷ a ∷ []) (d ∷ c ∷ []) (1, one, (2, two, third))
-      back (suc zero) h = live letters offset count (ring_states a b c d offset count) 1 (a ∷ []) (c ∷ []) (2, two, third)
-      back (suc (suc zero)) h = live letters offset count (ring_states a b c d offset count) 2 [] [] third
-      back (suc (suc (suc p))) h = absurd (omega arith)
-
-  pub two_trim : IsTrim (record { letters = letters; starts = 0 ∷ []; states = two_states a b c d offset count })
-  two_trim = record { accessible = there; coaccessible = back }
-    where
-      one : Contains (edges_of (two_states a b c d offset count) 0) (exchange_edge offset a c 1)
-      one = further_edge letters offset count (two_states a b c d offset count) 0 count 0 (exchange_edge offset a c 1
-          ∷ exchange_edge offset b d 2 ∷ []) (exchange_edge offset a c 1) refl
-          (Contains-first (exchange_edge offset a c 1) (exchange_edge offset b d 2 ∷ []))
-
-      two : Contains (edges_of (two_states a b c d offset count) 0) (exchange_edge offset b d 2)
-      two = further_edge letters offset count (two_states a b c d offset count) 0 count 0 (exchange_edge offset a c 1
-          ∷ exchange_edge offset b d 2 ∷ []) (exchange_edge offset b d 2) refl
-          (Contains-second (exchange_edge offset a c 1) (exchange_edge offset b d 2) [])
-
-      three : Contains (edges_of (two_states a b c d offset count) 1) (exchange_edge offset b d 3)
-      three = further_edge letters offset count (two_states a b c d offset count) 1 count 1 (exchange_edge offset b d 3
-          ∷ []) (exchange_edge offset b d 3) refl (Contains-first (exchange_edge offset b d 3) [])
-
-      four : Contains (edges_of (two_states a b c d offset count) 2) (exchange_edge offset a c 3)
-      four = further_edge letters offset count (two_states a b c d offset count) 2 count 2 (exchange_edge offset a c 3
-          ∷ []) (exchange_edge offset a c 3) refl (Contains-first (exchange_edge offset a c 3) [])
-
-      fourth : Changes offset (two_states a b c d offset count) 3 [] []
-      fourth = refl
-
-      there : (p : ℕ) → p < 4 → IsAccessible (record { letters = letters; starts = 0 ∷ []; states = two_states a b c d offset count }) p
-      there zero h = reached letters offset count (two_states a b c d offset count) 0 [] refl
-      there (suc zero) h = reached letters offset count (two_states a b c d offset count) 1 (exchange_edge offset a c 1 ∷ []) (one, refl)
-      there (suc (suc zero)) h = reached letters offset count (two_states a b c d offset count) 2 (exchange_edge offset b d 2
-          ∷ []) (two, refl)
-      there (suc (suc (suc zero))) h = reached letters offset count (two_states a b c d offset count) 3 (exchange_edge offset a c 1
-          ∷ exchange_edge offset b d 3 ∷ []) (one, (three, refl))
-      there (suc (suc (suc (suc p)))) h = absurd (omega arith)
-
-      back : (p : ℕ) → p < 4 → (u w : List ℕ) × RelatesFrom
-          (record { letters = letters; starts = 0 ∷ []; states = two_states a b c d offset count }) p u w
-      back zero h = live letters offset count (two_states a b c d offset count) 0 (a ∷ b ∷ []) (c ∷ d ∷ []) (1, one, (3, three, fourth))
-      back (suc zero) h = live letters offset count (two_states a b c d offset count) 1 (b ∷ []) (d ∷ []) (3, three, fourth)
-      back (suc (suc zero)) h = live letters offset count (two_states a b c d offset count) 2 (a ∷ []) (c ∷ []) (3, four, fourth)
-      back (suc (suc (suc zero))) h = live letters offset count (two_states a b c d offset count) 3 [] [] fourth
-      back (suc (suc (suc (suc p)))) h = absurd (omega arith)
+pub fixed_relates : (m : Move) (offset count letters : ℕ) → ChangesTwoPositions m → IsValidMove count m → (u w : List ℕ)
+    → Relates (record { letters = letters; starts = 0 ∷ []; states = fixed_states m offset count }) u w ↔ IsRaisedMove (IsMove m) offset count u w
+fixed_relates (At f t guards table) offset count letters two valid u w = absurd two
+fixed_relates (Pair a b c d) offset count letters two valid u w = pair_relates a b c d offset count valid letters u w
+fixed_relates (Ring a b c d) offset count letters two valid u w = ring_relates a b c d offset count valid letters u w
+fixed_relates (Two a b c d) offset count letters two valid u w = two_relates a b c d offset count valid letters u w
+fixed_relates (Set a b) offset count letters two valid u w = absurd two
+fixed_relates (Send a) offset count letters two valid u w = absurd two
+fixed_relates (Recv a) offset count letters two valid u w = absurd two
+fixed_relates (Stack pop push) offset count letters two valid u w = absurd two

@@ -1,7 +1,6 @@
 mod LetterLemmas
 mod FixedLemmas
-mod PhaseLemmas
+mod ControlLemmas
 mod GuardLemmas
 mod RunLemmas
 mod MachineLemmas
-mod TrimLemmas

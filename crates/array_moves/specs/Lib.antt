@@ -1,3 +1,3 @@
 pub mod Fixed
 pub mod Flags
-pub mod Phases
+pub mod ControlStates

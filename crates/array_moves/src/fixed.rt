@@ -1,81 +1,50 @@
 //! The moves that change two positions.
 //! Each machine has three or four states, which copy the other positions.
 
-ghost use Rattle.std.specs.Prelude.{◌≡◌, ◌↔◌, ◌≤◌, ◌<◌, ◌+◌, ◌^◌, ◌∷◌, List, [], ℕ, IfOk, length};
-ghost use Rattle.protocol_model.specs.System.{AllBelow};
-ghost use Rattle.protocol_model.specs.Moves.{IsPairMove, IsRingMove, IsTwoMove};
-ghost use Rattle.transducers.specs.Transducer.{Relates, IsTrim};
+ghost use Rattle.std.specs.Prelude.{◌≡◌, ◌↔◌, ◌≤◌, ◌<◌, ◌+◌, ◌^◌, ◌∷◌, List, [], ℕ, IfOk};
+ghost use Rattle.protocol_model.specs.System.{AllBelow, IsValidMove};
+ghost use Rattle.protocol_model.specs.Moves.{IsMove};
+ghost use Rattle.transducers.specs.Transducer.{Relates};
 ghost use Rattle.protocol_model.specs.Raised.{IsRaisedMove};
-ghost use Rattle.array_moves.specs.Fixed.{exchange_edge, copying_node, pair_states, ring_states, two_states};
+ghost use Rattle.array_moves.specs.Fixed.{exchange_edge, copying_node, pair_states, ring_states, two_states, fixed_states, ChangesTwoPositions};
 
 use crate::Alphabet;
+use protocol_model::Move;
 use std::alloc::{AllocError, Global};
 use transducers::{Label, State, Transducer, copy_edges};
 
-/// The machine for `pair a b -> c d`: two neighbours `a b` become `c d`.
-pub(crate) fn compile_pair(
+/// The machine for a move that changes two positions: two neighbours, the last letter and the first one, or any two in
+/// either order.
+pub(crate) fn compile_fixed(
     alloc: Global,
-    a: u32,
-    b: u32,
-    c: u32,
-    d: u32,
+    step: &Move,
     alphabet: Alphabet,
 ) -> Result<Transducer, AllocError>
-    requires valid { AllBelow alphabet.count (a ∷ b ∷ c ∷ d ∷ []) }
+    requires two { ChangesTwoPositions step.now }
+    requires valid { IsValidMove alphabet.count step.now }
     requires fits { alphabet.offset + alphabet.count ≤ alphabet.letters }
     ensures letters { IfOk result (λ t. t.letters ≡ alphabet.letters) }
-    ensures size { IfOk result (λ t. length t.states ≤ 32) }
-    ensures trim { IfOk result IsTrim }
     ensures relates { IfOk result (λ t. (u w : List ℕ) → Relates t u w
-        ↔ IsRaisedMove (IsPairMove a b c d) alphabet.offset alphabet.count u w) }
+        ↔ IsRaisedMove (IsMove step.now) alphabet.offset alphabet.count u w) }
 {
-    let states = pair_states(alloc, a, b, c, d, alphabet)?;
+    let states = fixed_states(alloc, step, alphabet)?;
     let starts = vec![in alloc; 0]?;
     Ok(Transducer::from_states(alphabet.letters, starts, states))
 }
 
-/// The machine for `ring a b -> c d`: the last letter `a` becomes `c`, and the first letter `b` becomes `d`.
-pub(crate) fn compile_ring(
-    alloc: Global,
-    a: u32,
-    b: u32,
-    c: u32,
-    d: u32,
-    alphabet: Alphabet,
-) -> Result<Transducer, AllocError>
-    requires valid { AllBelow alphabet.count (a ∷ b ∷ c ∷ d ∷ []) }
-    requires fits { alphabet.offset + alphabet.count ≤ alphabet.letters }
-    ensures letters { IfOk result (λ t. t.letters ≡ alphabet.letters) }
-    ensures size { IfOk result (λ t. length t.states ≤ 32) }
-    ensures trim { IfOk result IsTrim }
-    ensures relates { IfOk result (λ t. (u w : List ℕ) → Relates t u w
-        ↔ IsRaisedMove (IsRingMove a b c d) alphabet.offset alphabet.count u w) }
+/// The states of the machine.
+fn fixed_states(alloc: Global, step: &Move, alphabet: Alphabet) -> Result<Vec<State>, AllocError>
+    requires two { ChangesTwoPositions step.now }
+    requires valid { IsValidMove alphabet.count step.now }
+    requires fits { alphabet.offset + alphabet.count < 2 ^ 32 }
+    ensures { IfOk result (λ states. states.items ≡ fixed_states step.now alphabet.offset alphabet.count) }
 {
-    let states = ring_states(alloc, a, b, c, d, alphabet)?;
-    let starts = vec![in alloc; 0]?;
-    Ok(Transducer::from_states(alphabet.letters, starts, states))
-}
-
-/// The machine for `two a b -> c d`: two positions, in either order, change from `a` to `c` and from `b` to `d`.
-pub(crate) fn compile_two(
-    alloc: Global,
-    a: u32,
-    b: u32,
-    c: u32,
-    d: u32,
-    alphabet: Alphabet,
-) -> Result<Transducer, AllocError>
-    requires valid { AllBelow alphabet.count (a ∷ b ∷ c ∷ d ∷ []) }
-    requires fits { alphabet.offset + alphabet.count ≤ alphabet.letters }
-    ensures letters { IfOk result (λ t. t.letters ≡ alphabet.letters) }
-    ensures size { IfOk result (λ t. length t.states ≤ 32) }
-    ensures trim { IfOk result IsTrim }
-    ensures relates { IfOk result (λ t. (u w : List ℕ) → Relates t u w
-        ↔ IsRaisedMove (IsTwoMove a b c d) alphabet.offset alphabet.count u w) }
-{
-    let states = two_states(alloc, a, b, c, d, alphabet)?;
-    let starts = vec![in alloc; 0]?;
-    Ok(Transducer::from_states(alphabet.letters, starts, states))
+    match step {
+        Move::Pair { a, b, c, d } => pair_states(alloc, *a, *b, *c, *d, alphabet),
+        Move::Ring { a, b, c, d } => ring_states(alloc, *a, *b, *c, *d, alphabet),
+        Move::Two { a, b, c, d } => two_states(alloc, *a, *b, *c, *d, alphabet),
+        _ => unreachable!(),
+    }
 }
 
 /// Before the first of the two neighbours, between them, and after them.

@@ -1,24 +1,24 @@
 //! The move of one position, with guards on the other positions and a table for them.
-//! The phases that can be reached are found by a worklist, and one from which the guards cannot be met any more is no state.
+//! The control states that can be reached are found by a worklist, and one from which the guards cannot be met any more is no state.
 
 ghost use Rattle.std.specs.Prelude.{◌≡◌, ◌↔◌, ◌≤◌, ◌<◌, ◌+◌, ◌^◌, List, ℕ, Some, IfOk, length, slice_get};
 ghost use Rattle.indexmap.specs.IndexSet.{index_set_len};
 ghost use Rattle.protocol_model.specs.System.{IsValidAt};
 ghost use Rattle.protocol_model.specs.Moves.{IsAtMove};
-ghost use Rattle.transducers.specs.Transducer.{Relates, IsTrim};
+ghost use Rattle.transducers.specs.Transducer.{Relates};
 ghost use Rattle.protocol_model.specs.Raised.{IsRaisedMove};
-ghost use Rattle.array_moves.specs.declared.plan.Phase.{Phase};
-ghost use Rattle.array_moves.specs.Phases.{HasRoom, HasFirst, Numbers, LetterEdges, PhaseEdges, IsMachine, starts_of};
+ghost use Rattle.array_moves.specs.declared.guard_table.ControlState.{ControlState};
+ghost use Rattle.array_moves.specs.ControlStates.{HasRoom, HasFirst, Numbers, LetterEdges, ControlEdges, IsMachine, starts_of};
 
 use crate::Alphabet;
-use crate::plan::{Phase, Plan, plan_of};
+use crate::guard_table::{ControlState, GuardTable, guard_table_of};
 use indexmap::IndexSet;
 use protocol_model::Guard;
 use std::alloc::{AllocError, Global};
 use transducers::{Label, State, Transducer};
 
 /// The machine for an `at` move: a position changes from `from` to `into` where every guard holds, and the table changes
-/// all others. Its states are the phases that can be reached and from which the guards can still be met.
+/// all others. Its states are the control states that can be reached and from which the guards can still be met.
 pub(crate) fn compile_at(
     alloc: Global,
     from: u32,
@@ -30,13 +30,11 @@ pub(crate) fn compile_at(
     requires valid { IsValidAt alphabet.count from into guards.now table.now }
     requires fits { alphabet.offset + alphabet.count ≤ alphabet.letters }
     ensures letters { IfOk result (λ t. t.letters ≡ alphabet.letters) }
-    ensures size { IfOk result (λ t. length t.states ≤ 32) }
-    ensures trim { IfOk result IsTrim }
     ensures relates { IfOk result (λ t. (u w : List ℕ) → Relates t u w
         ↔ IsRaisedMove (IsAtMove from into guards.now table.now) alphabet.offset alphabet.count u w) }
 {
-    let plan = plan_of(alloc, from, into, guards, table, alphabet.count)?;
-    let states = states(alloc, &plan, alphabet)?;
+    let guard_table = guard_table_of(alloc, from, into, guards, table, alphabet.count)?;
+    let states = states(alloc, &guard_table, alphabet)?;
     let starts = starts(alloc, states.as_slice())?;
     Ok(Transducer::from_states(alphabet.letters, starts, states))
 }
@@ -52,72 +50,82 @@ fn starts(alloc: Global, states: &[State]) -> Result<Vec<usize>, AllocError>
     }
 }
 
-/// The states of the phases that can be reached, by their numbers.
-fn states(alloc: Global, plan: &Plan, alphabet: Alphabet) -> Result<Vec<State>, AllocError>
-    requires { HasRoom alphabet.offset alphabet.count plan.now }
-    ensures { IfOk result (λ states. (phases : List Phase) × IsMachine plan.now alphabet.offset alphabet.count phases states.items) }
+/// The states of the control states that can be reached, by their numbers.
+fn states(
+    alloc: Global,
+    guard_table: &GuardTable,
+    alphabet: Alphabet,
+) -> Result<Vec<State>, AllocError>
+    requires { HasRoom alphabet.offset alphabet.count guard_table.now }
+    ensures { IfOk result (λ states. (controls : List ControlState) × IsMachine guard_table.now alphabet.offset alphabet.count controls states.items) }
 {
-    let mut phases = first_phases(alloc, plan)?;
+    let mut controls = first_controls(alloc, guard_table)?;
     let mut states = Vec::new(alloc);
-    'phases: while states.len() < phases.len() {
-        let phase = phase_at(&phases, states.len());
-        let edges = phase_edges(alloc, plan, &mut phases, phase, alphabet)?;
-        states.push(State::new(plan.is_final(phase), edges))?;
+    'controls: while states.len() < controls.len() {
+        let control = control_at(&controls, states.len());
+        let edges = control_edges(alloc, guard_table, &mut controls, control, alphabet)?;
+        states.push(State::new(guard_table.is_final(control), edges))?;
     }
     Ok(states)
 }
 
-/// The first phase, where the guards can be met from there.
-fn first_phases(alloc: Global, plan: &Plan) -> Result<IndexSet<Phase>, AllocError>
-    ensures { IfOk result (λ phases. HasFirst plan.now phases.keys) }
+/// The first control state, where the guards can be met from there.
+fn first_controls(
+    alloc: Global,
+    guard_table: &GuardTable,
+) -> Result<IndexSet<ControlState>, AllocError>
+    ensures { IfOk result (λ controls. HasFirst guard_table.now controls.keys) }
 {
-    let mut phases = IndexSet::new(alloc);
-    let first = Phase {
+    let mut controls = IndexSet::new(alloc);
+    let first = ControlState {
         moved: false,
         met: [false; 4],
     };
-    if plan.can_end(first) {
-        phases.insert(first)?;
+    if guard_table.can_end(first) {
+        controls.insert(first)?;
     }
-    Ok(phases)
+    Ok(controls)
 }
 
-/// The edges that leave the phase. The phases to which they lead are numbered.
-fn phase_edges(
+/// The edges that leave the control state. The control states to which they lead are numbered.
+fn control_edges(
     alloc: Global,
-    plan: &Plan,
-    phases: &mut IndexSet<Phase>,
-    phase: Phase,
+    guard_table: &GuardTable,
+    controls: &mut IndexSet<ControlState>,
+    control: ControlState,
     alphabet: Alphabet,
 ) -> Result<Vec<(Label, usize)>, AllocError>
-    requires { HasRoom alphabet.offset alphabet.count plan.now }
-    ensures { IfOk result (λ edges. PhaseEdges plan.now alphabet.offset alphabet.count phase phases.old.keys phases.new.keys edges.items) }
+    requires { HasRoom alphabet.offset alphabet.count guard_table.now }
+    ensures { IfOk result (λ edges. ControlEdges guard_table.now alphabet.offset alphabet.count control controls.old.keys controls.new.keys edges.items) }
 {
-    let mut edges = letter_edges(alloc, plan, phases, phase, alphabet)?;
-    if let Some(next) = plan.after_move(phase) {
-        let target = number(phases, next)?;
-        let label = Label::exchange(plan.from + alphabet.offset, plan.into + alphabet.offset);
+    let mut edges = letter_edges(alloc, guard_table, controls, control, alphabet)?;
+    if let Some(next) = guard_table.after_move(control) {
+        let target = number(controls, next)?;
+        let label = Label::exchange(
+            guard_table.from + alphabet.offset,
+            guard_table.into + alphabet.offset,
+        );
         edges.push((label, target))?;
     }
     Ok(edges)
 }
 
-/// The edges that leave the phase on letters of positions that do not move.
+/// The edges that leave the control state on letters of positions that do not move.
 fn letter_edges(
     alloc: Global,
-    plan: &Plan,
-    phases: &mut IndexSet<Phase>,
-    phase: Phase,
+    guard_table: &GuardTable,
+    controls: &mut IndexSet<ControlState>,
+    control: ControlState,
     alphabet: Alphabet,
 ) -> Result<Vec<(Label, usize)>, AllocError>
-    requires { HasRoom alphabet.offset alphabet.count plan.now }
-    ensures { IfOk result (λ edges. LetterEdges plan.now alphabet.offset alphabet.count phase phases.old.keys phases.new.keys edges.items) }
+    requires { HasRoom alphabet.offset alphabet.count guard_table.now }
+    ensures { IfOk result (λ edges. LetterEdges guard_table.now alphabet.offset alphabet.count control controls.old.keys controls.new.keys edges.items) }
 {
     let mut edges = Vec::new(alloc);
     'letters: for letter in 0..alphabet.count {
-        if let Some(next) = plan.after_letter(phase, letter) {
-            let target = number(phases, next)?;
-            let image = plan.images[letter as usize];
+        if let Some(next) = guard_table.after_letter(control, letter) {
+            let target = number(controls, next)?;
+            let image = guard_table.images[letter as usize];
             let label = Label::exchange(letter + alphabet.offset, image + alphabet.offset);
             edges.push((label, target))?;
         }
@@ -125,18 +133,18 @@ fn letter_edges(
     Ok(edges)
 }
 
-/// The number of the phase, which is the next one for a phase that has none yet.
-fn number(phases: &mut IndexSet<Phase>, phase: Phase) -> Result<usize, AllocError>
-    ensures { IfOk result (λ j. Numbers phases.old.keys phases.new.keys phase j) }
+/// The number of the control state, which is the next one for a control state that has none yet.
+fn number(controls: &mut IndexSet<ControlState>, control: ControlState) -> Result<usize, AllocError>
+    ensures { IfOk result (λ j. Numbers controls.old.keys controls.new.keys control j) }
 {
-    let (number, _) = phases.insert_full(phase)?;
+    let (number, _) = controls.insert_full(control)?;
     Ok(number)
 }
 
-/// The phase with this number.
-fn phase_at(phases: &IndexSet<Phase>, number: usize) -> Phase
-    requires { number < index_set_len phases.now }
-    ensures { slice_get phases.now.keys number ≡ Some result }
+/// The control state with this number.
+fn control_at(controls: &IndexSet<ControlState>, number: usize) -> ControlState
+    requires { number < index_set_len controls.now }
+    ensures { slice_get controls.now.keys number ≡ Some result }
 {
-    phases.as_slice()[number]
+    controls.as_slice()[number]
 }

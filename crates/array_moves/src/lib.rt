@@ -3,16 +3,16 @@
 #![tactic(auto)]
 
 mod fixed;
+mod guard_table;
 mod guarded;
-mod plan;
 
-ghost use Rattle.std.specs.Prelude.{◌≡◌, ◌↔◌, ◌+◌, ◌≤◌, ℕ, List, IfOk, length};
+ghost use Rattle.std.specs.Prelude.{◌≡◌, ◌↔◌, ◌+◌, ◌≤◌, ℕ, List, IfOk};
 ghost use Rattle.protocol_model.specs.System.{IsValidMove, kind_of_move};
 ghost use Rattle.protocol_model.specs.Moves.{IsMove};
-ghost use Rattle.transducers.specs.Transducer.{Relates, IsTrim};
+ghost use Rattle.transducers.specs.Transducer.{Relates};
 ghost use Rattle.protocol_model.specs.Raised.{IsRaisedMove};
 
-use fixed::{compile_pair, compile_ring, compile_two};
+use fixed::compile_fixed;
 use guarded::compile_at;
 use protocol_model::Move;
 use protocol_syntax::Kind;
@@ -29,8 +29,7 @@ struct Alphabet {
 }
 
 /// The transducer over `letters` letters that relates the arrays before and after the array move, each letter raised by
-/// `offset`. The section of the move has `count` letters. It has 32 states at most, however long the arrays are, and each
-/// of them lies on a path from a start state to an accepting state.
+/// `offset`. The section of the move has `count` letters.
 pub fn compile_array(
     alloc: Global,
     step: &Move,
@@ -42,8 +41,6 @@ pub fn compile_array(
     requires valid { IsValidMove count step.now }
     requires fits { offset + count ≤ letters }
     ensures letters { IfOk result (λ t. t.letters ≡ letters) }
-    ensures size { IfOk result (λ t. length t.states ≤ 32) }
-    ensures trim { IfOk result IsTrim }
     ensures relates { IfOk result (λ t. (u w : List ℕ) → Relates t u w ↔ IsRaisedMove (IsMove step.now) offset count u w) }
 {
     let alphabet = Alphabet {
@@ -67,9 +64,9 @@ pub fn compile_array(
                 alphabet,
             )
         }
-        Move::Pair { a, b, c, d } => compile_pair(alloc, *a, *b, *c, *d, alphabet),
-        Move::Ring { a, b, c, d } => compile_ring(alloc, *a, *b, *c, *d, alphabet),
-        Move::Two { a, b, c, d } => compile_two(alloc, *a, *b, *c, *d, alphabet),
+        Move::Pair { .. } | Move::Ring { .. } | Move::Two { .. } => {
+            compile_fixed(alloc, step, alphabet)
+        }
         _ => unreachable!(),
     }
 }

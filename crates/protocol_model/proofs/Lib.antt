@@ -1,4 +1,5 @@
 pub mod Below
+pub mod Fitting
 pub mod Lists
 pub mod Walk
 pub mod Known

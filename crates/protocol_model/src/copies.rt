@@ -28,7 +28,7 @@ fn copy_texts(alloc: Global, texts: &[Text]) -> Result<Sequence<Text>, AllocErro
     ensures { IfOk result (λ copies. copies ≡ texts.now) }
 {
     let mut copies = Vec::new(alloc);
-    for text in texts {
+    'texts: for text in texts {
         let copy = copy_text(alloc, text)?;
         copies.push(copy)?;
     }
@@ -39,7 +39,7 @@ fn copy_lists(alloc: Global, lists: &[Sequence<u32>]) -> Result<Sequence<Sequenc
     ensures { IfOk result (λ copies. copies ≡ lists.now) }
 {
     let mut copies = Vec::new(alloc);
-    for list in lists {
+    'lists: for list in lists {
         let copy = copy_numbers(alloc, list)?;
         copies.push(copy)?;
     }
@@ -50,7 +50,7 @@ fn copy_atoms(alloc: Global, atoms: &[Atom]) -> Result<Sequence<Atom>, AllocErro
     ensures { IfOk result (λ copies. copies ≡ atoms.now) }
 {
     let mut copies = Vec::new(alloc);
-    for atom in atoms {
+    'atoms: for atom in atoms {
         let letters = copy_numbers(alloc, &atom.letters)?;
         copies.push(Atom {
             letters,
@@ -67,7 +67,7 @@ fn copy_parts(
     ensures { IfOk result (λ copies. copies ≡ parts.now) }
 {
     let mut copies = Vec::new(alloc);
-    for part in parts {
+    'parts: for part in parts {
         let atoms = copy_atoms(alloc, part.1.atoms.as_slice())?;
         copies.push((part.0, Pattern { atoms }))?;
     }
@@ -78,7 +78,7 @@ fn copy_rows(alloc: Global, rows: &[Row]) -> Result<Sequence<Row>, AllocError>
     ensures { IfOk result (λ copies. copies ≡ rows.now) }
 {
     let mut copies = Vec::new(alloc);
-    for row in rows {
+    'rows: for row in rows {
         let parts = copy_parts(alloc, row.parts.as_slice())?;
         copies.push(Row { parts })?;
     }
@@ -89,7 +89,7 @@ fn copy_guards(alloc: Global, guards: &[Guard]) -> Result<Sequence<Guard>, Alloc
     ensures { IfOk result (λ copies. copies ≡ guards.now) }
 {
     let mut copies = Vec::new(alloc);
-    for guard in guards {
+    'guards: for guard in guards {
         let letters = copy_numbers(alloc, &guard.letters)?;
         copies.push(Guard {
             all: guard.all,
@@ -163,7 +163,7 @@ fn copy_moves(alloc: Global, moves: &[(u32, Move)]) -> Result<Sequence<(u32, Mov
     ensures { IfOk result (λ copies. copies ≡ moves.now) }
 {
     let mut copies = Vec::new(alloc);
-    for part in moves {
+    'moves: for part in moves {
         let copy = copy_move(alloc, &part.1)?;
         copies.push((part.0, copy))?;
     }
@@ -174,7 +174,7 @@ fn copy_rules(alloc: Global, rules: &[Rule]) -> Result<Sequence<Rule>, AllocErro
     ensures { IfOk result (λ copies. copies ≡ rules.now) }
 {
     let mut copies = Vec::new(alloc);
-    for rule in rules {
+    'rules: for rule in rules {
         let name = copy_text(alloc, &rule.name)?;
         let moves = copy_moves(alloc, rule.moves.as_slice())?;
         copies.push(Rule { name, moves })?;
@@ -186,7 +186,7 @@ fn copy_sections(alloc: Global, sections: &[Section]) -> Result<Sequence<Section
     ensures { IfOk result (λ copies. copies ≡ sections.now) }
 {
     let mut copies = Vec::new(alloc);
-    for section in sections {
+    'sections: for section in sections {
         let name = copy_text(alloc, &section.name)?;
         let letters = copy_texts(alloc, section.letters.as_slice())?;
         copies.push(Section {

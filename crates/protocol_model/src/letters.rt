@@ -19,7 +19,7 @@ pub fn numbers_below(alloc: Global, count: u32) -> Result<Sequence<u32>, AllocEr
     ensures { IfOk result (λ numbers. numbers ≡ range_with_len 0 count) }
 {
     let mut numbers = Vec::new(alloc);
-    for number in 0..count {
+    'numbers: for number in 0..count {
         numbers.push(number)?;
     }
     Ok(Sequence::from_vec(numbers))
@@ -44,7 +44,7 @@ pub fn letter_numbers(
     ensures { IsOutcome (letters_fault letters.now names.now) (map (number_of letters.now) names.now) result }
 {
     let mut numbers = Vec::new(alloc);
-    for name in names {
+    'names: for name in names {
         let number = letter_number(alloc, letters, name)?;
         numbers.push(number)?;
     }

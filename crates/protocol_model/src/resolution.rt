@@ -21,7 +21,7 @@ fn copy_letters(alloc: Global, letters: &[Name]) -> Result<Sequence<Text>, Alloc
     ensures { IfOk result (λ copies. copies ≡ texts_of letters.now) }
 {
     let mut copies = Vec::new(alloc);
-    for letter in letters {
+    'letters: for letter in letters {
         let copy = copy_text(alloc, &letter.text)?;
         copies.push(copy)?;
     }
@@ -46,7 +46,7 @@ fn copy_sections(alloc: Global, sections: &[SectionText]) -> Result<Sequence<Sec
     ensures { IfOk result (λ copies. copies ≡ map section_of sections.now) }
 {
     let mut copies = Vec::new(alloc);
-    for section in sections {
+    'sections: for section in sections {
         let copy = copy_section(alloc, section)?;
         copies.push(copy)?;
     }

@@ -56,7 +56,7 @@ fn resolve_atoms(
         (map (atom_of letters.now) atoms.now) result }
 {
     let mut resolved = Vec::new(alloc);
-    for atom in atoms {
+    'atoms: for atom in atoms {
         let next = resolve_atom(alloc, letters, atom)?;
         resolved.push(next)?;
     }
@@ -97,7 +97,7 @@ fn resolve_row(alloc: Global, sections: &Sections, row: &RowText) -> Result<Row,
 {
     let parts = row.parts.as_slice();
     let mut resolved = Vec::new(alloc);
-    for (i, part) in parts.iter().enumerate() {
+    'parts: for (i, part) in parts.iter().enumerate() {
         let next = resolve_part(alloc, sections, &parts[..i], part)?;
         resolved.push(next)?;
     }
@@ -115,7 +115,7 @@ pub fn resolve_rows(
     ensures { IsOutcome (first_fault_of (λ _. row_fault sections.now) [] rows.now) (map (row_of sections.now) rows.now) result }
 {
     let mut resolved = Vec::new(alloc);
-    for row in rows {
+    'rows: for row in rows {
         let next = resolve_row(alloc, sections, row)?;
         resolved.push(next)?;
     }

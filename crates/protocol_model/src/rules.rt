@@ -60,7 +60,7 @@ fn resolve_guards(
         (map (guard_of letters.now) guards.now) result }
 {
     let mut resolved = Vec::new(alloc);
-    for guard in guards {
+    'guards: for guard in guards {
         let next = resolve_guard(alloc, letters, guard)?;
         resolved.push(next)?;
     }
@@ -102,7 +102,7 @@ fn resolve_table(
     ensures { IsOutcome (first_fault_of (entry_fault letters.now) [] entries.now) (map (entry_of letters.now) entries.now) result }
 {
     let mut resolved = Vec::new(alloc);
-    for (i, entry) in entries.iter().enumerate() {
+    'entries: for (i, entry) in entries.iter().enumerate() {
         let next = resolve_entry(alloc, letters, &entries[..i], entry)?;
         resolved.push(next)?;
     }
@@ -264,7 +264,7 @@ fn resolve_steps(
     ensures { IsOutcome (first_fault_of (step_fault sections.now) [] steps.now) (map (step_of sections.now) steps.now) result }
 {
     let mut resolved = Vec::new(alloc);
-    for (i, step) in steps.iter().enumerate() {
+    'steps: for (i, step) in steps.iter().enumerate() {
         let next = resolve_step(alloc, sections, &steps[..i], step)?;
         resolved.push(next)?;
     }
@@ -291,7 +291,7 @@ pub fn resolve_rules(
 {
     let mut names = Names::new(alloc);
     let mut resolved = Vec::new(alloc);
-    for rule in rules {
+    'rules: for rule in rules {
         if !names.add(rule.name.text.as_str())? {
             return Err(duplicate_name(alloc, &rule.name));
         }

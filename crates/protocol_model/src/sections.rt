@@ -90,7 +90,7 @@ fn letter_names<'a>(alloc: Global, letters: &'a [Name]) -> Result<Names<'a>, Mod
     ensures { IsOutcome (first_fault_of (λ before. duplicate (texts_of before)) [] letters.now) (texts_of letters.now) result }
 {
     let mut names = Names::new(alloc);
-    for letter in letters {
+    'letters: for letter in letters {
         if !names.add(letter.text.as_str())? {
             return Err(duplicate_name(alloc, letter));
         }
@@ -107,7 +107,7 @@ impl<'a> Sections<'a> {
     {
         let mut numbers = Names::new(alloc);
         let mut letters = Vec::new(alloc);
-        for section in texts {
+        'sections: for section in texts {
             if !numbers.add(section.name.text.as_str())? {
                 return Err(duplicate_name(alloc, &section.name));
             }

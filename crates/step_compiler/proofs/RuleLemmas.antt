@@ -1,26 +1,25 @@
 -- Lemmas on all sections of a rule, and on rules.
-use Rattle.std.proofs.Common.{◌≡◌, ◌==◌, ◌↔◌, ℕ, zero, suc, ◌+◌, ◌-◌, ◌<◌, ◌≤◌, Bool, true, false, List, [], ◌∷◌, ◌++◌, Option, None, Some}
-use Rattle.std.proofs.Common.{length, slice_get, get_or, take, drop, add-zero, refl, sym, ap, ◌∙◌, subst, arith, All, zero-add, cond}
+use Rattle.std.proofs.Common.{◌≡◌, ◌==◌, ◌↔◌, ℕ, suc, ◌+◌, ◌<◌, ◌≤◌, Bool, true, false, List, [], ◌∷◌, ◌++◌, Some}
+use Rattle.std.proofs.Common.{length, slice_get, get_or, take, drop, add-zero, refl, sym, ap, ◌∙◌, subst, arith, All, zero-add}
 use Rattle.std.proofs.Common.{eqb-true, if◌then◌else◌}
 use Rattle.std.proofs.Common.{Result, Ok, Err, IfOk}
 use Rattle.std.specs.List.{AllByRecursion}
 use Rattle.std.proofs.lemmas.List.{take_more, take-append-drop, length-take-le}
 use Rattle.std.proofs.lemmas.List.Sums.{sum_by-append, sum_by-cons}
-use Rattle.std.proofs.lemmas.List.Elements.{All-nil, All-cons, All-weaker}
-use Rattle.std.proofs.lemmas.Option.{same_Some}
+use Rattle.std.proofs.lemmas.List.Elements.{All-nil, All-cons, All-weaker, All-from_recursion}
+use Rattle.std.proofs.lemmas.Option.{same_Some, slice_get_read}
 use Rattle.protocol_model.specs.declared.system.Section.{Section}
 use Rattle.protocol_model.specs.declared.system.Move.{Move}
 use Rattle.protocol_model.specs.declared.system.Rule.{Rule}
 use Rattle.protocol_model.specs.declared.system.Configuration.{Configuration}
-use Rattle.protocol_model.specs.System.{SystemData, IsValidPart, letter_count, total_letters}
-use Rattle.protocol_model.specs.Patterns.{lists_fit}
-use Rattle.protocol_model.specs.Steps.{ChangesBy, move_of, IsStep}
+use Rattle.protocol_model.specs.System.{SystemData, IsValid, IsValidPart, IsValidRule, letter_count, total_letters}
+use Rattle.protocol_model.specs.Steps.{ChangesBy, move_of}
 use Rattle.protocol_model.specs.Words.{separator_of, automata_letters, IsWordStep}
 use Rattle.transducers.specs.Transducer.{Transducer, Relates}
 use Rattle.transducers.specs.Joining.{RelatesJoined, letters_of}
 use Rattle.step_compiler.specs.Rules.{IsRuleStep}
 use Rattle.step_compiler.specs.Sections.{IsMoveOf, IsSectionTransducer, AreSectionTransducers}
-use Rattle.step_compiler.proofs.WordLemmas.{list_of, AreListSteps, steps_from_joined, joined_from_steps}
+use Rattle.step_compiler.proofs.WordLemmas.{list_of, steps_from_joined, joined_from_steps}
 
 -- the move of a section's number is one of its section
 move_at : (sections : List Section) (section : Section) (part : ℕ × Move) (moves : List (ℕ × Move)) (number : ℕ) (m : Move) (b : Bool)
@@ -146,27 +145,6 @@ word_step s u w = (
   },
 )
 
--- what holds of each element holds of the one at a place
-pub at_place : {X : Type 0} (P : X → Type 0) (xs : List X) (i : ℕ) (d : X) → AllByRecursion P xs → i < length xs → P (get_or xs i d)
-at_place P [] i d all h = absurd (omega arith)
-at_place P (x ∷ xs) zero d all h = all.0
-at_place P (x ∷ xs) (suc i) d all h = at_place P xs i d all.1 (omega arith)
-
--- the element at a place
-pub get_at : {X : Type 0} (xs : List X) (i : ℕ) (x : X) → i < length xs → x ≡ get_or xs i x → slice_get xs i ≡ Some x
-get_at [] i x h e = absurd (omega arith)
-get_at (y ∷ xs) zero x h e = ap Some (sym e)
-get_at (y ∷ xs) (suc i) x h e = get_at xs i x (omega arith) e
-
--- a push keeps what is known of each place, where it is known of the pushed element
-pub pushed_places : {X : Type 0} (P : ℕ → X → Type 0) (xs : List X) (x : X) → ((k : ℕ) (y : X) → slice_get xs k ≡ Some y → P k y)
-    → P (length xs) x → (k : ℕ) (y : X) → slice_get (xs ++ x ∷ []) k ≡ Some y → P k y
-pushed_places P [] x old new zero y e = subst (P 0) (same_Some x y e) new
-pushed_places P [] x old new (suc k) y e = cc
-pushed_places P (z ∷ xs) x old new zero y e = old 0 y e
-pushed_places P (z ∷ xs) x old new (suc k) y e =
-    pushed_places (λ k y. P (suc k) y) xs x (λ k y e. old (suc k) y e) new k y e
-
 -- one more section compiled, as the code does it
 pub sections_pushed : (moves : List (ℕ × Move)) (letters : ℕ) (sections : List Section) (i offset : ℕ) (section : Section)
     (parts after : List Transducer) (part : Transducer) → i < length sections → section ≡ get_or sections i section
@@ -186,11 +164,11 @@ sections_pushed moves letters sections i offset section parts after part lt at b
 
 -- the parts of a rule, as the code makes them
 pub rule_parts : (s : SystemData) (rule : Rule) (separator : ℕ) (moves : List (ℕ × Move)) (sections : List Section)
-    (parts slice : List Transducer) → moves ≡ rule.moves → sections ≡ s.sections → separator ≡ total_letters sections → slice ≡ parts
+    (parts slice : List Transducer) → moves ≡ rule.moves → sections ≡ s.sections → separator ≡ separator_of s → slice ≡ parts
     → AreSectionTransducers moves (separator + 1) 0 0 sections parts
     → AreSectionTransducers rule.moves (automata_letters s) 0 0 s.sections slice
 rule_parts s rule separator moves sections parts slice em es en ep are =
-    let letters : separator + 1 ≡ automata_letters s = ap (λ n. n + 1) (en ∙ ap total_letters es) in
+    let letters : separator + 1 ≡ automata_letters s = ap (λ n. n + 1) en in
     subst (AreSectionTransducers rule.moves (automata_letters s) 0 0 s.sections) (sym ep)
     (subst (λ l. AreSectionTransducers rule.moves (automata_letters s) 0 0 l parts) es
     (subst (λ l. AreSectionTransducers rule.moves l 0 0 sections parts) letters
@@ -203,19 +181,18 @@ same_letters moves letters sections parts some are =
     All-weaker (λ part. part.letters ≡ letters) (λ part. part.letters ≡ letters_of parts)
     (λ part e. e ∙ sym (first_letters moves letters 0 0 sections parts some are)) parts (letters_are moves letters 0 0 sections parts are)
 
--- one more rule compiled, as the code does it
-pub rules_pushed : (s : SystemData) (rules : List Rule) (i : ℕ) (rule : Rule) (old after : List Transducer) (t : Transducer)
-    → rules ≡ s.rules → i < length rules → rule ≡ get_or rules i rule → length old ≡ i
-    → ((r : ℕ) (t : Transducer) → slice_get old r ≡ Some t → (u w : List ℕ) → Relates t u w ↔ IsRuleStep s r u w)
-    → ((r : ℕ) → slice_get s.rules r ≡ Some rule → (u w : List ℕ) → Relates t u w ↔ IsRuleStep s r u w)
-    → after ≡ old ++ t ∷ []
-    → (r : ℕ) (t : Transducer) → slice_get after r ≡ Some t → (u w : List ℕ) → Relates t u w ↔ IsRuleStep s r u w
-rules_pushed s rules i rule old after t are lt at size before now pushed r x e =
-    let there : slice_get s.rules i ≡ Some rule = ap (λ l. slice_get l i) (sym are) ∙ get_at rules i rule lt at in
-    let here : (u w : List ℕ) → Relates t u w ↔ IsRuleStep s (length old) u w =
-    subst (λ n. (u w : List ℕ) → Relates t u w ↔ IsRuleStep s n u w) (sym size) (now i there) in
-    pushed_places (λ k y. (u w : List ℕ) → Relates y u w ↔ IsRuleStep s k u w) old t before here r x
-    (ap (λ l. slice_get l r) (sym pushed) ∙ e)
+-- the rule at a place, and its validity
+module _ (s : SystemData) (rules : List Rule) (i : ℕ) (rule : Rule) (are : rules ≡ s.rules) (within : i < length s.rules)
+    (at : rule ≡ get_or rules i rule) where
+  is : rule ≡ get_or s.rules i rule
+  is = subst (λ xs. rule ≡ get_or xs i rule) are at
+
+  pub rule_there : slice_get s.rules i ≡ Some rule
+  rule_there = slice_get_read s.rules (length s.rules) i rule refl within is
+
+  pub rule_valid : IsValid s → IsValidRule s.sections rule
+  rule_valid valid =
+      subst (IsValidRule s.sections) (sym is) (All-from_recursion (IsValidRule s.sections) s.rules valid.each_rule i rule within)
 
 -- two facts of a result that lead to a third
 pub ok_from_both : {X Y : Type 0} (r : Result X Y) (P Q R : X → Type 0) → ((x : X) → P x → Q x → R x) → IfOk r P → IfOk r Q → IfOk r R

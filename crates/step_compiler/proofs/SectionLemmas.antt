@@ -1,37 +1,27 @@
 -- What the transducers of moves and of copies relate, as steps of one section.
-use Rattle.std.proofs.Common.{◌≡◌, ◌==◌, ◌||◌, ◌&&◌, ◌↔◌, ℕ, ◌+◌, ◌-◌, ◌<◌, ◌≤◌, Bool, true, false, List, [], ◌∷◌, Option, None, Some}
-use Rattle.std.proofs.Common.{map, length, nat_lt, refl, sym, ap, ◌∙◌, subst, arith, IsTrue, All, eq-eqb, eqb-true, lt-ltb}
+use Rattle.std.proofs.Common.{◌≡◌, ◌==◌, ◌||◌, ◌↔◌, ℕ, ◌+◌, ◌-◌, ◌<◌, ◌≤◌, Bool, List, [], ◌∷◌, Option, None, Some}
+use Rattle.std.proofs.Common.{length, nat_lt, refl, sym, ap, ◌∙◌, subst, arith, IsTrue, All, eqb-true}
 use Rattle.std.specs.List.{list_all}
-use Rattle.std.proofs.lemmas.Bool.{and_parts, and_from, ltb-true}
+use Rattle.std.proofs.lemmas.Bool.{and_parts, and_from}
 use Rattle.std.proofs.lemmas.List.Elements.{All-nil, All-cons, All-head, All-tail}
 use Rattle.protocol_syntax.specs.declared.Kind.{Kind}
-use Rattle.protocol_syntax.specs.declared.Kind.TheVariants.{Cell, Array, Channel, Stack as StackKind}
+use Rattle.protocol_syntax.specs.declared.Kind.TheVariants.{Cell}
 use Rattle.protocol_model.specs.declared.system.Section.{Section}
 use Rattle.protocol_model.specs.declared.system.Move.{Move}
 use Rattle.protocol_model.specs.declared.system.Move.TheVariants.{At, Pair, Ring, Two, Set, Send, Recv, Stack}
 use Rattle.protocol_model.specs.System.{AllBelow, kind_of_move, letter_count}
 use Rattle.protocol_model.specs.Moves.{IsMove}
-use Rattle.protocol_model.specs.Patterns.{has_any_length, list_fits}
+use Rattle.protocol_model.specs.Patterns.{has_any_length}
 use Rattle.protocol_model.specs.Raised.{IsRaisedMove}
 use Rattle.protocol_model.specs.Steps.{ChangesBy}
 use Rattle.protocol_model.specs.Words.{raised}
+use Rattle.protocol_model.proofs.Below.{AllBelow-from_test, test_from_AllBelow}
 use Rattle.transducers.specs.Transducer.{Transducer, Relates}
 use Rattle.step_compiler.specs.Sections.{Stays, IsMoveOf, IsSectionStep, IsSectionTransducer}
 
 -- whether a list has a length that the kind allows
 abbrev pub has_length : Kind → List ℕ → Bool
 has_length kind list = has_any_length kind || (length list == 1)
-
-below_from_test : (count : ℕ) (xs : List ℕ) → list_all (λ a. nat_lt a count) xs ≡ true → AllBelow count xs
-below_from_test count [] h = tt
-below_from_test count (x ∷ xs) h =
-    let parts = and_parts (nat_lt x count) (list_all (λ a. nat_lt a count) xs) h in
-    (ltb-true x count parts.0, below_from_test count xs parts.1)
-
-test_from_below : (count : ℕ) (xs : List ℕ) → AllBelow count xs → list_all (λ a. nat_lt a count) xs ≡ true
-test_from_below count [] h = refl
-test_from_below count (x ∷ xs) h =
-    and_from (nat_lt x count) (list_all (λ a. nat_lt a count) xs) (lt-ltb x count h.0) (test_from_below count xs h.1)
 
 -- a relation of lists in range is a step of the section where it is the change, and keeps the lengths that the kind allows
 pub section_step : (section : Section) (move : Option Move) (P : List ℕ → List ℕ → Type 0) (offset count : ℕ)
@@ -45,9 +35,9 @@ section_step section move P offset count same there back u w = (
         old = m.old;
         new = m.new;
         old_fits = and_from (list_all (λ a. nat_lt a (letter_count section)) m.old) (has_length section.kind m.old)
-            (test_from_below (letter_count section) m.old (subst (λ n. AllBelow n m.old) same m.old_in_range)) moved.1;
+            (test_from_AllBelow (letter_count section) m.old (subst (λ n. AllBelow n m.old) same m.old_in_range)) moved.1;
         new_fits = and_from (list_all (λ a. nat_lt a (letter_count section)) m.new) (has_length section.kind m.new)
-            (test_from_below (letter_count section) m.new (subst (λ n. AllBelow n m.new) same m.new_in_range)) moved.2;
+            (test_from_AllBelow (letter_count section) m.new (subst (λ n. AllBelow n m.new) same m.new_in_range)) moved.2;
         word_before = m.word_before;
         word_after = m.word_after;
         changes = moved.0;
@@ -57,8 +47,8 @@ section_step section move P offset count same there back u w = (
       record {
         old = s.old;
         new = s.new;
-        old_in_range = subst (λ n. AllBelow n s.old) (sym same) (below_from_test (letter_count section) s.old old_fits.0);
-        new_in_range = subst (λ n. AllBelow n s.new) (sym same) (below_from_test (letter_count section) s.new new_fits.0);
+        old_in_range = subst (λ n. AllBelow n s.old) (sym same) (AllBelow-from_test (letter_count section) s.old old_fits.0);
+        new_in_range = subst (λ n. AllBelow n s.new) (sym same) (AllBelow-from_test (letter_count section) s.new new_fits.0);
         word_before = s.word_before;
         word_after = s.word_after;
         leads = back s.old s.new s.changes old_fits.1;
@@ -185,6 +175,3 @@ copies_one offset count u w = (
         m.word_after ∙ ap (raised offset) (sym m.leads.0 ∙ one.1),
       ),
 )
-
-pub ↔-trans : {A B C : Type 0} → A ↔ B → B ↔ C → A ↔ C
-↔-trans f g = (λ a. g.0 (f.0 a), λ c. f.1 (g.1 c))

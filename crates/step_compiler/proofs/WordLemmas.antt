@@ -1,6 +1,6 @@
 -- What transducers of sections relate when they are joined: the words of lists that change section by section.
-use Rattle.std.proofs.Common.{◌≡◌, ◌&&◌, ◌↔◌, ℕ, zero, suc, ◌+◌, ◌<◌, ◌≤◌, true, false, List, [], ◌∷◌, ◌++◌, length, slice_get, unwrap_or}
-use Rattle.std.proofs.Common.{refl, sym, ap, ◌∙◌, subst, arith, IsTrue, true≢false, add-zero}
+use Rattle.std.proofs.Common.{◌≡◌, ℕ, zero, suc, ◌+◌, ◌<◌, true, List, [], ◌∷◌, ◌++◌, length, slice_get, unwrap_or}
+use Rattle.std.proofs.Common.{refl, sym, ap, ◌∙◌, subst, arith, true≢false, add-zero}
 use Rattle.std.proofs.lemmas.Bool.{and_parts, and_from}
 use Rattle.protocol_model.specs.declared.system.Section.{Section}
 use Rattle.protocol_model.specs.declared.system.Move.{Move}
@@ -9,8 +9,8 @@ use Rattle.protocol_model.specs.Patterns.{list_fits, lists_fit}
 use Rattle.protocol_model.specs.Steps.{ChangesBy, move_of}
 use Rattle.protocol_model.specs.Words.{raised, raised_lists, joined}
 use Rattle.transducers.specs.Transducer.{Transducer}
-use Rattle.transducers.specs.Joining.{AreJoined, RelatesJoined}
-use Rattle.step_compiler.specs.Sections.{IsSectionStep, AreSectionTransducers}
+use Rattle.transducers.specs.Joining.{RelatesJoined}
+use Rattle.step_compiler.specs.Sections.{AreSectionTransducers}
 
 -- the list of this number
 abbrev pub list_of : List (List ℕ) → ℕ → List ℕ

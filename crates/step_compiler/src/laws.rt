@@ -1,4 +1,5 @@
-//! A law of steps on words. It has no code: it is the contract of a function that does nothing.
+//! A law of steps on words.
+//! It has no code: it is the contract of a function that does nothing.
 
 ghost use Rattle.std.specs.Prelude.{◌↔◌, ℕ, List};
 ghost use Rattle.protocol_model.specs.System.{SystemData};

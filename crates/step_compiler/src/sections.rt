@@ -1,4 +1,5 @@
 //! What a rule does to each section as a transducer.
+//! A section that moves has a transducer of few states, one that stays has a copy of one state or two.
 
 ghost use Rattle.std.specs.Prelude.{◌≡◌, ◌↔◌, ◌+◌, ◌^◌, ◌<◌, ◌≤◌, ℕ, List, Some, None, IfOk, MatchOption, length};
 ghost use Rattle.std.specs.List.{AllByRecursion};
@@ -35,7 +36,8 @@ pub(crate) fn compile_sections(
     letters: u32,
 ) -> Result<Vec<Transducer>, AllocError>
     requires valid { AllByRecursion (IsValidPart sections.now) moves.now }
-    requires fits { total_letters sections.now ≤ letters }
+    requires fits { total_letters sections.now < letters }
+    requires limit { letters ≤ 257 }
     requires few { length sections.now ≤ 16 }
     ensures { IfOk result (λ parts. AreSectionTransducers moves.now letters 0 0 sections.now parts.items) }
 {
@@ -44,7 +46,7 @@ pub(crate) fn compile_sections(
     'sections: for (number, section) in sections.iter().enumerate() {
         let part = compile_section(alloc, section, moves, number as u32, letters, offset)?;
         parts.push(part)?;
-        offset += section.letters.len() as u32;
+        offset += section.letter_count();
     }
     Ok(parts)
 }
@@ -59,13 +61,14 @@ fn compile_section(
     offset: u32,
 ) -> Result<Transducer, AllocError>
     requires valid { (m : Move) → move_of moves.now number ≡ Some m → IsMoveOf section.now m }
-    requires fits { offset + letter_count section.now ≤ letters }
+    requires fits { offset + letter_count section.now < letters }
+    requires limit { letters ≤ 257 }
     ensures { IfOk result (IsSectionTransducer section.now (move_of moves.now number) letters offset) }
 {
     let alphabet = Alphabet {
         letters,
         offset,
-        count: section.letters.len() as u32,
+        count: section.letter_count(),
     };
     match find_move(moves, number) {
         Some(step) => compile_move(alloc, step, alphabet),

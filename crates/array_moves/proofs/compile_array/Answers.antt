@@ -14,18 +14,3 @@ returns-in-At-clause-relates c =
     ↔ IsRaisedMove (IsAtMove c.in-At.from c.in-At.to c.as_slice.result.now table) c.args.offset c.args.count u w))
     c.as_slice-in-At.ensures
     c.compile_at.ensures.relates))
-
-pub returns-in-Pair-clause-relates : goal.returns-in-Pair-clause-relates
-returns-in-Pair-clause-relates c =
-    subst (λ m. IfOk c.compile_pair.result (λ t. (u w : List ℕ) → Relates t u w ↔ IsRaisedMove (IsMove m) c.args.offset c.args.count u w))
-    (sym c.in-Pair.is) c.compile_pair.ensures.relates
-
-pub returns-in-Ring-clause-relates : goal.returns-in-Ring-clause-relates
-returns-in-Ring-clause-relates c =
-    subst (λ m. IfOk c.compile_ring.result (λ t. (u w : List ℕ) → Relates t u w ↔ IsRaisedMove (IsMove m) c.args.offset c.args.count u w))
-    (sym c.in-Ring.is) c.compile_ring.ensures.relates
-
-pub returns-in-Two-clause-relates : goal.returns-in-Two-clause-relates
-returns-in-Two-clause-relates c =
-    subst (λ m. IfOk c.compile_two.result (λ t. (u w : List ℕ) → Relates t u w ↔ IsRaisedMove (IsMove m) c.args.offset c.args.count u w))
-    (sym c.in-Two.is) c.compile_two.ensures.relates

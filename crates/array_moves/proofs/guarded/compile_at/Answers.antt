@@ -1,38 +1,22 @@
-use Rattle.std.proofs.Common.{◌∙◌, length, ◌≤◌, arith, sym, ap, subst}
-use Rattle.transducers.specs.Transducer.{IsTrim, Relates}
+use Rattle.std.proofs.Common.{length, arith, sym, ap, subst, ◌∙◌}
+use Rattle.transducers.specs.Transducer.{Relates}
 use Rattle.protocol_model.specs.Moves.{IsAtMove}
 use Rattle.protocol_model.specs.Raised.{IsRaisedMove}
-use Rattle.array_moves.specs.Phases.{starts_of}
+use Rattle.array_moves.specs.ControlStates.{starts_of}
 use Rattle.array_moves.proofs.MachineLemmas.{has_room, states_valid, at_relates}
-use Rattle.array_moves.proofs.TrimLemmas.{states_size, states_trim}
 use Rattle.array_moves.proofs.guarded.compile_at.Goals as goal
 
 pub states-requires : goal.states-requires
 states-requires c =
-    has_room c.args.from c.args.into c.args.guards.now c.args.table.now c.args.alphabet.offset c.args.alphabet.count c.in_ok-plan.plan
-    c.in_ok-plan.ensures c.requires.valid (omega (arith, c.requires.fits))
+    has_room c.args.from c.args.into c.args.guards.now c.args.table.now c.args.alphabet.offset c.args.alphabet.count c.in_ok-guard_table.guard_table
+    c.in_ok-guard_table.ensures c.requires.valid (omega (arith, c.requires.fits))
 
 pub from_states-requires : goal.from_states-requires
 from_states-requires c =
-    states_valid c.args.from c.args.into c.args.guards.now c.args.table.now c.args.alphabet.offset c.args.alphabet.count c.in_ok-plan.plan
+    states_valid c.args.from c.args.into c.args.guards.now c.args.table.now c.args.alphabet.offset c.args.alphabet.count c.in_ok-guard_table.guard_table
     c.in_ok-states.ensures.0 c.in_ok-states.states.items
-    c.in_ok-plan.ensures c.in_ok-states.ensures.1 c.requires.valid c.args.alphabet.letters c.requires.fits c.in_ok-starts.starts.items
+    c.in_ok-guard_table.ensures c.in_ok-states.ensures.1 c.requires.valid c.args.alphabet.letters c.requires.fits c.in_ok-starts.starts.items
     (c.in_ok-starts.ensures ∙ ap (λ l. starts_of (length l)) c.as_slice.ensures.value)
-
-pub returns-clause-size : goal.returns-clause-size
-returns-clause-size c =
-    let size = states_size c.args.from c.args.into c.args.guards.now c.args.table.now c.args.alphabet.offset c.args.alphabet.count
-    c.in_ok-plan.plan c.in_ok-states.ensures.0 c.in_ok-states.states.items
-    c.in_ok-plan.ensures c.in_ok-states.ensures.1 c.requires.valid in
-    subst (λ t. length t.states ≤ 32) (sym c.from_states.ensures) size
-
-pub returns-clause-trim : goal.returns-clause-trim
-returns-clause-trim c =
-    let trim = states_trim c.args.from c.args.into c.args.guards.now c.args.table.now c.args.alphabet.offset c.args.alphabet.count
-    c.in_ok-plan.plan c.in_ok-states.ensures.0 c.in_ok-states.states.items
-    c.in_ok-plan.ensures c.in_ok-states.ensures.1 c.requires.valid c.args.alphabet.letters c.in_ok-starts.starts.items
-    (c.in_ok-starts.ensures ∙ ap (λ l. starts_of (length l)) c.as_slice.ensures.value) in
-    subst IsTrim (sym c.from_states.ensures) trim
 
 pub returns-clause-relates : goal.returns-clause-relates
 returns-clause-relates c u w =
@@ -41,7 +25,7 @@ returns-clause-relates c u w =
     × (IsRaisedMove (IsAtMove c.args.from c.args.into c.args.guards.now c.args.table.now) c.args.alphabet.offset c.args.alphabet.count u w
     → Relates t u w))
     (sym c.from_states.ensures)
-    (at_relates c.args.from c.args.into c.args.guards.now c.args.table.now c.args.alphabet.offset c.args.alphabet.count c.in_ok-plan.plan
+    (at_relates c.args.from c.args.into c.args.guards.now c.args.table.now c.args.alphabet.offset c.args.alphabet.count c.in_ok-guard_table.guard_table
     c.in_ok-states.ensures.0 c.in_ok-states.states.items
-    c.in_ok-plan.ensures c.in_ok-states.ensures.1 c.requires.valid c.args.alphabet.letters c.in_ok-starts.starts.items
+    c.in_ok-guard_table.ensures c.in_ok-states.ensures.1 c.requires.valid c.args.alphabet.letters c.in_ok-starts.starts.items
     (c.in_ok-starts.ensures ∙ ap (λ l. starts_of (length l)) c.as_slice.ensures.value) u w)

@@ -1,5 +1,5 @@
-use Rattle.array_moves.specs.Phases.{LetterEdges}
+use Rattle.array_moves.specs.ControlStates.{LetterEdges}
 use Rattle.array_moves.proofs.guarded.letter_edges.Given as goal
 
 abbrev pub invariant-letters : goal.invariant-letters
-invariant-letters l = LetterEdges l.plan l.alphabet.offset l.letter l.phase l.initial.phases.keys l.phases.keys l.edges.items
+invariant-letters l = LetterEdges l.guard_table l.alphabet.offset l.letter l.control l.initial.controls.keys l.controls.keys l.edges.items

@@ -1,39 +1,27 @@
-use Rattle.std.proofs.Common.{◌≡◌, Bool, true, false, ◌&&◌, refl, length, arith, ◌∷◌, [], ◌++◌, sym, slice_get, Some, ap, subst, ◌∙◌}
+use Rattle.std.proofs.Common.{◌≡◌, length, arith, ◌∷◌, [], ◌++◌, sym, slice_get, Some, ap, subst, ◌∙◌}
 use Rattle.word_automata.specs.Path.{Node}
 use Rattle.transducers.specs.declared.Label.{Label}
-use Rattle.array_moves.proofs.PhaseLemmas.{IsGrowing, IsGrowing-start, IsGrowing-more, IsMachine-end, places-distinct, beq_decides}
-use mathlib.Core.Bool.{beq}
-use lib.Pointwise.{pointwise_decides}
-use Rattle.array_moves.specs.contracts.plan.PhasePartialEq.TheImpl.{eq-value}
-use Rattle.array_moves.specs.declared.plan.Phase.{Phase}
+use Rattle.array_moves.proofs.ControlLemmas.{IsGrowing, IsGrowing-start, IsGrowing-more, IsMachine-end}
 use Rattle.array_moves.proofs.guarded.states.Goals as goal
 
-pub phases-init : goal.phases-init
-phases-init c = rw c.new-states.ensures.items (IsGrowing-start c.args.plan.now c.args.alphabet.offset c.args.alphabet.count _
-    c.in_ok-phases.ensures)
+pub controls-init : goal.controls-init
+controls-init c = rw c.new-states.ensures.items (IsGrowing-start c.args.guard_table.now c.args.alphabet.offset c.args.alphabet.count _
+    c.in_ok-controls.ensures)
 
-pub phases-preserved : goal.phases-preserved
-phases-preserved c =
+pub controls-preserved : goal.controls-preserved
+controls-preserved c =
     let node : Node Label = record { accepting = c.is_final.result; edges = c.in_ok-edges.edges.items } in
-    let at : slice_get c.phases.phases.keys (length c.phases.states.items) ≡ Some c.phase_at-phase.result =
-    subst (λ n. slice_get c.phases.phases.keys n ≡ Some c.phase_at-phase.result) (c.len-in-phases-2.ensures
-    ∙ c.phases.states.ok.0) c.phase_at-phase.ensures in
-    subst (IsGrowing c.args.plan.now c.args.alphabet.offset c.args.alphabet.count c.phase_edges.new.phases.keys)
-    (sym (c.in_ok-push.ensures.items ∙ ap (λ n. c.phases.states.items ++ n ∷ []) c.new.ensures))
-    (IsGrowing-more c.args.plan.now c.args.alphabet.offset c.args.alphabet.count c.phases.phases.keys c.phase_edges.new.phases.keys
-    c.phases.states.items c.phase_at-phase.result node
-    c.phases.invariant at c.is_final.ensures c.in_ok-edges.ensures)
-
-beq_own : (b : Bool) → beq b b ≡ true
-beq_own true = refl
-beq_own false = refl
-
-own : (p : Phase) → eq-value.it p p ≡ true
-own p = (λ i. beq_own p.moved i && (pointwise_decides {E = beq} beq_decides p.met p.met).1 refl i)
+    let at : slice_get c.controls.controls.keys (length c.controls.states.items) ≡ Some c.control_at-control.result =
+    subst (λ n. slice_get c.controls.controls.keys n ≡ Some c.control_at-control.result) (c.len-in-controls-2.ensures
+    ∙ c.controls.states.ok.0) c.control_at-control.ensures in
+    subst (IsGrowing c.args.guard_table.now c.args.alphabet.offset c.args.alphabet.count c.control_edges.new.controls.keys)
+    (sym (c.in_ok-push.ensures.items ∙ ap (λ n. c.controls.states.items ++ n ∷ []) c.new.ensures))
+    (IsGrowing-more c.args.guard_table.now c.args.alphabet.offset c.args.alphabet.count c.controls.controls.keys c.control_edges.new.controls.keys
+    c.controls.states.items c.control_at-control.result node
+    c.controls.invariant at c.is_final.ensures c.in_ok-edges.ensures)
 
 pub returns : goal.returns
 returns c = (
-  c.phases.phases.keys,
-  IsMachine-end c.args.plan.now c.args.alphabet.offset c.args.alphabet.count _ _ c.phases.invariant (omega (arith, c.phases.states.ok.0))
-      (places-distinct eq-value.it own c.phases.phases.keys c.len-in-phases.ensures.unique),
+  c.controls.controls.keys,
+  IsMachine-end c.args.guard_table.now c.args.alphabet.offset c.args.alphabet.count _ _ c.controls.invariant (omega (arith, c.controls.states.ok.0)),
 )

@@ -1,5 +1,5 @@
 use Rattle.std.proofs.Common.{◌≡◌, take}
 use Rattle.protocol_model.proofs.copies.copy_texts.Given as goal
 
-abbrev pub invariant-loop-text : goal.invariant-loop-text
-invariant-loop-text l = l.copies.items ≡ take l.text-index l.texts
+abbrev pub invariant-texts : goal.invariant-texts
+invariant-texts l = l.copies.items ≡ take l.text-index l.texts

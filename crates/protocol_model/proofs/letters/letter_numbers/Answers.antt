@@ -6,15 +6,15 @@ use Rattle.protocol_model.proofs.letters.letter_numbers.Goals as goal
 
 pub returns-in_err-number : goal.returns-in_err-number
 returns-in_err-number c =
-    let walk = c.loop-name in
+    let walk = c.names in
     let p = err_from_is_err_and c.from_residual.result c.from_residual.ensures.1 in
     rw (p.1, p.2)
     (stops (λ _. unknown c.args.letters.now) (number_of c.args.letters.now) c.args.names.now walk.name-index walk.numbers.items c.name-item.result
-    c.in_err-number.field-0.0 c.loop-name-test.true walk.invariant c.name-item.is c.in_err-number.ensures)
+    c.in_err-number.field-0.0 c.names-test.true walk.invariant c.name-item.is c.in_err-number.ensures)
 
-pub loop-name-preserved : goal.loop-name-preserved
-loop-name-preserved c =
-    let walk = c.loop-name in
+pub names-preserved : goal.names-preserved
+names-preserved c =
+    let walk = c.names in
     rw c.in_ok-push.ensures.items
     (goes_on (λ _. unknown c.args.letters.now) (number_of c.args.letters.now) c.args.names.now walk.name-index walk.numbers.items c.name-item.result c.in_ok-number.number
-    c.loop-name-test.true walk.invariant c.name-item.is c.in_ok-number.ensures.0 c.in_ok-number.ensures.1)
+    c.names-test.true walk.invariant c.name-item.is c.in_ok-number.ensures.0 c.in_ok-number.ensures.1)

@@ -2,6 +2,6 @@ use Rattle.std.proofs.Common.{add-one, zero-add, refl}
 use Rattle.protocol_model.proofs.Lists.{range_with_len_push}
 use Rattle.protocol_model.proofs.letters.numbers_below.Goals as goal
 
-pub loop-number-preserved : goal.loop-number-preserved
-loop-number-preserved c =
-    rw (c.in_ok-push.ensures.items, c.loop-number.invariant, add-one c.loop-number.number, range_with_len_push 0 c.loop-number.number, zero-add c.loop-number.number) refl
+pub numbers-preserved : goal.numbers-preserved
+numbers-preserved c =
+    rw (c.in_ok-push.ensures.items, c.numbers.invariant, add-one c.numbers.number, range_with_len_push 0 c.numbers.number, zero-add c.numbers.number) refl

@@ -2,5 +2,5 @@ use Rattle.std.proofs.Common.{◌≡◌}
 use Rattle.std.specs.List.{range_with_len}
 use Rattle.protocol_model.proofs.letters.numbers_below.Given as goal
 
-abbrev pub invariant-loop-number : goal.invariant-loop-number
-invariant-loop-number l = l.numbers.items ≡ range_with_len 0 l.number
+abbrev pub invariant-numbers : goal.invariant-numbers
+invariant-numbers l = l.numbers.items ≡ range_with_len 0 l.number

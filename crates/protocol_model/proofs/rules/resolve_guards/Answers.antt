@@ -6,15 +6,15 @@ use Rattle.protocol_model.proofs.rules.resolve_guards.Goals as goal
 
 pub returns-in_err-next : goal.returns-in_err-next
 returns-in_err-next c =
-    let walk = c.loop-guard in
+    let walk = c.guards in
     let p = err_from_is_err_and c.from_residual.result c.from_residual.ensures.1 in
     rw (p.1, p.2)
     (stops (λ _ guard. letters_fault c.args.letters.now guard.letters) (guard_of c.args.letters.now) c.args.guards.now walk.guard-index walk.resolved.items c.guard-item.result
-    c.in_err-next.field-0.0 c.loop-guard-test.true walk.invariant c.guard-item.is c.in_err-next.ensures)
+    c.in_err-next.field-0.0 c.guards-test.true walk.invariant c.guard-item.is c.in_err-next.ensures)
 
-pub loop-guard-preserved : goal.loop-guard-preserved
-loop-guard-preserved c =
-    let walk = c.loop-guard in
+pub guards-preserved : goal.guards-preserved
+guards-preserved c =
+    let walk = c.guards in
     rw c.in_ok-push.ensures.items
     (goes_on (λ _ guard. letters_fault c.args.letters.now guard.letters) (guard_of c.args.letters.now) c.args.guards.now walk.guard-index walk.resolved.items c.guard-item.result c.in_ok-next.next
-    c.loop-guard-test.true walk.invariant c.guard-item.is c.in_ok-next.ensures.0 c.in_ok-next.ensures.1)
+    c.guards-test.true walk.invariant c.guard-item.is c.in_ok-next.ensures.0 c.in_ok-next.ensures.1)

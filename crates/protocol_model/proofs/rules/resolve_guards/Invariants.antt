@@ -3,6 +3,6 @@ use Rattle.protocol_model.specs.Faults.{letters_fault}
 use Rattle.protocol_model.proofs.Walk.{IsWalked}
 use Rattle.protocol_model.proofs.rules.resolve_guards.Given as goal
 
-abbrev pub invariant-loop-guard : goal.invariant-loop-guard
-invariant-loop-guard l =
+abbrev pub invariant-guards : goal.invariant-guards
+invariant-guards l =
     IsWalked (λ _ guard. letters_fault l.letters guard.letters) (guard_of l.letters) l.guards l.guard-index l.resolved.items

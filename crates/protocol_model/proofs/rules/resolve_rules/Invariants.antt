@@ -4,7 +4,7 @@ use Rattle.protocol_model.specs.Faults.{rule_fault}
 use Rattle.protocol_model.proofs.Walk.{IsWalked}
 use Rattle.protocol_model.proofs.rules.resolve_rules.Given as goal
 
-abbrev pub invariant-loop-rule : goal.invariant-loop-rule
-invariant-loop-rule l =
+abbrev pub invariant-rules : goal.invariant-rules
+invariant-rules l =
     IsWalked (rule_fault l.sections) (rule_of l.sections) l.rules l.rule-index l.resolved.items
     × (l.names ≡ map (λ rule. rule.name.text) (take l.rule-index l.rules))

@@ -6,15 +6,15 @@ use Rattle.protocol_model.proofs.rules.resolve_steps.Goals as goal
 
 pub returns-in_err-next : goal.returns-in_err-next
 returns-in_err-next c =
-    let walk = c.loop-i in
+    let walk = c.steps in
     let p = err_from_is_err_and c.from_residual.result c.from_residual.ensures.1 in
     rw (p.1, p.2)
     (stops (step_fault c.args.sections.now) (step_of c.args.sections.now) c.args.steps.now walk.i walk.resolved.items c.index-steps-i.result
-    c.in_err-next.field-0.0 c.loop-i-test.true walk.invariant c.index-steps-i.is c.in_err-next.ensures)
+    c.in_err-next.field-0.0 c.steps-test.true walk.invariant c.index-steps-i.is c.in_err-next.ensures)
 
-pub loop-i-preserved : goal.loop-i-preserved
-loop-i-preserved c =
-    let walk = c.loop-i in
+pub steps-preserved : goal.steps-preserved
+steps-preserved c =
+    let walk = c.steps in
     rw c.in_ok-push.ensures.items
     (goes_on (step_fault c.args.sections.now) (step_of c.args.sections.now) c.args.steps.now walk.i walk.resolved.items c.index-steps-i.result c.in_ok-next.next
-    c.loop-i-test.true walk.invariant c.index-steps-i.is c.in_ok-next.ensures.0 c.in_ok-next.ensures.1)
+    c.steps-test.true walk.invariant c.index-steps-i.is c.in_ok-next.ensures.0 c.in_ok-next.ensures.1)

@@ -3,6 +3,6 @@ use Rattle.protocol_model.specs.Faults.{entry_fault}
 use Rattle.protocol_model.proofs.Walk.{IsWalked}
 use Rattle.protocol_model.proofs.rules.resolve_table.Given as goal
 
-abbrev pub invariant-loop-i : goal.invariant-loop-i
-invariant-loop-i l =
+abbrev pub invariant-entries : goal.invariant-entries
+invariant-entries l =
     IsWalked (entry_fault l.letters) (entry_of l.letters) l.entries l.i l.resolved.items

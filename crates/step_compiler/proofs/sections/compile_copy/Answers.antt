@@ -5,7 +5,8 @@ use Rattle.protocol_model.specs.Patterns.{has_any_length}
 use Rattle.protocol_model.specs.Raised.{IsRaisedMove}
 use Rattle.transducers.specs.Transducer.{Relates}
 use Rattle.step_compiler.specs.Sections.{Stays}
-use Rattle.step_compiler.proofs.SectionLemmas.{copies_one, copies_any, ↔-trans}
+use Rattle.sequence.proofs.Tests.{joined}
+use Rattle.step_compiler.proofs.SectionLemmas.{copies_one, copies_any}
 use Rattle.step_compiler.proofs.sections.compile_copy.Goals as goal
 
 pub returns-in-Cell-clause-relates : goal.returns-in-Cell-clause-relates
@@ -14,7 +15,7 @@ returns-in-Cell-clause-relates c =
     ↔ IsRaisedMove (Stays k) c.args.alphabet.offset c.args.alphabet.count u w)) (sym c.in-Cell.is)
     (IfOk-weaker c.copy_one.result _
     (λ t. (u w : List ℕ) → Relates t u w ↔ IsRaisedMove (Stays Cell) c.args.alphabet.offset c.args.alphabet.count u w)
-    (λ t h u w. ↔-trans (h u w) (copies_one c.args.alphabet.offset c.args.alphabet.count u w)) c.copy_one.ensures.copies)
+    (λ t h u w. joined (h u w) (copies_one c.args.alphabet.offset c.args.alphabet.count u w)) c.copy_one.ensures.copies)
 
 pub returns-in-Array : goal.returns-in-Array
 returns-in-Array c =
@@ -27,5 +28,5 @@ returns-in-Array c =
       letters = c.copy_any.ensures.letters;
       relates = IfOk-weaker c.copy_any.result _
           (λ t. (u w : List ℕ) → Relates t u w ↔ IsRaisedMove (Stays c.args.kind) c.args.alphabet.offset c.args.alphabet.count u w)
-          (λ t h u w. ↔-trans (h u w) (copies_any c.args.kind c.args.alphabet.offset c.args.alphabet.count any u w)) c.copy_any.ensures.copies;
+          (λ t h u w. joined (h u w) (copies_any c.args.kind c.args.alphabet.offset c.args.alphabet.count any u w)) c.copy_any.ensures.copies;
     }

@@ -10,20 +10,20 @@ use Rattle.protocol_model.proofs.sections.Sections.new.Goals as goal
 
 pub returns-then-not-branch : goal.returns-then-not-branch
 returns-then-not-branch c =
-    let walk = c.loop-section in
+    let walk = c.sections in
     let item = c.section-item.result in
     let before = section_names (take walk.section-index c.args.texts.now) in
     let among : is_among before item.name ≡ true =
     subst (λ names. is_among names item.name ≡ true) walk.invariant.0.values
     (added_before walk.numbers item.name c.as_str.result.now c.in_ok-add.field-0 c.in_ok-add.ensures.added c.if-not-branch.true c.as_str.ensures) in
     stops section_fault (λ section. section.name.text) c.args.texts.now walk.section-index walk.numbers item c.duplicate_name.result
-    c.loop-section-test.true walk.invariant.0 c.section-item.is
+    c.sections-test.true walk.invariant.0 c.section-item.is
     (or_left (duplicate before item.name) (first_fault_of (λ earlier. duplicate (texts_of earlier)) [] item.letters) c.duplicate_name.result
     (fault_where_true (is_among before item.name) (Duplicate item.name) c.duplicate_name.result among c.duplicate_name.ensures))
 
 pub returns-in_err-letter_names : goal.returns-in_err-letter_names
 returns-in_err-letter_names c =
-    let walk = c.loop-section in
+    let walk = c.sections in
     let item = c.section-item.result in
     let before = section_names (take walk.section-index c.args.texts.now) in
     let among : is_among before item.name ≡ false =
@@ -33,13 +33,13 @@ returns-in_err-letter_names c =
     let letters = rw c.as_slice.ensures at c.in_err-letter_names.ensures in
     rw (p.1, p.2)
     (stops section_fault (λ section. section.name.text) c.args.texts.now walk.section-index walk.numbers item c.in_err-letter_names.field-0.0
-    c.loop-section-test.true walk.invariant.0 c.section-item.is
+    c.sections-test.true walk.invariant.0 c.section-item.is
     (or_right (duplicate before item.name) (first_fault_of (λ earlier. duplicate (texts_of earlier)) [] item.letters) c.in_err-letter_names.field-0.0
     (ap (λ b. cond b (Some (Duplicate item.name)) None) among) letters))
 
-pub loop-section-preserved : goal.loop-section-preserved
-loop-section-preserved c =
-    let walk = c.loop-section in
+pub sections-preserved : goal.sections-preserved
+sections-preserved c =
+    let walk = c.sections in
     let item = c.section-item.result in
     let before = section_names (take walk.section-index c.args.texts.now) in
     let among : is_among before item.name ≡ false =
@@ -50,7 +50,7 @@ loop-section-preserved c =
     let letters : (first_fault_of (λ earlier. duplicate (texts_of earlier)) [] c.as_slice.result.now ≡ None) × (c.in_ok-letter_names.field-0 ≡ texts_of c.as_slice.result.now) =
     c.in_ok-letter_names.ensures in (
       rw more (goes_on section_fault (λ section. section.name.text) c.args.texts.now walk.section-index walk.numbers item c.as_str.result.now
-          c.loop-section-test.true walk.invariant.0 c.section-item.is
+          c.sections-test.true walk.invariant.0 c.section-item.is
           (or_none (duplicate before item.name) (first_fault_of (λ earlier. duplicate (texts_of earlier)) [] item.letters)
           (ap (λ b. cond b (Some (Duplicate item.name)) None) among) (rw (← c.as_slice.ensures) letters.0)) c.as_str.ensures),
       rw (
@@ -58,7 +58,7 @@ loop-section-preserved c =
         walk.invariant.1,
         letters.1,
         c.as_slice.ensures,
-        take_more c.args.texts.now walk.section-index item c.loop-section-test.true,
+        take_more c.args.texts.now walk.section-index item c.sections-test.true,
         map-append (λ section. texts_of section.letters) (take walk.section-index c.args.texts.now)
             (get_or c.args.texts.now walk.section-index item ∷ []),
         ← c.section-item.is,

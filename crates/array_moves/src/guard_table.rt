@@ -1,12 +1,12 @@
-//! What the letters do in an `at` move, and the phases in which a list is read.
-//! What each letter does to each guard is found once for each side, so that a step of a phase takes constant time.
+//! What the letters do in an `at` move, and the control states in which a list is read.
+//! What each letter does to each guard is found once for each side, so that a step of a control state takes constant time.
 
 ghost use Rattle.std.specs.Prelude.{◌≡◌, ◌<◌, ◌^◌, Bool, List, ℕ, IsTrue, IfOk, map, length};
 ghost use Rattle.std.specs.List.{list_all, range_with_len};
 ghost use Rattle.protocol_model.specs.Moves.{table_value};
 ghost use Rattle.array_moves.specs.Flags.{four_flags, union_of, covers_one, covers, has_side, permits};
 ghost use Rattle.array_moves.specs.Flags.{meets, meets_at, effect_of, asks_at, required_of, widened, reach_of};
-ghost use Rattle.array_moves.specs.Phases.{IsPlan, after_letter, after_move, can_end, is_final};
+ghost use Rattle.array_moves.specs.ControlStates.{IsGuardTable, after_letter, after_move, can_end, is_final};
 
 use protocol_model::{Guard, table_value};
 use protocol_syntax::Region;
@@ -15,14 +15,14 @@ use std::alloc::{AllocError, Global};
 /// How much of a list is read: whether the moving position is passed, and which of the guards are met that ask for some
 /// letter. There is a flag for each guard, in their order.
 #[derive(Clone, Copy, PartialEq, Eq, Hash, Debug)]
-pub(crate) struct Phase {
+pub(crate) struct ControlState {
     pub(crate) moved: bool,
     pub(crate) met: [bool; 4],
 }
 
 /// What the letters of the section do in a move.
 #[derive(Drop, Debug)]
-pub(crate) struct Plan {
+pub(crate) struct GuardTable {
     /// The letter of the moving position before.
     pub(crate) from: u32,
     /// Its letter after.
@@ -41,74 +41,74 @@ pub(crate) struct Plan {
     pub(crate) required: [bool; 4],
 }
 
-impl Plan {
-    /// The phase after a letter of a position that does not move, if the guards allow it.
-    pub(crate) fn after_letter(&self, phase: Phase, letter: u32) -> Option<Phase>
-        ensures { result ≡ after_letter self.now phase letter }
+impl GuardTable {
+    /// The control state after a letter of a position that does not move, if the guards allow it.
+    pub(crate) fn after_letter(&self, control: ControlState, letter: u32) -> Option<ControlState>
+        ensures { result ≡ after_letter self.now control letter }
     {
-        let effects = if phase.moved {
+        let effects = if control.moved {
             &self.behind
         } else {
             &self.before
         };
         match effects.get(letter as usize) {
-            Some(Some(met)) => Some(Phase {
-                moved: phase.moved,
-                met: union(phase.met, *met),
+            Some(Some(met)) => Some(ControlState {
+                moved: control.moved,
+                met: union(control.met, *met),
             }),
             _ => None,
         }
     }
 
-    /// The phase after the moving position, if it was not passed before and the guards can still be met.
-    pub(crate) fn after_move(&self, phase: Phase) -> Option<Phase>
-        ensures { result ≡ after_move self.now phase }
+    /// The control state after the moving position, if it was not passed before and the guards can still be met.
+    pub(crate) fn after_move(&self, control: ControlState) -> Option<ControlState>
+        ensures { result ≡ after_move self.now control }
     {
-        if phase.moved {
+        if control.moved {
             return None;
         }
-        let met = phase.met;
-        let next = Phase { moved: true, met };
+        let met = control.met;
+        let next = ControlState { moved: true, met };
         if self.can_end(next) { Some(next) } else { None }
     }
 
     /// Whether the guards that ask for some letter can still be met.
-    pub(crate) fn can_end(&self, phase: Phase) -> bool
-        ensures { result ≡ can_end self.now phase }
+    pub(crate) fn can_end(&self, control: ControlState) -> bool
+        ensures { result ≡ can_end self.now control }
     {
-        let met = if phase.moved {
-            phase.met
+        let met = if control.moved {
+            control.met
         } else {
-            union(phase.met, self.reach_before)
+            union(control.met, self.reach_before)
         };
         covers(union(met, self.reach_behind), self.required)
     }
 
-    /// Whether a list may end in the phase.
-    pub(crate) fn is_final(&self, phase: Phase) -> bool
-        ensures { result ≡ is_final self.now phase }
+    /// Whether a list may end in the control state.
+    pub(crate) fn is_final(&self, control: ControlState) -> bool
+        ensures { result ≡ is_final self.now control }
     {
-        phase.moved && covers(phase.met, self.required)
+        control.moved && covers(control.met, self.required)
     }
 }
 
-/// The plan of a move, for the `count` letters of its section.
-pub(crate) fn plan_of(
+/// The guard table of a move, for the `count` letters of its section.
+pub(crate) fn guard_table_of(
     alloc: Global,
     from: u32,
     into: u32,
     guards: &[Guard],
     table: &[(u32, u32)],
     count: u32,
-) -> Result<Plan, AllocError>
-    ensures { IfOk result (λ plan. IsPlan from into guards.now table.now count plan) }
+) -> Result<GuardTable, AllocError>
+    ensures { IfOk result (λ guard_table. IsGuardTable from into guards.now table.now count guard_table) }
 {
     let images = images(alloc, table, count)?;
     let before = effects(alloc, guards, false, count)?;
     let behind = effects(alloc, guards, true, count)?;
     let reach_before = reach(before.as_slice());
     let reach_behind = reach(behind.as_slice());
-    Ok(Plan {
+    Ok(GuardTable {
         from,
         into,
         images,
