@@ -36,8 +36,8 @@ use word_automata::{Dfa, Nfa};
 /// words. States are numbered breadth first, letters in increasing order. States from which no word is accepted stand in no set. Edges
 /// whose targets are simulated by those of other edges of the same state and letter are dropped first, and states that others of a set
 /// simulate stand in no set, as far as pairs of states were compared. The time is linear in the edges of the automaton and in those that
-/// leave the states of the sets that are reached, up to sorting, on average. Where a letter leads from one state to two, comparing takes
-/// time in the edges of at most 2 to the 18 pairs, at most 16 times each, and a set may take time quadratic in its states.
+/// leave the states of the sets that are reached, up to sorting, on average. Where a letter leads from one state to two, pairs of states
+/// are compared, at most 2 to the 18 of them in at most 16 rounds over their edges, and a set may take time quadratic in its states.
 pub fn determinise(alloc: Global, automaton: &Nfa) -> Result<Dfa, AllocError>
     ensures language { IfOk result (λ dfa. (w : List ℕ) → IsTrue (accepts dfa w) ↔ Accepts automaton.now w) }
     ensures letters { IfOk result (λ dfa. dfa.letters ≡ automaton.now.letters) }

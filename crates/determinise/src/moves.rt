@@ -58,22 +58,11 @@ fn moves_from(
     requires { AreStates automaton.now states.now }
     ensures { IfOk result (λ moves. moves.items ≡ moves_from automaton.now states.now) }
 {
-    let mut moves = Vec::with_capacity(alloc, count_edges(automaton, states))?;
+    let mut moves = Vec::new(alloc);
     'states: for state in states {
         add_moves(&mut moves, automaton.edges_from(*state))?;
     }
     Ok(moves)
-}
-
-/// The number of edges out of the states.
-fn count_edges(automaton: &Nfa, states: &[usize]) -> usize
-    requires { AreStates automaton.now states.now }
-{
-    let mut count: usize = 0;
-    'states: for state in states {
-        count = count.saturating_add(automaton.edges_from(*state).len());
-    }
-    count
 }
 
 /// Adds the moves of the edges with a letter.
@@ -83,6 +72,7 @@ fn add_moves(
 ) -> Result<(), AllocError>
     ensures { OnOk result (moves.new.items ≡ moves.old.items ++ filter_map lettered_move edges.now) }
 {
+    moves.reserve(edges.len())?;
     'edges: for &(letter, to) in edges {
         if let Some(letter) = letter {
             moves.push((letter, to))?;

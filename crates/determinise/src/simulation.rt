@@ -1,7 +1,8 @@
 //! A simulation between the states of an automaton (R. Milner, 1971), as far as it is asked for: the pairs of states to which one
 //! letter leads from one state, and the pairs on which these depend. Of the pairs those that do not hold are taken out, in rounds from
-//! the last to the first, until a round takes none out (the greatest fixpoint). There are at most 2 to the 18 pairs, and at most 16
-//! rounds: where it takes more, there is no answer. Where no letter leads to two states, it costs one pass over the edges.
+//! the last to the first, until a round takes none out (the greatest fixpoint). There are at most 2 to the 18 pairs and 16 rounds, and
+//! pairs are asked for at most 256 times for each state and edge: where it takes more, there is no answer. Where no letter leads to two
+//! states, it costs one pass over the edges.
 
 ghost use Rattle.std.specs.Prelude.{◌≡◌, false, IsTrue, IfOk, IfSome};
 ghost use Rattle.determinise.specs.Simulation.{IsBelow, IsMatched, AreMatched, IsSimulatedBy, IsSimulation};
@@ -14,8 +15,8 @@ use word_automata::Nfa;
 /// With more pairs there is no answer.
 const MOST_PAIRS: usize = 262_144;
 
-/// Nor with more pairs than so many for each state and edge.
-const PAIRS_PER_EDGE: usize = 64;
+/// Nor where pairs are asked for more often than so many times for each state and edge.
+const ASKS_PER_EDGE: usize = 256;
 
 /// Nor after so many rounds.
 const MOST_ROUNDS: usize = 16;
@@ -65,12 +66,12 @@ fn ask_within(pairs: &mut StatePairs, edges: &[(Option<u32>, usize)]) -> Result<
 
 /// Adds the pairs on which the pairs depend, and tells whether there are not too many.
 fn ask_all(pairs: &mut StatePairs, automaton: &Nfa) -> Result<bool, AllocError> {
-    let most = most_pairs(automaton);
+    let most = most_asks(automaton);
     'pairs: for place in 0..MOST_PAIRS {
         if place >= pairs.len() {
             return Ok(true);
         }
-        if pairs.len() > most {
+        if pairs.len() > MOST_PAIRS || pairs.asked() > most {
             return Ok(false);
         }
         let (low, high) = pairs.pair(place);
@@ -79,13 +80,13 @@ fn ask_all(pairs: &mut StatePairs, automaton: &Nfa) -> Result<bool, AllocError> 
     Ok(false)
 }
 
-/// So many pairs are not too many.
-fn most_pairs(automaton: &Nfa) -> usize {
+/// So often may pairs be asked for.
+fn most_asks(automaton: &Nfa) -> usize {
     let mut size = automaton.states();
     'states: for state in 0..automaton.states() {
         size = size.saturating_add(automaton.edges_from(state).len());
     }
-    size.saturating_mul(PAIRS_PER_EDGE).min(MOST_PAIRS)
+    size.saturating_mul(ASKS_PER_EDGE).min(16 * MOST_PAIRS)
 }
 
 /// Adds the pairs on which the pair depends, unless it does not hold at once.

@@ -23,6 +23,7 @@ pub struct StatePairs {
     pairs: Vec<(usize, usize)>,
     slots: Vec<u32>,
     lows: Vec<bool>,
+    asked: usize,
 }
 
 impl Model for StatePairs {
@@ -43,6 +44,7 @@ impl StatePairs {
             pairs: Vec::new(alloc),
             slots: Vec::new(alloc),
             lows: Vec::new(alloc),
+            asked: 0,
         }
     }
 
@@ -51,6 +53,11 @@ impl StatePairs {
         ensures { result ≡ length self.now }
     {
         self.pairs.len()
+    }
+
+    /// How often a pair was to be added.
+    pub fn asked(&self) -> usize {
+        self.asked
     }
 
     /// The pair that was added after so many others, or what it became.
@@ -84,6 +91,7 @@ impl StatePairs {
 
     /// Adds the pair, if it is not there. More than 2 to the 32 pairs are want of memory.
     pub fn add(&mut self, low: usize, high: usize) -> Result<(), AllocError> {
+        self.asked = self.asked.saturating_add(1);
         if self.contains(low, high) {
             return Ok(());
         }
