@@ -1,6 +1,6 @@
 -- Two rounds, two replays and two histories with the same beginning are equal: each automaton is determined by its words, and each end
 -- by what the last automaton accepts.
-use Rattle.std.proofs.Common.{◌≡◌, ◌≢◌, ◌+◌, ◌∙◌, ℕ, Bool, true, false, List, [], ◌∷◌, None, Some, IsTrue, arith, refl, sym, subst, ap, reverse, true≢false}
+use Rattle.std.proofs.Common.{◌≡◌, ◌+◌, ◌∙◌, ℕ, Bool, true, false, List, [], ◌∷◌, None, Some, IsTrue, arith, refl, sym, subst, ap, reverse, true≢false}
 use Rattle.std.specs.List.{last_or}
 use Rattle.word_automata.specs.Automaton.{Automaton, accepts}
 use Rattle.minimise.proofs.Unique.{is_unique}
