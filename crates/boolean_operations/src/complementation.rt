@@ -1,4 +1,5 @@
-//! The complement of an automaton among the words over its letters.
+//! The complement of an automaton among the words over its letters: where an edge is missing it leads to one more state, and the states
+//! that accepted do not (Rabin and Scott, 1959). It takes time and memory for each letter at each state.
 
 ghost use Rattle.std.specs.Prelude.{◌≡◌, ◌&&◌, ℕ, not, List, Option, IfOk};
 ghost use Rattle.word_automata.specs.Automaton.{accepts, IsValid};

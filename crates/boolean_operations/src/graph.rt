@@ -1,4 +1,5 @@
-//! Graphs whose edges have a letter or none, as a search for a least word sees them.
+//! Graphs whose edges have a letter or none, as a search for a least word sees them: it asks for the edges of each state once, and for
+//! its code.
 
 ghost use Rattle.std.specs.Prelude.{◌≡◌, ◌↔◌, ℕ, Bool, Option, None, Some, [], true, All, Contains, IfOk, OnOk};
 ghost use Rattle.boolean_operations.specs.Search.{Gathers};

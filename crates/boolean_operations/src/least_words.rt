@@ -1,4 +1,5 @@
-//! The least word that an automaton accepts, by a search breadth first that ends at the first accepting state.
+//! The least word that an automaton accepts, by a search breadth first (Moore, 1959) that ends at the first accepting state: time linear
+//! in the edges that are reached.
 
 ghost use Rattle.std.specs.Prelude.{◌≡◌, ◌↔◌, Some, MatchOption, IfOk, IsTrue};
 ghost use Rattle.word_automata.specs.Path.{is_accepting};

@@ -1,4 +1,5 @@
-//! Sorted lists of edges that are gone through letter by letter.
+//! Sorted lists of edges that are gone through letter by letter, as two lists are merged: constant time a step. A letter that is no
+//! neighbour of the last one is searched by halves, in logarithmic time.
 
 ghost use Rattle.std.specs.Prelude.{◌≡◌, ◌-◌, ◌<◌, ◌≤◌, ◌⊎◌, length, IfOk, IfErr, IsTrue};
 ghost use Rattle.word_automata.specs.Automaton.{HasIncreasingLetters, find_target};

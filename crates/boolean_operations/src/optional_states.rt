@@ -1,4 +1,5 @@
-//! States of an automaton that may be missing: where no edge leads on, there is none, and no word is accepted from there.
+//! States of an automaton that may be missing: where no edge leads on, there is none, and no word is accepted from there. Each call takes
+//! constant time.
 
 ghost use Rattle.std.specs.Prelude.{◌≡◌, ◌<◌};
 ghost use Rattle.word_automata.specs.Automaton.{IsValid};

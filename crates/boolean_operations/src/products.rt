@@ -1,4 +1,5 @@
-//! Union, intersection and difference, as products of two automata: the sorted edges of two states are merged.
+//! Union, intersection and difference, as products of two automata (Rabin and Scott, 1959) of which the pairs that are reached are made,
+//! breadth first: the sorted edges of two states are merged. The time is linear in the edges of both states of these pairs, on average.
 
 ghost use Rattle.std.specs.Prelude.{◌≡◌, ◌&&◌, ◌||◌, ℕ, not, List, Option, IfOk};
 ghost use Rattle.word_automata.specs.Automaton.{accepts, IsValid};

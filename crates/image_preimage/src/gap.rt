@@ -2,9 +2,9 @@
 //! in it has no edge, and the edge behind it is looked at first. Letters that are asked for in increasing order thus merge two lists;
 //! others are searched by halves, in logarithmic time.
 
-ghost use Rattle.std.specs.Prelude.{◌≡◌, ◌≤◌, ◌<◌, ℕ, length};
+ghost use Rattle.std.specs.Prelude.{◌≡◌, ◌≤◌, ◌<◌, ℕ, IfOk, IfErr, length};
 ghost use Rattle.word_automata.specs.Automaton.{HasIncreasingLetters, find_target};
-ghost use Rattle.word_automata.specs.EdgeList.{letter_at};
+ghost use Rattle.word_automata.specs.EdgeList.{letter_at, IsEdgeAt, IsGapFor};
 ghost use Rattle.image_preimage.specs.Gaps.{IsGap};
 
 use boolean_operations::search_near;
@@ -40,7 +40,7 @@ impl Gap {
         if self.low < letter && letter < self.high {
             return None;
         }
-        match search_near(edges, self.place, letter) {
+        match self.find(edges, letter) {
             Ok(at) => {
                 self.set(letter, letter_from(edges, at + 1), at + 1);
                 Some(edges[at].1)
@@ -50,6 +50,18 @@ impl Gap {
                 None
             }
         }
+    }
+
+    /// The place of the edge with the letter, or else the one where it would go. The edge behind the gap is looked at first, without a call.
+    fn find(&self, edges: &[(u32, usize)], letter: u32) -> Result<usize, usize>
+        requires { HasIncreasingLetters edges.now }
+        ensures found { IfOk result (IsEdgeAt edges.now letter) }
+        ensures absent { IfErr result (IsGapFor edges.now letter) }
+    {
+        if self.place < edges.len() && edges[self.place].0 == letter {
+            return Ok(self.place);
+        }
+        search_near(edges, self.place, letter)
     }
 
     /// Makes this the gap between these letters, behind which the place is.
