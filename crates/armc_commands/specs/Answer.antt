@@ -84,7 +84,7 @@ pub record KeepsCounts (library library' : LibraryState) (out out' err err' : Si
   pub out_count : out.faults ≤ out'.faults
   pub err_count : err.faults ≤ err'.faults
 
--- both texts are whole, and the words and the told texts decide them, or they tell of want of memory
+-- both texts are whole, and the words and the told texts decide them, or they say that memory ran out
 pub record IsDecided (words : List (List ℕ)) (told : Told) (out out' err err' : SinkState) (result : Status) : Type 0 where
   pub outcome : Result Reply Failure
   pub is_decided : IsDecidedBy words told outcome

@@ -1,4 +1,4 @@
--- What a call comes to, and exactly when: a reply, a read that failed, a text that is too long, or want of memory.
+-- What a call comes to, and exactly when: a reply, a read that failed, a text that is too long, or running out of memory.
 use Rattle.std.specs.Prelude.{◌≡◌, ◌<◌, ◌⊎◌, ℕ, List, length, true, false, Some, None, IfSome, IsSome, IsTrue, Result, Ok, Err}
 use Rattle.armc_io.specs.Faults.{Rose}
 use Rattle.armc_io.specs.Library.{LibraryState, LastIs}
@@ -85,14 +85,14 @@ pub record IsTooLong (words : List (List ℕ)) (old new : LibraryState) (name : 
   pub told_so : IsToldTooLong words old.told name limit
   pub last : (taken : ℕ) × (limit < taken) × LastIs new name false taken
 
--- what a call comes to, over a library with this state before and after; want of memory may come at any point
+-- what a call comes to, over a library with this state before and after; running out of memory may come at any point
 abbrev pub IsOutcome : List (List ℕ) → LibraryState → LibraryState → Result Reply Failure → Type 0
 IsOutcome words old new (Ok reply) = IsReply words old.told reply
 IsOutcome words old new (Err (ReadFault name)) = IsReadFault words old new name
 IsOutcome words old new (Err (TooLong name)) = IsTooLong words old new name
 IsOutcome words old new (Err Memory) = Unit {0}
 
--- what the words and the told texts decide, and want of memory
+-- what the words and the told texts decide, and running out of memory
 abbrev pub IsDecidedBy : List (List ℕ) → Told → Result Reply Failure → Type 0
 IsDecidedBy words told (Ok reply) = IsReply words told reply
 IsDecidedBy words told (Err (ReadFault name)) = ⊥

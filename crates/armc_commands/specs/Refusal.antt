@@ -54,13 +54,13 @@ model_text (model.TouchedTwice name) = in_protocol name.place (codes "touched tw
 model_text (model.WrongKind name) = in_protocol name.place (codes "wrong kind " ++ name.text)
 model_text model.Memory = []
 
--- how the fault of a configuration is told; want of memory is no fault of a text
+-- how the fault of a configuration is told; running out of memory is no fault of a text
 abbrev pub configuration_refusal_text : ConfigFault → List ℕ
 configuration_refusal_text (configuration.BadByte place) = located (codes "configuration") place (codes "bad byte")
 configuration_refusal_text (configuration.Unexpected place) = located (codes "configuration") place (codes "unexpected token")
 configuration_refusal_text configuration.Memory = []
 
--- how the fault of a protocol is told; want of memory is no fault of a text
+-- how the fault of a protocol is told; running out of memory is no fault of a text
 abbrev pub refusal_text : Refusal → List ℕ
 refusal_text (Syntax fault) = syntax_text fault
 refusal_text (Model fault) = model_text fault

@@ -24,7 +24,7 @@ fn told(alloc: Global, outcome: Result<Reply, Failure>) -> Result<Reply, AllocEr
     }
 }
 
-// Puts the texts of the answer, or those of want of memory where they cannot be made.
+// Puts the texts of the answer, or those that say that memory ran out where they cannot be made.
 fn answer<O: Sink, E: Sink>(
     alloc: Global,
     outcome: Result<Reply, Failure>,
@@ -57,7 +57,7 @@ fn answer<O: Sink, E: Sink>(
 /// first part of a proof or a run that fails. `ReadFault` comes where a read failed or a text is longer than its limit,
 /// `ProtocolRefused` where the text of the protocol has a fault, and `CertificateRefused` where that of the certificate or the
 /// configuration has one, each with the place of the first one. `Usage` comes for words that mean no command, `WriteFault` where a
-/// sink failed, and `Memory` for want of memory.
+/// sink failed, and `Memory` where memory runs out.
 pub fn run<L: Library, O: Sink, E: Sink, G: Gate, R: Threads + Sync>(
     alloc: Global,
     runtime: &R,

@@ -68,7 +68,7 @@ pub fn second_origin(command: Command<'_>) -> Origin<'_>
     }
 }
 
-/// The reply of the command for this protocol, which has no fault, its system and the second text. The only error is want of memory.
+/// The reply of the command for this protocol, which has no fault, its system and the second text. The only error is that memory ran out.
 pub fn command_reply<G: Gate, R: Threads + Sync>(
     alloc: Global,
     runtime: &R,

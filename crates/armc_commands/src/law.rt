@@ -16,7 +16,7 @@ use protocol_steps::one_answer as one_list;
 use protocol_syntax::one_reading as one_protocol;
 
 /// The law of replies: where every text that the words read is told, the words and the told texts decide one reply, or one text that is
-/// too long, beside want of memory. The function does nothing.
+/// too long, beside running out of memory. The function does nothing.
 pub fn one_reply()
     ensures { OutcomeIsDetermined }
 {

@@ -15,7 +15,7 @@ pub fn rule_name(system: &System, rule: u32) -> &[u8]
     }
 }
 
-/// The line of these words and more after them. The only error is want of memory.
+/// The line of these words and more after them. The only error is that memory ran out.
 pub fn line_of(alloc: Global, words: &[u8], more: &[u8]) -> Result<Vec<u8>, AllocError>
     ensures { IfOk result (λ made. made.items ≡ line (words.now ++ more.now)) }
 {

@@ -39,7 +39,7 @@ fn refused_by_names(fault: ModelFault) -> Result<Reading, AllocError>
     }
 }
 
-/// Reads the text of a protocol. The only error is want of memory.
+/// Reads the text of a protocol. The only error is that memory ran out.
 pub fn read_protocol(alloc: Global, text: &[u8]) -> Result<Reading, AllocError>
     ensures { IfOk result (IsReadingOf text.now) }
 {

@@ -106,7 +106,7 @@ fn model_line(alloc: Global, fault: &ModelFault) -> Result<Vec<u8>, AllocError>
     }
 }
 
-/// The line that tells the first fault of a protocol. The only error is want of memory.
+/// The line that tells the first fault of a protocol. The only error is that memory ran out.
 pub fn refusal_line(alloc: Global, refusal: &Refusal) -> Result<Vec<u8>, AllocError>
     ensures { IfOk result (λ made. made.items ≡ line (refusal_text refusal.now)) }
 {
@@ -116,7 +116,7 @@ pub fn refusal_line(alloc: Global, refusal: &Refusal) -> Result<Vec<u8>, AllocEr
     }
 }
 
-/// The line that tells the first fault of a configuration. The only error is want of memory.
+/// The line that tells the first fault of a configuration. The only error is that memory ran out.
 pub fn configuration_refusal_line(alloc: Global, fault: &ConfigFault) -> Result<Vec<u8>, AllocError>
     ensures fault { OnOk result (fault.now ≢ ConfigFault.Memory) }
     ensures line { IfOk result (λ made. made.items ≡ line (configuration_refusal_text fault.now)) }

@@ -47,7 +47,7 @@ pub fn on_err(alloc: Global, status: Status, text: Vec<u8>) -> Reply
     }
 }
 
-/// The reply to words that mean no command: the commands with their words. The only error is want of memory.
+/// The reply to words that mean no command: the commands with their words. The only error is that memory ran out.
 pub fn usage(alloc: Global) -> Result<Reply, AllocError>
     ensures { IfOk result (λ reply. reply ≡ usage_reply) }
 {
@@ -55,7 +55,7 @@ pub fn usage(alloc: Global) -> Result<Reply, AllocError>
     Ok(on_err(alloc, Status::Usage, text))
 }
 
-/// The reply to a protocol with this first fault. The only error is want of memory.
+/// The reply to a protocol with this first fault. The only error is that memory ran out.
 pub fn refusal_reply(alloc: Global, refusal: &Refusal) -> Result<Reply, AllocError>
     ensures { IfOk result (λ reply. reply ≡ refusal_reply_of refusal.now) }
 {
@@ -63,7 +63,7 @@ pub fn refusal_reply(alloc: Global, refusal: &Refusal) -> Result<Reply, AllocErr
     Ok(on_err(alloc, Status::ProtocolRefused, text))
 }
 
-/// What is replied where a call failed. The only error is want of memory.
+/// What is replied where a call failed. The only error is that memory ran out.
 pub fn failure_reply(alloc: Global, failure: &Failure) -> Result<Reply, AllocError>
     ensures { IfOk result (λ reply. reply ≡ failure_reply_of failure.now) }
 {

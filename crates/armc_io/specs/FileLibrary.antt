@@ -20,7 +20,7 @@ abbrev pub read_of : ℕ → List ℕ → Bool → ℕ → FileReads
 read_of faults name has_failed taken =
     record { faults = faults; last = Some (record { name = name; has_failed = has_failed; taken = taken }) }
 
--- at most `limit` bytes and one more were taken, `TooLong` took that many, only `Failed` is a fault, and want of memory
+-- at most `limit` bytes and one more were taken, `TooLong` took that many, only `Failed` is a fault, and running out of memory
 -- changes nothing
 abbrev pub ReadsFile : FileReads → FileReads → List ℕ → ℕ → Result (Vec ℕ Global) ReadFail → Type 0
 ReadsFile old new name limit (Ok bytes) = (length bytes.items ≤ limit) × (new ≡ read_of old.faults name false (length bytes.items))

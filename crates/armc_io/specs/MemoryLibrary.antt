@@ -51,7 +51,7 @@ after_failure now name =
       last = Some (record { name = name; has_failed = true; taken = 0 });
     }
 
--- the read answers what the contents say, and is counted; for want of memory nothing changes
+-- the read answers what the contents say, and is counted; where memory runs out nothing changes
 abbrev pub ReadsContents : LibraryContents → LibraryContents → List ℕ → ℕ → Result (Vec ℕ Global) ReadFail → Type 0
 ReadsContents old new name limit (Ok bytes) =
     (answer_of old name limit ≡ Ok bytes.items) × (new ≡ after_read old name (length bytes.items))

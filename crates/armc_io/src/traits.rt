@@ -40,7 +40,7 @@ pub trait Library {
     ghost state: { Self → LibraryState };
 
     /// Reads all bytes of `name`, at most `limit` of them. `Failed` comes only with a counted fault, `TooLong` where there
-    /// are more bytes than `limit`, and `Memory` for want of memory.
+    /// are more bytes than `limit`, and `Memory` where memory runs out.
     fn read_all(&mut self, name: &str, limit: u64) -> Result<Vec<u8>, ReadFail>
         requires { limit < 2 ^ 63 }
         ensures told { (state self.new).told ≡ (state self.old).told }

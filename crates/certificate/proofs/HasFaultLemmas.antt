@@ -273,7 +273,7 @@ module _ (s : SystemData) (valid : IsValid s) where
   pub certificate_found : (text : List ℕ) (c : Certificate) → IsCertificateOf s text c → (d : Certificate) → IsCertificateOf s text d ↔ (c ≡ d)
   certificate_found text c means d = (means_unique text c d means, λ e. subst (IsCertificateOf s text) e means)
 
-  -- where each fault but want of memory is the text's, a text with a meaning has no other
+  -- where each fault but running out of memory is the text's, a text with a meaning has no other
   pub only_memory : (text : List ℕ) (fault : CertFault) → (fault ≢ Memory → HasFault s text fault) → (c : Certificate) → IsCertificateOf s text c
       → fault ≡ Memory
   only_memory text fault h c means = elim (is_memory fault) [

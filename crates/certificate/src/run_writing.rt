@@ -11,7 +11,7 @@ use protocol_model::{Configuration, Run, System};
 use std::alloc::{AllocError, Global};
 
 /// The text of a certificate that is this run: its first configuration, and for each step the name of its rule and the
-/// configuration after it. The only error is want of memory.
+/// configuration after it. The only error is that memory ran out.
 pub fn write_unsafe(alloc: Global, system: &System, run: &Run) -> Result<Vec<u8>, AllocError>
     requires { IsRunOf system.now run.now }
     ensures { IfOk result (λ text. MeansRun system.now text.items run.now) }

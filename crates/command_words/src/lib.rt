@@ -244,7 +244,7 @@ fn command_called<'a>(
 /// `show FILE`, `steps FILE CONFIGURATION` or `gen N [--workers N]`. Options stand anywhere after it, each at most once, as `--x V` or
 /// `--x=V`, and a word `--` ends them. No word is empty. A number is one to seven digits, and in its range.
 ///
-/// Errors: `AllocError` for want of memory alone.
+/// Errors: `AllocError`, only where memory runs out.
 pub fn command_of<'a>(alloc: Global, words: &'a [String]) -> Result<Option<Command<'a>>, AllocError>
     ensures command { IfOk result (λ found. MatchOption found (command_of_words (map string_bytes words.now) ≡ None)
         (λ command. command_of_words (map string_bytes words.now) ≡ Some (said command))) }

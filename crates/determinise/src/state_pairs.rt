@@ -89,7 +89,7 @@ impl StatePairs {
         false
     }
 
-    /// Adds the pair, if it is not there. More than 2 to the 32 pairs are want of memory.
+    /// Adds the pair, if it is not there. More than 2 to the 32 pairs are answered as running out of memory.
     pub fn add(&mut self, low: usize, high: usize) -> Result<(), AllocError> {
         self.asked = self.asked.saturating_add(1);
         if self.contains(low, high) {

@@ -9,12 +9,12 @@ use Rattle.protocol_model.specs.declared.fault.ModelFault.TheVariants.{Memory}
 use Rattle.protocol_model.specs.Numbering.{section_names, section_named, letters_named, number_of}
 use Rattle.protocol_model.specs.Faults.{is_among}
 
--- the answer is the value where there is no fault, and else the fault; it may always be want of memory
+-- the answer is the value where there is no fault, and else the fault; it may always be running out of memory
 abbrev pub IsOutcome : {T : Type 0} → Option ModelFault → T → Result T ModelFault → Type 0
 IsOutcome fault value (Ok x) = (fault ≡ None) × (x ≡ value)
 IsOutcome fault value (Err e) = (fault ≡ Some e) ⊎ (e ≡ Memory)
 
--- a fault, or want of memory in its place
+-- a fault, or running out of memory in its place
 abbrev pub IsFault : ModelFault → ModelFault → Type 0
 IsFault fault e = (e ≡ fault) ⊎ (e ≡ Memory)
 

@@ -7,7 +7,7 @@ use protocol_model::{ModelFault, System, resolve};
 use protocol_syntax::{SyntaxFault, parse};
 use std::alloc::{AllocError, Global};
 
-/// The system of the protocol that the text says, or `None` where the text has a fault. The only error is want of memory.
+/// The system of the protocol that the text says, or `None` where the text has a fault. The only error is that memory ran out.
 pub fn read_system(alloc: Global, text: &[u8]) -> Result<Option<System>, AllocError>
     ensures { IfOk result (λ found. IfSome found (IsSystemOfText text.now)) }
 {

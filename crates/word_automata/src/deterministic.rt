@@ -245,7 +245,7 @@ impl DfaBuilder {
         self.states.len()
     }
 
-    /// Adds a state without edges, and gives its number, which is the number of states before. After want of memory
+    /// Adds a state without edges, and gives its number, which is the number of states before. Where memory runs out,
     /// the automaton is as before.
     pub fn state(&mut self, accepting: bool) -> Result<usize, AllocError>
         ensures number { IfOk result (λ state. state ≡ length self.old.states) }
@@ -297,7 +297,7 @@ impl DfaBuilder {
     }
 
     /// Adds an edge where the state has none with this letter. An edge whose letter is above those of the state's other edges is
-    /// added in constant time, on average. After want of memory the automaton is as before.
+    /// added in constant time, on average. Where memory runs out, the automaton is as before.
     pub fn add_edge(&mut self, from: usize, letter: u32, to: usize) -> Result<(), AllocError>
         requires in_range { IsEdgeInRange self.old from letter to }
         requires absent { target self.old from letter ≡ None }
@@ -335,7 +335,8 @@ impl DfaBuilder {
         }
     }
 
-    /// Puts the edge at its place in the list of its state. So many edges that their number does not fit its type are want of memory.
+    /// Puts the edge at its place in the list of its state. So many edges that their number does not fit its type are
+    /// answered as running out of memory.
     fn insert(&mut self, from: usize, at: usize, letter: u32, to: usize) -> Result<(), AllocError>
         requires in_range { IsEdgeInRange self.old from letter to }
         requires gap { IsGapFor (edges_of self.old.states from) letter at }

@@ -309,7 +309,7 @@ impl NfaBuilder {
         self.states.len()
     }
 
-    /// Adds a state without edges, and gives its number, which is the number of states before. After want of memory
+    /// Adds a state without edges, and gives its number, which is the number of states before. Where memory runs out,
     /// the automaton is as before.
     pub fn state(&mut self, accepting: bool) -> Result<usize, AllocError>
         ensures number { IfOk result (λ state. state ≡ length self.old.states) }
@@ -321,7 +321,7 @@ impl NfaBuilder {
         Ok(number)
     }
 
-    /// Adds a start state. After want of memory the automaton is as before.
+    /// Adds a start state. Where memory runs out, the automaton is as before.
     pub fn start(&mut self, state: usize) -> Result<(), AllocError>
         requires { state < length self.old.states }
         ensures ok { OnOk result (self.new ≡ with_start self.old state) }
@@ -331,7 +331,7 @@ impl NfaBuilder {
         Ok(())
     }
 
-    /// Adds an edge, which reads the letter, or nothing where there is none. After want of memory the automaton is as before.
+    /// Adds an edge, which reads the letter, or nothing where there is none. Where memory runs out, the automaton is as before.
     pub fn edge(&mut self, from: usize, letter: Option<u32>, to: usize) -> Result<(), AllocError>
         requires { IsMoveInRange self.old from letter to }
         ensures ok { OnOk result (AddsMove self.old self.new from letter to) }

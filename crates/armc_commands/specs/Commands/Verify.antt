@@ -49,7 +49,7 @@ ShowsFitting s NotBad = Unit {0}
 abbrev pub in_certificate : ℕ → List ℕ → List ℕ
 in_certificate n text = codes "armc: certificate: line " ++ decimal n ++ codes ": " ++ text
 
--- how the fault of a certificate is told; want of memory is no fault of a text
+-- how the fault of a certificate is told; running out of memory is no fault of a text
 abbrev pub fault_text : CertFault → List ℕ
 fault_text (fault.Version n) = in_certificate n (codes "version")
 fault_text (fault.BadLine n) = in_certificate n (codes "bad line")

@@ -65,7 +65,8 @@ fn report_of(alloc: Global, settings: &Settings, log: &Log) -> Result<Vec<u8>, A
     report(alloc, reported_method(settings.method), log)
 }
 
-/// The certificate of the search for the system by these settings, with its report where it is asked for. The only error is want of memory.
+/// The certificate of the search for the system by these settings, with its report where it is asked for. The only error is that
+/// memory ran out.
 pub fn check_reply<G: Gate, R: Threads + Sync>(
     alloc: Global,
     runtime: &R,

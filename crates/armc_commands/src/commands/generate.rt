@@ -82,7 +82,7 @@ fn summary(alloc: Global, number: u32, verdict: &Verdict) -> Result<Vec<u8>, All
     Ok(text)
 }
 
-/// The summary of the search for the system of the chain of this number, by the default settings. The only error is want of memory.
+/// The summary of the search for the system of the chain of this number, by the default settings. The only error is that memory ran out.
 pub fn generate_reply<G: Gate, R: Threads + Sync>(
     alloc: Global,
     runtime: &R,

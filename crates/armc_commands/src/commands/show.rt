@@ -8,7 +8,7 @@ use protocol_layout::print;
 use protocol_syntax::Protocol;
 use std::alloc::{AllocError, Global};
 
-/// The canonical layout of the protocol. The only error is want of memory.
+/// The canonical layout of the protocol. The only error is that memory ran out.
 pub fn show_reply(alloc: Global, protocol: &Protocol) -> Result<Reply, AllocError>
     ensures { IfOk result (IsShowReply protocol.now) }
 {

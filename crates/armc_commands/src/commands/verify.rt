@@ -144,7 +144,8 @@ fn answer_status(answer: &Answer) -> Status
     }
 }
 
-/// The line that tells the judgement of the certificate that the text means, or that of its first fault. The only error is want of memory.
+/// The line that tells the judgement of the certificate that the text means, or that of its first fault. The only error is that
+/// memory ran out.
 pub fn verify_reply(alloc: Global, system: &System, text: &[u8]) -> Result<Reply, AllocError>
     ensures { IfOk result (IsVerifyReply system.now text.now) }
 {
