@@ -97,8 +97,8 @@ fn control_edges(
     alphabet: Alphabet,
 ) -> Result<Vec<(Label, usize)>, AllocError>
     requires { HasRoom alphabet.offset alphabet.count guard_table.now }
-    ensures { IfOk result (λ edges.
-        ControlEdges guard_table.now alphabet.offset alphabet.count control controls.old.keys controls.new.keys edges.items) }
+    ensures { IfOk result (λ edges. ControlEdges guard_table.now alphabet.offset alphabet.count control
+        controls.old.keys controls.new.keys edges.items) }
 {
     let mut edges = letter_edges(alloc, guard_table, controls, control, alphabet)?;
     if let Some(next) = guard_table.after_move(control) {
@@ -121,8 +121,8 @@ fn letter_edges(
     alphabet: Alphabet,
 ) -> Result<Vec<(Label, usize)>, AllocError>
     requires { HasRoom alphabet.offset alphabet.count guard_table.now }
-    ensures { IfOk result (λ edges.
-        LetterEdges guard_table.now alphabet.offset alphabet.count control controls.old.keys controls.new.keys edges.items) }
+    ensures { IfOk result (λ edges. LetterEdges guard_table.now alphabet.offset alphabet.count control
+        controls.old.keys controls.new.keys edges.items) }
 {
     let mut edges = Vec::new(alloc);
     'letters: for letter in 0..alphabet.count {

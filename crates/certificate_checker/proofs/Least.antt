@@ -1,6 +1,6 @@
 -- Least configurations, and the languages that show them.
-use Rattle.std.proofs.Common.{◌≡◌, ℕ, Bool, true, false, not, ◌&&◌, List, IsTrue, ◌↔◌, refl, sym, subst, ◌∙◌}
-use Rattle.std.proofs.lemmas.Bool.{false≢true, and_parts, and_from}
+use Rattle.std.proofs.Common.{◌≡◌, ℕ, Bool, ◌&&◌, List, IsTrue, ◌↔◌, refl, sym, subst, ◌∙◌}
+use Rattle.std.proofs.lemmas.Bool.{both_ways, and_parts, and_from}
 use Rattle.sequence.specs.WordOrder.{is_before}
 use Rattle.word_automata.specs.Automaton.{Automaton, accepts}
 use Rattle.protocol_model.specs.declared.system.Configuration.{Configuration}
@@ -11,13 +11,6 @@ use Rattle.boolean_operations.specs.LeastWords.{AcceptsNothing, IsLeastAccepted}
 use Rattle.certificate_checker.specs.Answers.{IsLeastConfiguration}
 use Rattle.certificate_checker.specs.Parts.{AcceptsConfigurations, IsAcceptedWord}
 use Rattle.certificate_checker.proofs.WordFacts.{word_of-injective}
-
-pub not_true : (b : Bool) → not b ≡ true → b ≡ false
-not_true true turned = absurd (false≢true turned)
-not_true false turned = refl
-
-pub never_both : (b : Bool) → b ≡ true → b ≡ false → ⊥
-never_both b yes-it-is no-it-is = false≢true (sym no-it-is ∙ yes-it-is)
 
 module _ (s : SystemData) where
   -- properties of the same configurations have the same least ones
@@ -60,4 +53,4 @@ module _ (s : SystemData) where
     )
 
     pub chosen-none : AcceptsNothing both → (c : Configuration) → IsChosen c → ⊥
-    chosen-none nothing c p = never_both (accepts both (word_of s c)) (chosen-from c p).1 (nothing (word_of s c))
+    chosen-none nothing c p = both_ways (accepts both (word_of s c)) (nothing (word_of s c)) (chosen-from c p).1

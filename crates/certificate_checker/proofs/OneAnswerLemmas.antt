@@ -1,13 +1,14 @@
 -- A certificate has one answer.
 use Rattle.std.proofs.Common.{◌≡◌, ℕ, IsTrue, refl, sym, ap, subst, ◌∙◌, inl, inr}
-use Rattle.std.proofs.lemmas.Bool.{and_parts, cases_order}
+use Rattle.std.proofs.lemmas.Bool.{both_ways, cases_order}
 use Rattle.exploration.proofs.Words.{is_before-total}
 use Rattle.word_automata.specs.Automaton.{Automaton}
 use Rattle.protocol_model.specs.declared.system.Configuration.{Configuration}
 use Rattle.protocol_model.specs.declared.system.Run.{Run}
 use Rattle.protocol_model.specs.System.{SystemData}
-use Rattle.protocol_model.specs.Patterns.{fits, is_initial, is_bad}
+use Rattle.protocol_model.specs.Patterns.{fits}
 use Rattle.protocol_model.specs.Words.{word_of}
+use Rattle.protocol_model.proofs.Fitting.{initial_fits, bad_fits}
 use Rattle.protocol_steps.specs.OneAnswer.{RunAnswerIsDetermined}
 use Rattle.protocol_steps.specs.declared.runs.RunAnswer.{RunAnswer}
 use Rattle.protocol_steps.specs.declared.runs.RunAnswer.TheVariants as run_answer
@@ -19,7 +20,6 @@ use Rattle.certificate_checker.specs.Answers.{IsAnswer, IsAutomatonAnswer, IsAns
 use Rattle.certificate_checker.specs.declared.answer.Answer.{Answer}
 use Rattle.certificate_checker.specs.declared.answer.Answer.TheVariants.{Valid, InitialMissing, BadHeld, Leaves, NotInitial, NotStep, NotBad}
 use Rattle.certificate_checker.proofs.WordFacts.{word_of-injective}
-use Rattle.certificate_checker.proofs.Least.{never_both}
 
 -- a property of configurations that fit has one least configuration at most
 least_once : (s : SystemData) (P : Configuration → Type 0) → ((c : Configuration) → P c → IsTrue (fits s c)) → (c d : Configuration)
@@ -32,21 +32,15 @@ least_once s P fit c d one other = elim (is_before-total (word_of s c) (word_of 
   ]
 ]
 
-initial_fits : (s : SystemData) (c : Configuration) → IsTrue (is_initial s c) → IsTrue (fits s c)
-initial_fits s c h = (and_parts (fits s c) _ h).0
-
-bad_fits : (s : SystemData) (c : Configuration) → IsTrue (is_bad s c) → IsTrue (fits s c)
-bad_fits s c h = (and_parts (fits s c) _ h).0
-
 module _ (s : SystemData) (m : Automaton) where
   proves_none_missing : Proves s m → HasNone (IsMissing s m)
-  proves_none_missing proves c missing = never_both _ (proves.initial c missing.0) missing.1
+  proves_none_missing proves c missing = both_ways _ missing.1 (proves.initial c missing.0)
 
   proves_none_held : Proves s m → HasNone (IsHeld s m)
   proves_none_held proves c held = proves.no_bad c held.0 held.1
 
   proves_none_left : Proves s m → (r : ℕ) (d : Configuration) → IsLeft s m r d → ⊥
-  proves_none_left proves r d left = never_both _ (proves.closed r left.1.0 d left.1.1.0 left.1.1.1) left.0
+  proves_none_left proves r d left = both_ways _ left.0 (proves.closed r left.1.0 d left.1.1.0 left.1.1.1)
 
   missing_once : (c d : Configuration) → IsLeastConfiguration s (IsMissing s m) c → IsLeastConfiguration s (IsMissing s m) d → c ≡ d
   missing_once = least_once s (IsMissing s m) (λ c missing. initial_fits s c missing.0)

@@ -1,16 +1,16 @@
 -- The parts of the judgement: missing initial configurations, bad ones that are held, and steps that lead out.
 use Rattle.std.proofs.Common.{◌≡◌, ℕ, Bool, true, false, not, ◌&&◌, List, Option, None, Some, MatchOption, IsTrue, ◌↔◌, refl, sym, ap, subst, ◌∙◌}
-use Rattle.std.proofs.lemmas.Bool.{and_parts, and_from}
+use Rattle.std.proofs.lemmas.Bool.{both_ways, not-true, and_parts, and_from}
 use Rattle.sequence.specs.WordOrder.{is_before, IsLeastWord}
 use Rattle.word_automata.specs.Automaton.{Automaton, accepts}
 use Rattle.word_automata.specs.Nondeterministic.{NondeterministicAutomaton, Accepts}
 use Rattle.transducers.specs.Transducer.{Transducer, Relates}
 use Rattle.protocol_model.specs.declared.system.Configuration.{Configuration}
 use Rattle.protocol_model.specs.System.{SystemData}
-use Rattle.protocol_model.specs.Patterns.{fits, is_initial, is_bad, row_matches}
+use Rattle.protocol_model.specs.Patterns.{fits, is_initial, is_bad}
 use Rattle.protocol_model.specs.Steps.{IsStep}
+use Rattle.protocol_model.proofs.Fitting.{initial_fits, bad_fits}
 use Rattle.protocol_model.specs.Words.{word_of, IsInitialWord, IsBadWord}
-use Rattle.std.specs.List.{list_any}
 use Rattle.step_compiler.specs.Rules.{IsRuleStep}
 use Rattle.image_preimage.specs.Images.{IsImage, IsPreimage}
 use Rattle.boolean_operations.specs.LeastWords.{AcceptsNothing}
@@ -19,45 +19,39 @@ use Rattle.certificate_checker.specs.Proof.{Proves}
 use Rattle.certificate_checker.specs.Answers.{IsLeastConfiguration, IsMissing, IsHeld, IsLeft, IsAcceptedBefore, HasNone}
 use Rattle.certificate_checker.specs.Parts.{AcceptsConfigurations, IsAcceptedWord, IsBefore}
 use Rattle.certificate_checker.proofs.WordFacts.{word_of-injective}
-use Rattle.certificate_checker.proofs.Least.{not_true, never_both, least-same, chosen-configurations, chosen-to, chosen-from, chosen-none}
+use Rattle.certificate_checker.proofs.Least.{least-same, chosen-configurations, chosen-to, chosen-from, chosen-none}
 
 module _ (s : SystemData) (m : Automaton) where
-  initial-fits : (c : Configuration) → IsTrue (is_initial s c) → IsTrue (fits s c)
-  initial-fits c h = (and_parts (fits s c) (list_any (row_matches c) s.init) h).0
-
-  bad-fits : (c : Configuration) → IsTrue (is_bad s c) → IsTrue (fits s c)
-  bad-fits c h = (and_parts (fits s c) (list_any (row_matches c) s.bad) h).0
-
   module _ (initial missing : Automaton) (words : (w : List ℕ) → IsTrue (accepts initial w) ↔ IsInitialWord s w)
       (differs : (w : List ℕ) → accepts missing w ≡ (accepts initial w && not (accepts m w))) where
     pub missing-configurations : AcceptsConfigurations s missing
-    missing-configurations = chosen-configurations s (is_initial s) initial-fits initial missing words (λ w. not (accepts m w)) differs
+    missing-configurations = chosen-configurations s (is_initial s) (initial_fits s) initial missing words (λ w. not (accepts m w)) differs
 
     pub missing-found : (o : Option Configuration)
         → MatchOption o (AcceptsNothing missing) (IsLeastConfiguration s (IsAcceptedWord s missing))
         → MatchOption o (HasNone (IsMissing s m)) (IsLeastConfiguration s (IsMissing s m))
     missing-found None nothing = λ c p.
-        chosen-none s (is_initial s) initial-fits initial missing words (λ w. not (accepts m w)) differs nothing c (p.0, ap not p.1)
+        chosen-none s (is_initial s) (initial_fits s) initial missing words (λ w. not (accepts m w)) differs nothing c (p.0, ap not p.1)
     missing-found (Some c) least =
         least-same s (IsAcceptedWord s missing) (IsMissing s m) c
-        (λ d p. let it = chosen-to s (is_initial s) initial-fits initial missing words (λ w. not (accepts m w)) differs d p in
-        (it.0, not_true (accepts m (word_of s d)) it.1))
-        (λ d p. chosen-from s (is_initial s) initial-fits initial missing words (λ w. not (accepts m w)) differs d (p.0, ap not p.1))
+        (λ d p. let it = chosen-to s (is_initial s) (initial_fits s) initial missing words (λ w. not (accepts m w)) differs d p in
+        (it.0, not-true (accepts m (word_of s d)) it.1))
+        (λ d p. chosen-from s (is_initial s) (initial_fits s) initial missing words (λ w. not (accepts m w)) differs d (p.0, ap not p.1))
         least
 
   module _ (bad held : Automaton) (words : (w : List ℕ) → IsTrue (accepts bad w) ↔ IsBadWord s w)
       (meets : (w : List ℕ) → accepts held w ≡ (accepts bad w && accepts m w)) where
     pub held-configurations : AcceptsConfigurations s held
-    held-configurations = chosen-configurations s (is_bad s) bad-fits bad held words (accepts m) meets
+    held-configurations = chosen-configurations s (is_bad s) (bad_fits s) bad held words (accepts m) meets
 
     pub held-found : (o : Option Configuration)
         → MatchOption o (AcceptsNothing held) (IsLeastConfiguration s (IsAcceptedWord s held))
         → MatchOption o (HasNone (IsHeld s m)) (IsLeastConfiguration s (IsHeld s m))
-    held-found None nothing = λ c p. chosen-none s (is_bad s) bad-fits bad held words (accepts m) meets nothing c p
+    held-found None nothing = λ c p. chosen-none s (is_bad s) (bad_fits s) bad held words (accepts m) meets nothing c p
     held-found (Some c) least =
         least-same s (IsAcceptedWord s held) (IsHeld s m) c
-        (λ d p. chosen-to s (is_bad s) bad-fits bad held words (accepts m) meets d p)
-        (λ d p. chosen-from s (is_bad s) bad-fits bad held words (accepts m) meets d p)
+        (λ d p. chosen-to s (is_bad s) (bad_fits s) bad held words (accepts m) meets d p)
+        (λ d p. chosen-from s (is_bad s) (bad_fits s) bad held words (accepts m) meets d p)
         least
 
   module _ (r : ℕ) (t : Transducer) (compiled : (u w : List ℕ) → Relates t u w ↔ IsRuleStep s r u w) where
@@ -90,7 +84,7 @@ module _ (s : SystemData) (m : Automaton) where
       pub none-left : IsIncluded n m → HasNone (IsLeft s m r)
       none-left included d left =
           let outside = left-outside d left in
-          never_both (accepts m (word_of s d)) (included (word_of s d) outside.0) outside.1
+          both_ways (accepts m (word_of s d)) outside.1 (included (word_of s d) outside.0)
 
       pub least-left : (w : List ℕ) (d : Configuration) → IsLeastWord (IsOutside n m) w → IsTrue (fits s d) → w ≡ word_of s d
           → IsLeastConfiguration s (IsLeft s m r) d
@@ -125,7 +119,7 @@ module _ (s : SystemData) (m : Automaton) where
       pub before-found : (o : Option Configuration)
           → MatchOption o (AcceptsNothing accepted) (IsLeastConfiguration s (IsAcceptedWord s accepted))
           → MatchOption o (HasNone (IsBefore s m r word)) (IsLeastConfiguration s (IsBefore s m r word))
-      before-found None nothing = λ c p. never_both (accepts accepted (word_of s c)) (of-step (word_of s c) p.1 p.2) (nothing (word_of s c))
+      before-found None nothing = λ c p. both_ways (accepts accepted (word_of s c)) (nothing (word_of s c)) (of-step (word_of s c) p.1 p.2)
       before-found (Some c) least =
           least-same s (IsAcceptedWord s accepted) (IsBefore s m r word) c
           (λ d p. let it = step-of (word_of s d) p.1 in (p.0, it.0, it.1))

@@ -1,4 +1,5 @@
 //! What the judgement of a certificate answers.
+//! A part that fails is told with the least configurations that show it.
 
 use protocol_model::Configuration;
 

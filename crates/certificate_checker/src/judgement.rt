@@ -1,6 +1,7 @@
 //! The judgement of a certificate. For an automaton the parts of a proof by an inductive invariant are tested one after the other: the
 //! words that speak against a part are those of an intersection or of the image under one rule, and the least of them is shown. The
-//! automaton is made canonical first. A run is checked step by step, in one pass and without memory.
+//! automaton is made canonical first. Each rule is compiled, judged and dropped before the next. A run is checked step by step, in one
+//! pass and without memory.
 
 ghost use Rattle.std.specs.Prelude.{◌≡◌, ◌↔◌, ◌<◌, ℕ, List, All, IfOk, IsOk, MatchOption, length};
 ghost use Rattle.transducers.specs.Transducer.{Relates};
@@ -23,7 +24,7 @@ use protocol_model::{Configuration, Run, System};
 use protocol_steps::{RunAnswer, check_run};
 use section_patterns::{bad_words, initial_words};
 use std::alloc::{AllocError, Global};
-use step_compiler::compile;
+use step_compiler::compile_rule;
 use transducers::Transducer;
 use word_automata::Dfa;
 
@@ -147,16 +148,16 @@ fn least_held(
     Ok(least_configuration(alloc, system, &held)?)
 }
 
-/// The least rule that leads from an accepted configuration to a refused one, with the least such configurations.
+/// The least rule that leads from an accepted configuration to a refused one, with the least such configurations. One rule is
+/// compiled at a time, and none after the first that does.
 fn least_exit(alloc: Global, system: &System, automaton: &Dfa) -> Result<Option<Exit>, AllocError>
     requires { automaton.now.letters ≡ automata_letters system.now }
     ensures { IfOk result (λ found. MatchOption found ((r : ℕ) → HasNone (IsLeft system.now automaton.now r))
         (λ exit. IsLeastExit system.now automaton.now exit.rule exit.before exit.after)) }
 {
-    let steps = compile(alloc, system)?;
     'rules: for rule in 0..rule_count(system) {
-        let step = &steps[rule as usize];
-        if let Some((before, after)) = exit_by(alloc, system, automaton, rule, step)? {
+        let step = compile_rule(alloc, system, rule as usize)?;
+        if let Some((before, after)) = exit_by(alloc, system, automaton, rule, &step)? {
             return Ok(Some(Exit {
                 rule,
                 before,

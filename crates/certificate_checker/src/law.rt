@@ -1,4 +1,5 @@
 //! What it means for a system that an automaton proves it, and how many answers a certificate has.
+//! The functions do nothing; their contracts are the laws.
 
 ghost use Rattle.word_automata.specs.Automaton.{Automaton};
 ghost use Rattle.protocol_model.specs.System.{SystemData};

@@ -1,4 +1,5 @@
 //! The automaton of one word.
+//! It is explored letter by letter, in time and memory linear in the word.
 
 ghost use Rattle.std.specs.Prelude.{◌≡◌, ◌↔◌, ◌<◌, ◌≤◌, ℕ, List, All, IfOk, IsTrue, length};
 ghost use Rattle.word_automata.specs.Automaton.{accepts};
