@@ -8,6 +8,9 @@ ghost use Rattle.determinise.specs.Subsets.{lettered_move, moves_from, order_key
 use std::alloc::{AllocError, Global};
 use word_automata::Nfa;
 
+/// Room for so many moves of each state is made at once.
+const ROOM: usize = 4;
+
 /// Targets below this number are told apart by the order of moves.
 const TARGETS: u64 = 1 << 32;
 
@@ -58,7 +61,7 @@ fn moves_from(
     requires { AreStates automaton.now states.now }
     ensures { IfOk result (λ moves. moves.items ≡ moves_from automaton.now states.now) }
 {
-    let mut moves = Vec::new(alloc);
+    let mut moves = Vec::with_capacity(alloc, states.len().saturating_mul(ROOM))?;
     'states: for state in states {
         add_moves(&mut moves, automaton.edges_from(*state))?;
     }
@@ -72,7 +75,6 @@ fn add_moves(
 ) -> Result<(), AllocError>
     ensures { OnOk result (moves.new.items ≡ moves.old.items ++ filter_map lettered_move edges.now) }
 {
-    moves.reserve(edges.len())?;
     'edges: for &(letter, to) in edges {
         if let Some(letter) = letter {
             moves.push((letter, to))?;
