@@ -1,5 +1,6 @@
-// What the program asks of the outside: a library of texts that are read by name, a sink that takes bytes, and a gate that is entered
-// before the image of each rule. Each says what it tells of its contents, and counts its faults.
+//! What the program asks of the outside: a library of texts that are read by name, a sink that takes bytes, and a gate that is entered
+//! before the image of each rule. Each says what it tells of its contents, and counts its faults.
+
 ghost use Rattle.std.specs.Prelude.{◌≡◌, ℕ, ◌^◌, ◌<◌, ◌≤◌, IsTrue, IsSome};
 ghost use Rattle.armc_io.specs.Library.{LibraryState, ReadAnswers};
 ghost use Rattle.armc_io.specs.Sink.{SinkState, PutAnswers, FitsWithoutFault};
@@ -40,7 +41,7 @@ pub trait Library {
     ghost state: { Self → LibraryState };
 
     /// Reads all bytes of `name`, at most `limit` of them. `Failed` comes only with a counted fault, `TooLong` where there
-    /// are more bytes than `limit`, and `Memory` for want of memory.
+    /// are more bytes than `limit`, and `Memory` where memory runs out.
     fn read_all(&mut self, name: &str, limit: u64) -> Result<Vec<u8>, ReadFail>
         requires { limit < 2 ^ 63 }
         ensures told { (state self.new).told ≡ (state self.old).told }
