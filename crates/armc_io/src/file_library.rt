@@ -1,5 +1,6 @@
-// The library of the operating system: files by their names, and standard input for `-`. A read takes at most the limit and one byte
-// more, whatever the system does, in one call for each piece that it gives.
+//! The library of the operating system: files by their names, and standard input for `-`. A read takes at most the limit and one byte
+//! more, whatever the system does, in one call for each piece that it gives.
+
 ghost use Rattle.std.specs.Prelude.{◌≡◌, ◌≢◌, ◌^◌, ◌<◌, ◌≤◌, [], Err, None, OnOk, vec_len};
 ghost use Rattle.std.specs.Io.KnownBytes.{Consumes, IsAtEnd};
 
@@ -10,7 +11,7 @@ use std::io::{Input, Read};
 use std::marker::Model;
 use std::rt::Files;
 
-// How many bytes one call of the system is asked for.
+/// How many bytes one call of the system is asked for.
 const CHUNK: usize = 8192;
 
 /// The library of the files of the system. The name `-` stands for standard input.
@@ -42,7 +43,7 @@ impl<R> FileLibrary<R> {
     }
 }
 
-// Reads until the end, or until there are `most` bytes. At `Failed` the bytes read so far are there.
+/// Reads until the end, or until there are `most` bytes. At `Failed` the bytes read so far are there.
 fn read_up_to<T: Read>(reader: &mut T, bytes: &mut Vec<u8>, most: u64) -> Result<(), ReadFail>
     requires { vec_len bytes.old ≡ 0 }
     ensures bound { vec_len bytes.new ≤ most }
@@ -63,7 +64,7 @@ fn read_up_to<T: Read>(reader: &mut T, bytes: &mut Vec<u8>, most: u64) -> Result
     Ok(())
 }
 
-// Reads a file, or standard input, until the end or until there are `most` bytes.
+/// Reads a file, or standard input, until the end or until there are `most` bytes.
 fn read_name<R: Files + Input>(
     runtime: &R,
     name: &str,

@@ -1,4 +1,6 @@
-// The last call of a library: its name, whether it failed, and how many bytes it took. It costs a copy of the name.
+//! The last call of a library: its name, whether it failed, and how many bytes it took.
+//! It costs a copy of the name.
+
 ghost use Rattle.std.specs.Prelude.{◌≡◌, true, false, string_bytes};
 
 use std::marker::Model;

@@ -1,5 +1,6 @@
-// A library in memory: a list of names with their texts, searched from the front, whose calls fail as a list says. A read costs the
-// names before the one that is asked for, and a copy of its text.
+//! A library in memory: a list of names with their texts, searched from the front, whose calls fail as a list says. A read costs the
+//! names before the one that is asked for, and a copy of its text.
+
 ghost use Rattle.std.specs.Prelude.{◌≡◌, ◌^◌, ◌<◌, None, string_bytes, bytes_eq, find, option_copied, option_map};
 
 use crate::last_read::LastRead;
@@ -50,7 +51,7 @@ impl MemoryLibrary {
         }
     }
 
-    // The first text of that name.
+    /// The first text of that name.
     fn find(&self, name: &str) -> Option<&[u8]>
         ensures { option_copied result ≡ text_of self.now.texts name.now }
     {
@@ -74,7 +75,7 @@ impl MemoryLibrary {
     }
 }
 
-// The text of the first pair with that name.
+/// The text of the first pair with that name.
 fn first_text<'a>(texts: &'a [(String, Vec<u8>)], name: &str) -> Option<&'a [u8]>
     ensures { option_copied result ≡ option_map (λ t. t.1.items)
         (find (λ t. bytes_eq (string_bytes t.0) name.now) texts.now) }

@@ -1,4 +1,6 @@
-// A sink in memory with a capacity, whose calls fail as a list says. It tells its bytes; a call costs the bytes that it takes.
+//! A sink in memory with a capacity, whose calls fail as a list says.
+//! It tells its bytes; a call costs the bytes that it takes.
+
 ghost use Rattle.std.specs.Prelude.{◌≡◌, [], IfOk, is_ok};
 
 use crate::traits::{Sink, SinkFail};

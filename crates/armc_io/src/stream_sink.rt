@@ -1,5 +1,6 @@
-// A sink over a writer: one loop over `write`, which appends all bytes or, after a fault, a prefix. It costs one call for each piece
-// that the writer takes.
+//! A sink over a writer: one loop over `write`, which appends all bytes or, after a fault, a prefix. It costs one call for each piece
+//! that the writer takes.
+
 ghost use Rattle.std.specs.Prelude.{◌≡◌};
 ghost use Rattle.armc_io.specs.Sink.{WritesPrefix};
 
@@ -33,12 +34,12 @@ impl<W> StreamSink<W> {
     }
 }
 
-// Writes until all bytes are taken. At `Err` the bytes before the failed call were taken.
+/// Writes until all bytes are taken. At `Err` the bytes before the failed call were taken.
 fn write_whole<W: Write>(writer: &mut W, bytes: &[u8]) -> Result<(), SinkFail>
     ensures { WritesPrefix (W.contents writer.old) (W.contents writer.new) bytes.now result }
 {
     let mut at = 0;
-    while at < bytes.len() {
+    'bytes: while at < bytes.len() {
         match writer.write(&bytes[at..]) {
             Ok(0) | Err(_) => return Err(SinkFail::Failed),
             Ok(n) => at += n,

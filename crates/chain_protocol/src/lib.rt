@@ -74,7 +74,7 @@ fn push_rules(text: &mut Vec<u8>, count: u32) -> Result<(), AllocError>
 /// The text of the chain with `number` letters beside `dead`, in canonical layout: its rules change letter i into letter i + 1. The search
 /// proves it safe in one round, whose sizes grow with the number.
 ///
-/// Errors: `AllocError`, only where memory runs out.
+/// Errors: `AllocError` where memory runs out.
 pub fn generate(alloc: Global, number: u32) -> Result<Vec<u8>, AllocError>
     requires { (1 ≤ number) × (number ≤ 255) }
     ensures { IfOk result (λ text. text.items ≡ chain_text number) }

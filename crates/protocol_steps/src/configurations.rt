@@ -29,7 +29,7 @@ fn lists_fit(sections: &[Section], lists: &[Sequence<u32>]) -> bool
     if sections.len() != lists.len() {
         return false;
     }
-    for k in 0..sections.len() {
+    'sections: for k in 0..sections.len() {
         if !list_fits(&sections[k], lists[k].as_slice()) {
             return false;
         }

@@ -1,4 +1,5 @@
 //! Which configurations fit a system, which are initial and which are bad; steps, the check of a run, and all successors.
+//! What only tests takes no memory.
 #![tactic(auto)]
 
 mod all_steps;

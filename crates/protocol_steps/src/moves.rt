@@ -14,7 +14,7 @@ pub fn move_at<'a>(moves: &'a [(u32, Move)], section: u32) -> Option<&'a Move>
     ensures found { option_map (λ step. step.now) result ≡ move_of moves.now section }
     ensures few_guards { IfSome result (λ step. HasFewGuards step.now) }
 {
-    for part in moves {
+    'moves: for part in moves {
         if part.0 == section {
             return Some(&part.1);
         }

@@ -24,7 +24,7 @@ fn row_matches(c: &Configuration, row: &Row) -> bool
     requires { AllByRecursion (λ part. length part.1.atoms ≤ 32) row.now.parts }
     ensures { result ≡ is_row_matched c.now row.now }
 {
-    for part in row.parts.as_slice() {
+    'parts: for part in row.parts.as_slice() {
         if !atoms_match(part.1.atoms.as_slice(), list_at(c, part.0)) {
             return false;
         }
@@ -37,7 +37,7 @@ fn some_row_matches(c: &Configuration, rows: &[Row]) -> bool
     requires { AllByRecursion (λ row. AllByRecursion (λ part. length part.1.atoms ≤ 32) row.parts) rows.now }
     ensures { result ≡ list_any (is_row_matched c.now) rows.now }
 {
-    for row in rows {
+    'rows: for row in rows {
         if row_matches(c, row) {
             return true;
         }

@@ -28,7 +28,7 @@ pub fn check_run(system: &System, run: &Run) -> RunAnswer
         return RunAnswer::NotInitial;
     }
     let mut last = &run.first;
-    for (i, step) in run.steps.as_slice().iter().enumerate() {
+    'steps: for (i, step) in run.steps.as_slice().iter().enumerate() {
         if !is_step(system, step.0, last, &step.1) {
             return RunAnswer::NotStep(i as u64 + 1);
         }

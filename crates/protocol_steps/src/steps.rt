@@ -29,7 +29,7 @@ fn all_change(moves: &[(u32, Move)], sections: u32, c: &Configuration, d: &Confi
     requires { AllByRecursion (λ part. HasFewGuards part.1) moves.now }
     ensures { IsTrue result ↔ ((k : ℕ) → k < sections → ChangesBy (move_of moves.now k) (list_of c.now k) (list_of d.now k)) }
 {
-    for k in 0..sections {
+    'sections: for k in 0..sections {
         if !section_changes(moves, k, list_at(c, k), list_at(d, k)) {
             return false;
         }

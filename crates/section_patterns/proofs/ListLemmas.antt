@@ -1,22 +1,15 @@
 -- Elements of lists.
-use Rattle.std.proofs.Common.{◌≡◌, ◌==◌, ◌<◌, ◌≤◌, ◌+◌, ◌-◌, ◌||◌, ℕ, zero, suc, Bool, true, false, List, [], ◌∷◌, ◌++◌, Contains, All, cond, length, get_or, refl, sym, ap, subst, ◌∙◌, inl, inr, arith, eq-eqb, eqb-true, nat_lt, lt-ltb, ltb-true, add-one, zero-add, take, drop}
-use Rattle.std.specs.List.{range_with_len, filter, AllByRecursion}
-use Rattle.std.proofs.lemmas.Bool.{cases_Bool, false≢true}
-use Rattle.std.proofs.lemmas.List.{map_push, take_all}
+use Rattle.std.proofs.Common.{◌≡◌, ◌==◌, ◌<◌, ◌≤◌, ◌+◌, ◌-◌, ◌||◌, ℕ, Bool, true, false, List, [], ◌∷◌, ◌++◌, Contains, All, cond, length, get_or, sym, ap, subst, ◌∙◌, inl, inr, arith, eq-eqb, eqb-true, nat_lt, lt-ltb, ltb-true, add-one, zero-add, take, drop}
+use Rattle.std.specs.List.{range_with_len, filter}
+use Rattle.std.proofs.lemmas.Bool.{cases_Bool, false≢true, or_left, or_right}
+use Rattle.std.proofs.lemmas.List.{append-nil, map_push, take_all}
 use Rattle.protocol_model.proofs.Lists.{range_with_len_push}
 use Rattle.std.proofs.lemmas.List.FromFn.{length-range_with_len, get_or-range_with_len}
-use Rattle.std.proofs.lemmas.List.Elements.{Contains-get_or}
+use Rattle.std.proofs.lemmas.List.Elements.{All-cons, Contains-get_or, filter-append}
 use Rattle.word_automata.proofs.Members.{Contains-cases, Contains-here, Contains-there, Contains-none, Contains-map, Contains-map_cases}
 use Rattle.protocol_model.specs.Moves.{is_in}
 use Rattle.protocol_model.specs.System.{AllBelow}
 use Rattle.protocol_model.specs.Words.{raised}
-
-pub or_right : (b c : Bool) → c ≡ true → (b || c) ≡ true
-or_right true c h = refl
-or_right false c h = h
-
-pub or_left : (b c : Bool) → b ≡ true → (b || c) ≡ true
-or_left b c h = ap (λ x. x || c) h
 
 pub is_in-Contains : (letters : List ℕ) (a : ℕ) → is_in letters a ≡ true → Contains letters a
 is_in-Contains [] a h = absurd (false≢true h)
@@ -31,16 +24,6 @@ Contains-is_in (y ∷ ys) a h = elim (Contains-cases y ys a h) [
   | inl here ↦ or_left (y == a) (is_in ys a) (eq-eqb y a here)
   | inr rest ↦ or_right (y == a) (is_in ys a) (Contains-is_in ys a rest)
 ]
-
--- all of a list with one more in front
-pub All-front : {X : Type 0} (P : X → Type 0) (x : X) (xs : List X) → P x → All P xs → All P (x ∷ xs)
-All-front P x xs here rest zero d h = here
-All-front P x xs here rest (suc k) d h = rest k d (omega arith)
-
--- what all of a list have, each by recursion
-pub All-from_recursion : {X : Type 0} (P : X → Type 0) (xs : List X) → AllByRecursion P xs → All P xs
-All-from_recursion P [] h = λ k d within. absurd (omega arith)
-All-from_recursion P (x ∷ xs) h = All-front P x xs h.0 (All-from_recursion P xs h.1)
 
 -- what a filter keeps
 pub Contains-filter_cases : {X : Type 0} (p : X → Bool) (xs : List X) (x : X) → Contains (filter p xs) x → Contains xs x × (p x ≡ true)
@@ -112,25 +95,13 @@ pub raised_below : (offset count limit : ℕ) (letters : List ℕ) → AllBelow 
 raised_below offset count limit [] below fits = λ k d within. absurd (omega arith)
 raised_below offset count limit (a ∷ letters) below fits =
     let here : a < count = below.0 in
-    All-front (λ x. x < limit) (a + offset) (raised offset letters) (omega arith) (raised_below offset count limit letters below.1 fits)
+    All-cons (λ x. x < limit) (a + offset) (raised offset letters) (omega arith) (raised_below offset count limit letters below.1 fits)
 
 pub raisable : (offset count limit : ℕ) (letters : List ℕ) → AllBelow count letters → offset + count ≤ limit → All (λ a. a + offset < limit) letters
 raisable offset count limit [] below fits = λ k d within. absurd (omega arith)
 raisable offset count limit (a ∷ letters) below fits =
     let here : a < count = below.0 in
-    All-front (λ x. x + offset < limit) a letters (omega arith) (raisable offset count limit letters below.1 fits)
-
--- a filter of a list with one more at its end
-filter-push : {X : Type 0} (p : X → Bool) (xs : List X) (y : X) → filter p (xs ++ y ∷ []) ≡ cond (p y) (filter p xs ++ y ∷ []) (filter p xs)
-filter-push p [] y = refl
-filter-push p (x ∷ xs) y =
-    elim (p x) as (λ b. cond b (x ∷ filter p (xs ++ y ∷ [])) (filter p (xs ++ y ∷ []))
-    ≡ cond (p y) (cond b (x ∷ filter p xs) (filter p xs) ++ y ∷ []) (cond b (x ∷ filter p xs) (filter p xs))) [
-      | true ↦ ap (λ ys. x ∷ ys) (filter-push p xs y)
-          ∙ (elim (p y) as (λ b. x ∷ cond b (filter p xs ++ y ∷ []) (filter p xs) ≡ cond b (x ∷ (filter p xs ++ y ∷ [])) (x ∷ filter p xs))
-          [ true ↦ refl | false ↦ refl ])
-      | false ↦ filter-push p xs y
-    ]
+    All-cons (λ x. x + offset < limit) a letters (omega arith) (raisable offset count limit letters below.1 fits)
 
 -- the letters that are chosen below one number more
 pub chosen_more : (offset : ℕ) (test : ℕ → Bool) (n : ℕ) → raised offset (filter test (range_with_len 0 (n + 1)))
@@ -139,11 +110,11 @@ chosen_more offset test n =
     let range : range_with_len 0 (n + 1) ≡ range_with_len 0 n ++ n ∷ [] =
     ap (range_with_len 0) (add-one n) ∙ range_with_len_push 0 n ∙ ap (λ m. range_with_len 0 n ++ m ∷ []) (zero-add n) in
     ap (λ xs. raised offset (filter test xs)) range
-    ∙ ap (raised offset) (filter-push test (range_with_len 0 n) n)
-    ∙ (elim (test n) as (λ b. raised offset (cond b (filter test (range_with_len 0 n) ++ n ∷ []) (filter test (range_with_len 0 n)))
+    ∙ ap (raised offset) (filter-append test (range_with_len 0 n) (n ∷ []))
+    ∙ (elim (test n) as (λ b. raised offset (filter test (range_with_len 0 n) ++ cond b (n ∷ []) [])
     ≡ cond b (raised offset (filter test (range_with_len 0 n)) ++ (n + offset) ∷ []) (raised offset (filter test (range_with_len 0 n)))) [
       | true ↦ map_push (λ a. a + offset) (filter test (range_with_len 0 n)) n
-      | false ↦ refl
+      | false ↦ ap (raised offset) (append-nil (filter test (range_with_len 0 n)))
     ])
 
 -- one letter more, or none

@@ -1,8 +1,8 @@
 -- Patterns as states.
-use Rattle.std.proofs.Common.{◌≡◌, ◌==◌, ◌<◌, ◌+◌, ◌||◌, ◌&&◌, ◌↔◌, ℕ, Bool, true, List, [], ◌∷◌, ◌++◌, Contains, All, length, refl, sym, ap, subst, ◌∙◌, inl, inr, arith, eqb-true, nat_lt, lt-ltb, Result, Ok, Err, IfOk}
+use Rattle.std.proofs.Common.{◌≡◌, ◌==◌, ◌<◌, ◌+◌, ◌||◌, ◌&&◌, ◌↔◌, ℕ, Bool, true, List, [], ◌∷◌, ◌++◌, Contains, All, length, refl, sym, ap, subst, ◌∙◌, inl, inr, arith, eqb-true, nat_lt, lt-ltb}
 use Rattle.std.specs.List.{list_all, AllByRecursion}
-use Rattle.std.proofs.lemmas.Bool.{cases_Bool, false≢true, and_parts, and_from}
-use Rattle.std.proofs.lemmas.List.Elements.{All-tail}
+use Rattle.std.proofs.lemmas.Bool.{cases_Bool, false≢true, and_parts, and_from, or_left, or_right}
+use Rattle.std.proofs.lemmas.List.Elements.{All-cons, All-tail}
 use Rattle.word_automata.specs.Nondeterministic.{NondeterministicAutomaton}
 use Rattle.word_automata.proofs.Members.{Contains-map, Contains-map_cases}
 use Rattle.protocol_syntax.specs.declared.protocol.Many.{Many}
@@ -14,7 +14,7 @@ use Rattle.protocol_model.specs.Patterns.{starred, repeated, atoms_match}
 use Rattle.protocol_model.specs.Words.{raised}
 use Rattle.section_patterns.specs.Languages.{AcceptsFrom, BeginsWithLetter, BeginsWithLetters, IsAdded}
 use Rattle.section_patterns.specs.Lists.{BeginsWithAtom, BeginsWithList}
-use Rattle.section_patterns.proofs.ListLemmas.{or_left, or_right, is_in-Contains, Contains-is_in, All-front}
+use Rattle.section_patterns.proofs.ListLemmas.{is_in-Contains, Contains-is_in}
 
 -- one state in front of another, which was added before
 pub added_then : (old mid new : NondeterministicAutomaton) (behind state : ℕ) (L M N : List ℕ → Type 0) → IsAdded old mid behind L → IsAdded mid new state M
@@ -143,7 +143,7 @@ module _ (offset : ℕ) (letters : List ℕ) (L : List ℕ → Type 0) where
         record {
           front = (x + offset) ∷ later.front;
           rest = later.rest;
-          are_letters = All-front (λ a. Contains (raised offset letters) a) (x + offset) later.front
+          are_letters = All-cons (λ a. Contains (raised offset letters) a) (x + offset) later.front
               (Contains-map (λ a. a + offset) letters x (is_in-Contains letters x parts.0)) later.are_letters;
           joined = ap (λ more. (x + offset) ∷ more) later.joined;
           accepted = later.accepted;
@@ -276,11 +276,6 @@ atoms_below count [] all [] h = refl
 atoms_below count [] all (x ∷ xs) h = absurd (omega (arith, eqb-true (length (x ∷ xs)) 0 h))
 atoms_below count (atom ∷ atoms) all list h =
     repeated_below count atom.letters all.0 (atoms_match atoms) (atoms_below count atoms all.1) atom.many list h
-
--- what holds of an answer follows from what holds of it already
-pub IfOk-map : {T E : Type 0} (r : Result T E) (P Q : T → Type 0) → ((x : T) → P x → Q x) → IfOk r P → IfOk r Q
-IfOk-map (Ok x) P Q f h = f x h
-IfOk-map (Err e) P Q f h = tt
 
 -- letters once or more
 pub atom_plus : (old mid new : NondeterministicAutomaton) (behind state next : ℕ) (many : Many) (letters first second : List ℕ) → many ≡ Plus

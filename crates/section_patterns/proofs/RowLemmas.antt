@@ -1,22 +1,27 @@
 -- Rows as states: a row matches a configuration where its patterns match the lists of the sections, one after the other.
-use Rattle.std.proofs.Common.{◌≡◌, ◌≢◌, ◌==◌, ◌<◌, ◌+◌, ◌||◌, ◌↔◌, ◌⊎◌, ℕ, zero, suc, Bool, true, false, List, [], ◌∷◌, Option, None, Some, Contains, AllPairs, IsTrue, length, take, get_or, slice_get, unwrap_or, refl, sym, ap, subst, ◌∙◌, inl, inr, arith, eq-eqb, eqb-true, ne_eqb, if◌then◌else◌, add-zero}
+use Rattle.std.proofs.Common.{◌≡◌, ◌≢◌, ◌==◌, ◌<◌, ◌+◌, ◌||◌, ◌↔◌, ◌⊎◌, ℕ, zero, suc, Bool, true, false, List, [], ◌∷◌, ◌++◌, Option, None, Some, Contains, AllPairs, IsTrue, length, take, get_or, slice_get, unwrap_or, refl, sym, ap, subst, ◌∙◌, inl, inr, arith, eq-eqb, eqb-true, ne_eqb, if◌then◌else◌, add-zero}
 use Rattle.std.specs.List.{list_all, list_any, AllByRecursion}
-use Rattle.std.proofs.lemmas.Bool.{cases_Bool, false≢true, and_parts, and_from, or_cases}
+use Rattle.std.proofs.lemmas.Bool.{cases_Bool, false≢true, and_parts, and_from, or_cases, or_left, or_right}
 use Rattle.std.proofs.lemmas.Option.{same_Some, slice_get_within, slice_get-get_or, get_or_from_slice_get}
 use Rattle.std.proofs.lemmas.List.Folds.{list_any_more}
-use Rattle.std.proofs.lemmas.List.Elements.{Contains-append_left, Contains-push, Contains-push_cases}
+use Rattle.std.proofs.lemmas.List.Elements.{Contains-push, Contains-push_cases}
 use Rattle.word_automata.specs.Nondeterministic.{NondeterministicAutomaton, Accepts, with_start, empty_nondeterministic}
+use Rattle.word_automata.specs.Path.{IsPath}
 use Rattle.word_automata.proofs.Members.{Contains-none}
+use Rattle.protocol_model.proofs.Fitting.{fits_length}
 use Rattle.protocol_model.specs.declared.system.Section.{Section}
 use Rattle.protocol_model.specs.declared.system.Pattern.{Pattern}
 use Rattle.protocol_model.specs.declared.system.Row.{Row}
 use Rattle.protocol_model.specs.declared.system.Configuration.{Configuration}
-use Rattle.protocol_model.specs.System.{SystemData, letter_count, letter_count_at, AllBelow, IsValidRow, IsValidPattern}
-use Rattle.protocol_model.specs.Patterns.{atoms_match, lists_fit, list_fits, list_at, row_matches, fits}
+use Rattle.protocol_model.specs.System.{SystemData, letter_count, letter_count_at, IsValidRow, IsValidPattern}
+use Rattle.protocol_model.specs.Patterns.{atoms_match, lists_fit, list_at, row_matches, fits}
 use Rattle.protocol_model.specs.Words.{separator_of, word_of}
 use Rattle.section_patterns.specs.Languages.{AcceptsFrom, IsAdded}
 use Rattle.section_patterns.specs.Lists.{IsRest, IsWordOfRows, HasPatternOf, HasPatternsOf, part_matches, pattern_for, parts_match}
-use Rattle.section_patterns.proofs.ListLemmas.{or_left, or_right}
+
+or_false : (b : Bool) → (b || false) ≡ true → b ≡ true
+or_false true h = refl
+or_false false h = h
 
 -- the pattern of a section that the row names
 pattern_for_named : (parts : List (ℕ × Pattern)) (k : ℕ) (pattern : Pattern) → pattern_for parts k ≡ Some pattern
@@ -65,8 +70,7 @@ valid_patterns sections row valid = patterns_by row.parts 0 sections (λ k secti
         let valid_pattern = all_at (λ part. IsValidPattern (letter_count_at sections part.0) part.1) row.parts valid.patterns named.0 part named.1.1.0 in
         let count : letter_count_at sections part.0 ≡ letter_count section =
         ap (letter_count_at sections) (named.1.1.1 ∙ (omega arith)) ∙ count_at sections k section e in
-        subst (λ p. AllByRecursion (λ atom. AllBelow (letter_count section) atom.letters) p.atoms) named.1.1.2
-        (subst (λ n. AllByRecursion (λ atom. AllBelow n atom.letters) part.1.atoms) count valid_pattern.in_range)
+        subst (IsValidPattern (letter_count section)) named.1.1.2 (subst (λ n. IsValidPattern n part.1) count valid_pattern)
 
 -- a section that the row names once has the pattern
 pattern_for_distinct : (parts : List (ℕ × Pattern)) → AllPairs (λ a b. a.0 ≢ b.0) parts → (i : ℕ) (part : ℕ × Pattern) → slice_get parts i ≡ Some part
@@ -116,13 +120,6 @@ list_all_get p [] h i x e = cc
 list_all_get p (y ∷ xs) h zero x e = subst (λ z. p z ≡ true) (same_Some y x e) (and_parts (p y) (list_all p xs) h).0
 list_all_get p (y ∷ xs) h (suc i) x e = list_all_get p xs (and_parts (p y) (list_all p xs) h).1 i x e
 
-lists_counted : (sections : List Section) (lists : List (List ℕ)) → lists_fit sections lists ≡ true → length lists ≡ length sections
-lists_counted [] [] h = refl
-lists_counted [] (list ∷ lists) h = absurd (false≢true h)
-lists_counted (section ∷ sections) [] h = absurd (false≢true h)
-lists_counted (section ∷ sections) (list ∷ lists) h =
-    ap suc (lists_counted sections lists (and_parts (list_fits section list) (lists_fit sections lists) h).1)
-
 module _ (sections : List Section) (row : Row) (valid : IsValidRow sections row) (c : Configuration) where
   -- a row that matches has a pattern for each list
   row_in : row_matches c row ≡ true → parts_match row.parts 0 c.lists ≡ true
@@ -143,7 +140,7 @@ module _ (sections : List Section) (row : Row) (valid : IsValidRow sections row)
   row_out : lists_fit sections c.lists ≡ true → parts_match row.parts 0 c.lists ≡ true → row_matches c row ≡ true
   row_out fitting h = list_all_by (λ part. atoms_match part.1.atoms (list_at c part.0)) row.parts (λ i part e.
       let number : part.0 < length c.lists =
-      omega (arith, all_at (λ part. part.0 < length sections) row.parts valid.in_range i part e, lists_counted sections c.lists fitting) in
+      omega (arith, all_at (λ part. part.0 < length sections) row.parts valid.in_range i part e, fits_length sections c.lists fitting) in
       let there : slice_get c.lists part.0 ≡ Some (get_or c.lists part.0 []) = slice_get-get_or c.lists part.0 [] number in
       let here = parts_match_at row.parts 0 c.lists h part.0 (get_or c.lists part.0 []) there in
       let found : pattern_for row.parts (0 + part.0) ≡ Some part.1 =
@@ -163,28 +160,6 @@ module _ (s : SystemData) (row : Row) (valid : IsValidRow s.sections row) (w : L
   pub rest_out : (c : Configuration) → fits s c ≡ true → row_matches c row ≡ true → w ≡ word_of s c → IsRest row.parts 0 0 (separator_of s) s.sections w
   rest_out c fitting matches e =
       record { lists = c.lists; fitting = fitting; matches = row_in s.sections row valid c matches; spelled = e }
-
--- the automaton accepts the words of so many rows
-pub record HasRows (s : SystemData) (rows : List Row) (n : NondeterministicAutomaton) : Type 0 where
-  pub letters : n.letters ≡ separator_of s + 1
-  pub starts : (q : ℕ) → Contains n.starts q → q < length n.states
-  pub into : (w : List ℕ) (q : ℕ) → Contains n.starts q → AcceptsFrom n q w → IsWordOfRows s rows w
-  pub from : (w : List ℕ) → IsWordOfRows s rows w → (q : ℕ) × (Contains n.starts q × AcceptsFrom n q w)
-
-pub rows_none : (s : SystemData) → HasRows s [] (empty_nondeterministic (separator_of s + 1))
-rows_none s = record {
-  letters = refl;
-  starts = λ q h. absurd (Contains-none q h);
-  into = λ w q h a. absurd (Contains-none q h);
-  from = λ w r. absurd (false≢true (and_parts (fits s r.0) false r.1).1);
-}
-
--- a state accepts the same in an automaton with one more start state
-starts_same : (n : NondeterministicAutomaton) (start q : ℕ) (w : List ℕ) → AcceptsFrom n q w → AcceptsFrom (with_start n start) q w
-starts_same n start q w a = record { moves = a.moves; end = a.end; path = a.path; accepting = a.accepting; spells = a.spells }
-
-starts_back : (n : NondeterministicAutomaton) (start q : ℕ) (w : List ℕ) → AcceptsFrom (with_start n start) q w → AcceptsFrom n q w
-starts_back n start q w a = record { moves = a.moves; end = a.end; path = a.path; accepting = a.accepting; spells = a.spells }
 
 -- a configuration that one row more matches
 module _ (s : SystemData) (rows : List Row) (index : ℕ) (row : Row) (within : index < length rows) (is : row ≡ get_or rows index row) where
@@ -219,53 +194,35 @@ module _ (s : SystemData) (rows : List Row) (index : ℕ) (row : Row) (within : 
         | inr none ↦ inr (c, (parts.0, sym (ap (λ b. b || row_matches c row) none) ∙ either, e))
       ]
 
-  pub rows_more : (old mid new : NondeterministicAutomaton) (start : ℕ) → IsValidRow s.sections row → HasRows s (take index rows) old
-      → IsAdded old mid start (IsRest row.parts 0 0 (separator_of s) s.sections) → new ≡ with_start mid start → HasRows s (take (index + 1) rows) new
-  rows_more old mid new start valid has added e = subst (HasRows s (take (index + 1) rows)) (sym e) (record {
-    letters = added.same_letters ∙ has.letters;
-    starts = λ q h. elim (Contains-push_cases mid.starts start q h) [
-      | inl before ↦ let inside = has.starts q (subst (λ starts. Contains starts q) added.same_starts before) in omega (arith, inside, added.more)
-      | inr last ↦ omega (arith, added.is_state, last)
-    ];
-    into = λ w q h a. elim (Contains-push_cases mid.starts start q h) [
-      | inl before ↦
-          let there = subst (λ starts. Contains starts q) added.same_starts before in
-          more_old w (has.into w q there ((added.kept q (has.starts q there) w).0 (starts_back mid start q w a)))
-      | inr last ↦
-          let here = subst (λ p. AcceptsFrom mid p w) (sym last) (starts_back mid start q w a) in
-          let r = rest_in s row valid w ((added.accepts w).0 here) in
-          more_new w r.0 r.1.0 r.1.1 r.1.2
-    ];
-    from = λ w r. elim (more_cases w r) [
-      | inl before ↦
-          let found = has.from w before in
-          let inside = has.starts found.0 found.1.0 in (
-            found.0,
-            (
-              Contains-append_left mid.starts (start ∷ []) found.0 (subst (λ starts. Contains starts found.0) (sym added.same_starts) found.1.0),
-              starts_same mid start found.0 w ((added.kept found.0 inside w).1 found.1.1),
-            ),
-          )
-      | inr new ↦ (
-        start,
-        (Contains-push mid.starts start, starts_same mid start start w ((added.accepts w).1 (rest_out s row valid w new.0 new.1.0 new.1.1 new.1.2))),
-      )
-    ];
-  })
-
 -- the words of the one row of an automaton
-pub row_alone : (s : SystemData) (row : Row) (mid new : NondeterministicAutomaton) (start : ℕ) → IsValidRow s.sections row
-    → IsAdded (empty_nondeterministic (separator_of s + 1)) mid start (IsRest row.parts 0 0 (separator_of s) s.sections) → new ≡ with_start mid start
-    → (w : List ℕ) → Accepts new w ↔ IsWordOfRows s (row ∷ []) w
-row_alone s row mid new start valid added e w =
-    let all = rows_more s (row ∷ []) 0 row (omega arith) refl (empty_nondeterministic (separator_of s + 1)) mid new start valid (rows_none s) added e in (
-      λ (start, moves, end, contains, path, accepting, spells). all.into w start contains
-          (record { moves = moves; end = end; path = path; accepting = accepting; spells = spells }),
-      λ r.
-          let found = all.from w r in
-          let a = found.1.1 in
-          (found.0, a.moves, a.end, found.1.0, a.path, a.accepting, a.spells),
-    )
+module _ (s : SystemData) (row : Row) (mid : NondeterministicAutomaton) (start : ℕ) (valid : IsValidRow s.sections row)
+    (added : IsAdded (empty_nondeterministic (separator_of s + 1)) mid start (IsRest row.parts 0 0 (separator_of s) s.sections)) (w : List ℕ) where
+  only_start : (q : ℕ) → Contains (mid.starts ++ start ∷ []) q → q ≡ start
+  only_start q h = elim (Contains-push_cases mid.starts start q h) [
+    | inl before ↦ absurd (Contains-none q (subst (λ starts. Contains starts q) added.same_starts before))
+    | inr last ↦ sym last
+  ]
+
+  accepted_in : Accepts (with_start mid start) w → IsWordOfRows s (row ∷ []) w
+  accepted_in (q, moves, end, contains, path, accepting, spells) =
+      let from : AcceptsFrom mid start w = record {
+        moves = moves;
+        end = end;
+        path = subst (λ p. IsPath mid.states p moves end) (only_start q contains) path;
+        accepting = accepting;
+        spells = spells;
+      } in
+      let r = rest_in s row valid w ((added.accepts w).0 from) in
+      (r.0, and_from (fits s r.0) (row_matches r.0 row || false) r.1.0 (or_left (row_matches r.0 row) false r.1.1), r.1.2)
+
+  accepted_out : IsWordOfRows s (row ∷ []) w → Accepts (with_start mid start) w
+  accepted_out (c, matches, e) =
+      let parts = and_parts (fits s c) (row_matches c row || false) matches in
+      let a = (added.accepts w).1 (rest_out s row valid w c parts.0 (or_false (row_matches c row) parts.1) e) in
+      (start, a.moves, a.end, Contains-push mid.starts start, a.path, a.accepting, a.spells)
+
+  pub row_alone : (new : NondeterministicAutomaton) → new ≡ with_start mid start → Accepts new w ↔ IsWordOfRows s (row ∷ []) w
+  row_alone new e = subst (λ n. Accepts n w ↔ IsWordOfRows s (row ∷ []) w) (sym e) (accepted_in, accepted_out)
 
 -- no configuration is matched by no row
 pub no_rows : (s : SystemData) (w : List ℕ) → IsWordOfRows s [] w → ⊥
@@ -290,10 +247,6 @@ rows_united s rows index row within is old more new w united before alone = (
         united ∙ or_right old more (alone.1 (second.0, and_from (fits s second.0) (row_matches second.0 row || false) second.1.0 matches, second.1.2))
   ],
 )
-  where
-    or_false : (b : Bool) → (b || false) ≡ true → b ≡ true
-    or_false true h = refl
-    or_false false h = h
 
 -- each row is valid
 pub row_valid : (sections : List Section) (rows : List Row) (index : ℕ) (row : Row) → AllByRecursion (IsValidRow sections) rows → index < length rows

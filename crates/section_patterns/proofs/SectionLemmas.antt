@@ -1,9 +1,9 @@
 -- The lists of sections as states.
-use Rattle.std.proofs.Common.{◌≡◌, ◌==◌, ◌<◌, ◌+◌, ◌||◌, ◌&&◌, ℕ, Bool, true, false, List, [], ◌∷◌, ◌++◌, Option, None, Some, Contains, All, length, refl, sym, ap, subst, ◌∙◌, inl, inr, arith, eqb-true, nat_lt}
+use Rattle.std.proofs.Common.{◌≡◌, ◌==◌, ◌<◌, ◌≤◌, ◌+◌, ◌||◌, ◌&&◌, ℕ, Bool, true, false, List, [], ◌∷◌, ◌++◌, Option, None, Some, IfSome, Contains, All, length, refl, sym, ap, subst, ◌∙◌, inl, inr, arith, eqb-true, nat_lt}
 use Rattle.std.specs.List.{list_all, range_with_len, filter}
-use Rattle.std.proofs.lemmas.Bool.{false≢true, and_parts, and_from}
+use Rattle.std.proofs.lemmas.Bool.{false≢true, and_parts, and_from, or_left, or_right}
 use Rattle.std.proofs.lemmas.List.{append-nil}
-use Rattle.std.proofs.lemmas.List.Elements.{All-tail}
+use Rattle.std.proofs.lemmas.List.Elements.{All-cons, All-tail}
 use Rattle.word_automata.specs.Nondeterministic.{NondeterministicAutomaton}
 use Rattle.word_automata.proofs.Members.{Contains-cases, Contains-here, Contains-none}
 use Rattle.protocol_model.specs.declared.system.Section.{Section}
@@ -14,7 +14,7 @@ use Rattle.protocol_model.specs.Patterns.{atoms_match, has_any_length, list_fits
 use Rattle.protocol_model.specs.Words.{raised, raised_lists, joined}
 use Rattle.section_patterns.specs.Languages.{AcceptsFrom, BeginsWithLetter, BeginsWithLetters, IsAdded}
 use Rattle.section_patterns.specs.Lists.{BeginsWithList, IsBehind, IsRest, HasPatternOf, part_matches, pattern_for, parts_match}
-use Rattle.section_patterns.proofs.ListLemmas.{or_left, or_right, All-front, raised_chosen, raised_chosen_cases}
+use Rattle.section_patterns.proofs.ListLemmas.{raised_chosen, raised_chosen_cases}
 use Rattle.section_patterns.proofs.PatternLemmas.{added_then, list-map, list-test, letter-map, atoms_below}
 
 -- whether the list fits the section and the pattern matches it
@@ -91,7 +91,7 @@ module _ (section : Section) (pattern : Option Pattern) (offset : ℕ) (L : List
   loop_letters (x ∷ list) h =
       let letters = raised offset (filter (λ a. part_matches None (a ∷ [])) (range_with_len 0 (letter_count section))) in
       let parts = and_parts (nat_lt x (letter_count section)) (list_all (λ a. nat_lt a (letter_count section)) list) h in
-      All-front (λ a. Contains letters a) (x + offset) (raised offset list)
+      All-cons (λ a. Contains letters a) (x + offset) (raised offset list)
       (raised_chosen offset (letter_count section) (λ a. part_matches None (a ∷ [])) x parts.0 refl) (loop_letters list parts.1)
 
 module _ (section : Section) (offset : ℕ) (L : List ℕ → Type 0) (any : has_any_length section.kind ≡ true) where
@@ -127,7 +127,7 @@ module _ (section : Section) (offset : ℕ) (L : List ℕ → Type 0) (any : has
         → BeginsWithList (λ list. list_fits section list && part_matches (Some pattern) list) offset L w
     pattern_in w b =
         list-test (atoms_match pattern.atoms) (fits_and_matches section (Some pattern)) offset L
-        (λ list h. fitting section (Some pattern) list (atoms_below (letter_count section) pattern.atoms has list h)
+        (λ list h. fitting section (Some pattern) list (atoms_below (letter_count section) pattern.atoms has.in_range list h)
         (or_left (has_any_length section.kind) (length list == 1) any) h) w b
 
     pub pattern_out : (w : List ℕ) → BeginsWithList (λ list. list_fits section list && part_matches (Some pattern) list) offset L w
@@ -135,6 +135,11 @@ module _ (section : Section) (offset : ℕ) (L : List ℕ → Type 0) (any : has
     pattern_out w b =
         list-test (fits_and_matches section (Some pattern)) (atoms_match pattern.atoms) offset L
         (λ list h. (and_parts (list_fits section list) (atoms_match pattern.atoms list) h).1) w b
+
+-- a pattern of a section has few atoms
+pub few_atoms : (pattern : Option Pattern) (section : Section) → HasPatternOf pattern section → IfSome pattern (λ p. length p.atoms ≤ 32)
+few_atoms None section has = tt
+few_atoms (Some pattern) section has = has.limit
 
 -- another name for what a state accepts
 pub added_as : (old new : NondeterministicAutomaton) (state : ℕ) (L M : List ℕ → Type 0) → IsAdded old new state L → ((w : List ℕ) → L w → M w)

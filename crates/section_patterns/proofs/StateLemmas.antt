@@ -1,7 +1,7 @@
 -- States that are added in front of others.
 use Rattle.std.proofs.Common.{◌≡◌, ◌==◌, ◌<◌, ◌≤◌, ◌+◌, ◌↔◌, ℕ, zero, suc, Bool, true, false, List, [], ◌∷◌, ◌++◌, Option, None, Some, map, length, Contains, All, IsTrue, if◌then◌else◌, inl, inr, refl, sym, ap, subst, ◌∙◌, arith, eq-eqb, ne_eqb, append_assoc}
 use Rattle.std.proofs.lemmas.List.{append-nil, map_push, length_push}
-use Rattle.std.proofs.lemmas.List.Elements.{All-tail}
+use Rattle.std.proofs.lemmas.List.Elements.{All-cons, All-tail}
 use Rattle.std.proofs.lemmas.Bool.{false≢true}
 use Rattle.word_automata.specs.Path.{Node, edges_of, is_accepting, IsPath, spelled, spelled_one}
 use Rattle.word_automata.specs.Nondeterministic.{NondeterministicAutomaton, IsInRange, AddsMove, with_nondeterministic_state}
@@ -158,15 +158,11 @@ module _ (old new : NondeterministicAutomaton) (extends : Extends old new) (rang
                 record {
                   front = found.0 ∷ later.front;
                   rest = later.rest;
-                  are_letters = all_front found.0 later.front found.1 later.are_letters;
+                  are_letters = All-cons (λ x. Contains letters x) found.0 later.front found.1 later.are_letters;
                   joined = ap (λ (m : Option ℕ × ℕ). spelled_one m.0 ++ spelled (λ l. l) moves) (sym found.2) ∙ ap (λ w. found.0 ∷ w) later.joined;
                   accepted = later.accepted;
                 }
           ]
-        where
-          all_front : (a : ℕ) (front : List ℕ) → Contains letters a → All (λ x. Contains letters x) front → All (λ x. Contains letters x) (a ∷ front)
-          all_front a front here rest zero d h = here
-          all_front a front here rest (suc k) d h = rest k d (omega arith)
 
       loops_out : (front rest : List ℕ) → All (λ a. Contains letters a) front → AcceptsFrom old next rest → AcceptsFrom new state (front ++ rest)
       loops_out [] rest all accepted =

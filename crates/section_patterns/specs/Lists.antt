@@ -1,13 +1,12 @@
 -- Lists of sections, and words that begin with them. Only private contracts speak of this.
 use Rattle.std.specs.Prelude.{◌≡◌, ◌==◌, ◌&&◌, ◌+◌, ℕ, Bool, true, List, [], ◌∷◌, ◌++◌, Option, None, Some, IsTrue, if◌then◌else◌}
-use Rattle.std.specs.List.{AllByRecursion}
 use Rattle.protocol_syntax.specs.declared.protocol.Many.{Many}
 use Rattle.protocol_syntax.specs.declared.protocol.Many.TheVariants.{One, Star, Plus}
 use Rattle.protocol_model.specs.declared.system.Section.{Section}
 use Rattle.protocol_model.specs.declared.system.Pattern.{Pattern}
 use Rattle.protocol_model.specs.declared.system.Row.{Row}
 use Rattle.protocol_model.specs.declared.system.Configuration.{Configuration}
-use Rattle.protocol_model.specs.System.{SystemData, letter_count, AllBelow}
+use Rattle.protocol_model.specs.System.{SystemData, letter_count, IsValidPattern}
 use Rattle.protocol_model.specs.Patterns.{atoms_match, lists_fit, some_row_matches}
 use Rattle.protocol_model.specs.Words.{raised, raised_lists, joined, word_of}
 use Rattle.section_patterns.specs.Languages.{BeginsWithLetter, BeginsWithLetters}
@@ -53,12 +52,12 @@ pub record IsRest (parts : List (ℕ × Pattern)) (number offset separator : ℕ
   pub matches : IsTrue (parts_match parts number lists)
   pub spelled : w ≡ joined separator (raised_lists offset sections lists)
 
--- the pattern, if there is one, has letters of the section alone
+-- the pattern, if there is one, is a valid one of the section
 abbrev pub HasPatternOf : Option Pattern → Section → Type 0
 HasPatternOf None section = Unit {0}
-HasPatternOf (Some pattern) section = AllByRecursion (λ atom. AllBelow (letter_count section) atom.letters) pattern.atoms
+HasPatternOf (Some pattern) section = IsValidPattern (letter_count section) pattern
 
--- each pattern of the row, from the section of this number on, has letters of its section alone
+-- each pattern of the row, from the section of this number on, is a valid one of its section
 abbrev pub HasPatternsOf : List (ℕ × Pattern) → ℕ → List Section → Type 0
 HasPatternsOf parts number [] = Unit {0}
 HasPatternsOf parts number (section ∷ sections) = HasPatternOf (pattern_for parts number) section × HasPatternsOf parts (number + 1) sections

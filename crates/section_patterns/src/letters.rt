@@ -1,14 +1,13 @@
 //! The letters on which a state goes on.
+//! Each letter of a cell is tried alone on the pattern, in time linear in its atoms.
 
-ghost use Rattle.std.specs.Prelude.{◌≡◌, ◌+◌, ◌^◌, ◌<◌, ◌≤◌, ◌∷◌, [], All, IfOk, filter, option_copied};
+ghost use Rattle.std.specs.Prelude.{◌≡◌, ◌+◌, ◌^◌, ◌<◌, ◌≤◌, ◌∷◌, [], All, IfOk, IfSome, filter, length, option_copied};
 ghost use Rattle.std.specs.List.{range_with_len};
-ghost use Rattle.protocol_model.specs.Moves.{is_in};
-ghost use Rattle.protocol_model.specs.Patterns.{atoms_match};
 ghost use Rattle.protocol_model.specs.Words.{raised};
 ghost use Rattle.section_patterns.specs.Lists.{part_matches};
 
-use protocol_model::{Atom, Pattern};
-use protocol_syntax::Many;
+use protocol_model::Pattern;
+use protocol_moves::atoms_match;
 use std::alloc::{AllocError, Global};
 
 /// The letters, each raised by the offset.
@@ -30,7 +29,8 @@ pub(crate) fn single_letters(
     count: u32,
     offset: u32,
 ) -> Result<Vec<u32>, AllocError>
-    requires { offset + count ≤ 256 }
+    requires limit { IfSome (option_copied pattern) (λ pattern. length pattern.atoms ≤ 32) }
+    requires letters { offset + count ≤ 256 }
     ensures { IfOk result (λ letters. letters.items
         ≡ raised offset (filter (λ a. part_matches (option_copied pattern.entry) (a ∷ [])) (range_with_len 0 count))) }
 {
@@ -45,48 +45,11 @@ pub(crate) fn single_letters(
 
 /// Whether the pattern, if there is one, matches the list of this letter alone.
 fn matches_single(pattern: Option<&Pattern>, letter: u32) -> bool
+    requires { IfSome (option_copied pattern) (λ pattern. length pattern.atoms ≤ 32) }
     ensures { result ≡ part_matches (option_copied pattern.entry) (letter ∷ []) }
 {
     match pattern {
-        Some(pattern) => match_single(pattern.atoms.as_slice(), letter),
+        Some(pattern) => atoms_match(pattern.atoms.as_slice(), &[letter]),
         None => true,
-    }
-}
-
-/// Whether the atoms match the list of this letter alone.
-fn match_single(atoms: &[Atom], letter: u32) -> bool
-    ensures { result ≡ atoms_match atoms.now (letter ∷ []) }
-{
-    match atoms {
-        [] => false,
-        [atom, later @ ..] => {
-            let taken = has_letter(atom, letter) && match_empty(later);
-            match atom.many {
-                Many::Star => match_single(later, letter) || taken,
-                Many::One => taken,
-                Many::Plus => taken,
-            }
-        }
-    }
-}
-
-/// Whether the letter is one of the atom's.
-fn has_letter(atom: &Atom, letter: u32) -> bool
-    ensures { result ≡ is_in atom.now.letters letter }
-{
-    atom.letters.as_slice().iter().any(|other| *other == letter)
-}
-
-/// Whether the atoms match the empty list.
-fn match_empty(atoms: &[Atom]) -> bool
-    ensures { result ≡ atoms_match atoms.now [] }
-{
-    match atoms {
-        [] => true,
-        [atom, later @ ..] => match atom.many {
-            Many::Star => match_empty(later),
-            Many::One => false,
-            Many::Plus => false,
-        },
     }
 }

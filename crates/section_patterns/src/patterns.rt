@@ -1,4 +1,5 @@
 //! Patterns as states.
+//! An atom adds one state or two, with an edge for each of its letters.
 
 ghost use Rattle.std.specs.Prelude.{◌≡◌, ◌<◌, ◌≤◌, ◌+◌, IfOk, length};
 ghost use Rattle.std.specs.List.{AllByRecursion};

@@ -1,11 +1,12 @@
 //! The words of rows: of each row alone, and then of all together.
+//! Each row is made canonical alone, and the rows are united one after the other.
 
-ghost use Rattle.std.specs.Prelude.{◌≡◌, ◌↔◌, ◌≤◌, ◌||◌, ℕ, List, [], ◌∷◌, false, IfOk, IsTrue};
+ghost use Rattle.std.specs.Prelude.{◌≡◌, ◌↔◌, ◌||◌, ℕ, List, [], ◌∷◌, false, IfOk, IsTrue};
 ghost use Rattle.std.specs.List.{AllByRecursion};
 ghost use Rattle.word_automata.specs.Automaton.{accepts};
 ghost use Rattle.minimise.specs.Canonical.{IsCanonical};
-ghost use Rattle.protocol_model.specs.System.{IsValid, IsValidRow};
-ghost use Rattle.protocol_model.specs.Words.{automata_letters, separator_of};
+ghost use Rattle.protocol_model.specs.System.{IsValidRow};
+ghost use Rattle.protocol_model.specs.Words.{automata_letters};
 ghost use Rattle.section_patterns.specs.Lists.{IsWordOfRows};
 
 use crate::sections::add_sections;
@@ -40,7 +41,7 @@ fn no_words(alloc: Global, system: &System) -> Result<Canon, AllocError>
     ensures letters { IfOk result (λ c. c.letters ≡ automata_letters system.now) }
     ensures canonical { IfOk result IsCanonical }
 {
-    let none = DfaBuilder::new(alloc, separator(system) + 1).finish();
+    let none = DfaBuilder::new(alloc, system.separator() + 1).finish();
     Ok(canonical(alloc, &none)?)
 }
 
@@ -62,7 +63,7 @@ fn words_of_row(alloc: Global, system: &System, row: &Row) -> Result<Canon, Allo
     ensures letters { IfOk result (λ c. c.letters ≡ automata_letters system.now) }
     ensures canonical { IfOk result IsCanonical }
 {
-    let separator = separator(system);
+    let separator = system.separator();
     let mut builder = NfaBuilder::new(alloc, separator + 1);
     let front = add_sections(
         alloc,
@@ -75,17 +76,4 @@ fn words_of_row(alloc: Global, system: &System, row: &Row) -> Result<Canon, Allo
     )?;
     builder.start(front)?;
     Ok(canonical_nfa(alloc, &builder.finish())?)
-}
-
-/// The number of letters of all sections, which is also the letter that separates them in words.
-fn separator(system: &System) -> u32
-    ensures separator { result ≡ separator_of system.now }
-    ensures limit { result ≤ 256 }
-    ensures valid { IsValid system.now }
-{
-    let mut total = 0;
-    'sections: for section in system.sections.as_slice() {
-        total += section.letters.len() as u32;
-    }
-    total
 }

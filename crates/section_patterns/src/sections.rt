@@ -1,4 +1,5 @@
 //! The sections of one row as states.
+//! From the last section to the first each adds its states in front of those of the later ones; time is linear in the states.
 
 ghost use Rattle.std.specs.Prelude.{◌≡◌, ◌&&◌, ◌<◌, ◌≤◌, ◌+◌, [], true, false, IfOk, length, option_copied};
 ghost use Rattle.protocol_model.specs.System.{letter_count, total_letters};
@@ -10,7 +11,6 @@ use crate::letters::single_letters;
 use crate::patterns::add_atoms;
 use crate::states::{add_loop, add_step};
 use protocol_model::{Pattern, Row, Section};
-use protocol_syntax::Kind;
 use std::alloc::{AllocError, Global};
 use word_automata::NfaBuilder;
 
@@ -34,7 +34,7 @@ pub(crate) fn add_sections(
     match sections {
         [] => add_end(builder),
         [section, later @ ..] => {
-            let count = section.letters.len() as u32;
+            let count = section.letter_count();
             let behind = add_sections(
                 alloc,
                 builder,
@@ -102,7 +102,7 @@ fn add_section(
         (BeginsWithList (λ list. list_fits section.now list && part_matches (option_copied pattern.entry) list) offset
         (AcceptsFrom builder.old next))) }
 {
-    if has_any_length(section.kind) {
+    if section.has_any_length() {
         add_list(alloc, builder, section, pattern, offset, next)
     } else {
         add_cell(alloc, builder, section, pattern, offset, next)
@@ -120,6 +120,7 @@ fn add_cell(
 ) -> Result<usize, AllocError>
     requires next { next < length builder.old.states }
     requires kind { has_any_length section.now.kind ≡ false }
+    requires pattern { HasPatternOf (option_copied pattern) section.now }
     requires letters { offset + letter_count section.now ≤ 256 }
     requires fits { offset + letter_count section.now ≤ builder.old.letters }
     ensures { IfOk result (λ state. IsAdded builder.old builder.new state
@@ -127,7 +128,7 @@ fn add_cell(
         (AcceptsFrom builder.old next))) }
 {
     let _room = builder.letters();
-    let count = section.letters.len() as u32;
+    let count = section.letter_count();
     let letters = single_letters(alloc, pattern, count, offset)?;
     add_step(builder, letters.as_slice(), next)
 }
@@ -151,7 +152,7 @@ fn add_list(
         (AcceptsFrom builder.old next))) }
 {
     let _room = builder.letters();
-    let count = section.letters.len() as u32;
+    let count = section.letter_count();
     match pattern {
         Some(pattern) => {
             let atoms = pattern.atoms.as_slice();
@@ -161,16 +162,6 @@ fn add_list(
             let letters = single_letters(alloc, None, count, offset)?;
             add_loop(builder, letters.as_slice(), next)
         }
-    }
-}
-
-/// Whether a section of this kind has lists of any length.
-fn has_any_length(kind: Kind) -> bool
-    ensures { result ≡ has_any_length kind }
-{
-    match kind {
-        Kind::Cell => false,
-        _ => true,
     }
 }
 

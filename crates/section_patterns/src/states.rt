@@ -1,4 +1,5 @@
 //! States that are added in front of others: each accepts some letters, and then what another state accepts.
+//! Old states keep their edges, and so their words.
 
 ghost use Rattle.std.specs.Prelude.{◌≡◌, ◌<◌, All, IfOk, OnOk, length};
 ghost use Rattle.section_patterns.specs.Languages.{AcceptsFrom, BeginsWithLetter, BeginsWithLetters, IsAdded, AddsLetterEdges};

@@ -7,12 +7,12 @@ pub returns-then-not-is_step : goal.returns-then-not-is_step
 returns-then-not-is_step c =
     let begins : is_initial c.args.system.now c.args.run.now.first ≡ true = first_of (cc, grind arith) in
     let fails : c.is_step.result ≡ false = first_of (cc, grind arith) in
-    first_wrong c.args.system.now c.args.run.now c.loop-i.i c.loop-i.last.now c.step-item.result c.as_slice-step-items.result.now
-    c.as_slice-step-items.ensures c.loop-i-test.true c.step-item.is begins c.loop-i.invariant c.is_step.result fails c.is_step.ensures.1
+    first_wrong c.args.system.now c.args.run.now c.steps.i c.steps.last.now c.step-item.result c.as_slice-step-items.result.now
+    c.as_slice-step-items.ensures c.steps-test.true c.step-item.is begins c.steps.invariant c.is_step.result fails c.is_step.ensures.1
 
-pub loop-i-preserved : goal.loop-i-preserved
-loop-i-preserved c =
+pub steps-preserved : goal.steps-preserved
+steps-preserved c =
     let goes : c.is_step.result ≡ true = first_of (cc, grind arith) in
-    checked_more c.args.system.now c.args.run.now.first c.args.run.now.steps c.loop-i.i c.loop-i.last.now c.step-item.result
+    checked_more c.args.system.now c.args.run.now.first c.args.run.now.steps c.steps.i c.steps.last.now c.step-item.result
     c.as_slice-step-items.result.now c.as_slice-step-items.ensures
-    c.loop-i-test.true c.step-item.is c.loop-i.invariant (c.is_step.ensures.0 goes)
+    c.steps-test.true c.step-item.is c.steps.invariant (c.is_step.ensures.0 goes)

@@ -3,7 +3,8 @@ use Rattle.protocol_model.specs.Words.{raised}
 use Rattle.section_patterns.specs.Languages.{AcceptsFrom, BeginsWithLetter, IsAdded}
 use Rattle.section_patterns.specs.Lists.{BeginsWithAtom}
 use Rattle.section_patterns.proofs.ListLemmas.{raised_below}
-use Rattle.section_patterns.proofs.PatternLemmas.{IfOk-map, atom_plus}
+use Rattle.std.proofs.lemmas.Result.{IfOk-weaker}
+use Rattle.section_patterns.proofs.PatternLemmas.{atom_plus}
 use Rattle.section_patterns.proofs.patterns.add_atom.Goals as goal
 
 pub add_step-requires-clause-letters : goal.add_step-requires-clause-letters
@@ -40,7 +41,7 @@ returns c =
     let new = c.add_step-in-Plus.new.builder in
     let behind = c.in_ok-behind-in-Plus.behind in
     let letters = raised c.args.offset c.args.atom.now.letters in
-    IfOk-map c.add_step-in-Plus.result
+    IfOk-weaker c.add_step-in-Plus.result
     (λ state. IsAdded mid new state (BeginsWithLetter c.as_slice-in-Plus-2.result.now (AcceptsFrom mid behind)))
     (λ state. IsAdded old new state (BeginsWithAtom c.args.atom.now.many letters (AcceptsFrom old c.args.next)))
     (λ state added. atom_plus old mid new behind state c.args.next c.args.atom.now.many letters c.as_slice-in-Plus.result.now c.as_slice-in-Plus-2.result.now

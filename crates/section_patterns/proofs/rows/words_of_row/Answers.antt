@@ -21,6 +21,6 @@ returns-clause-language c = λ w.
     (subst (λ n. IsAdded n mid front (IsRest row.parts 0 0 c.separator-separator.result s.sections)) c.new-builder.ensures
     (subst (λ xs. IsAdded c.new-builder.result mid front (IsRest row.parts 0 0 c.separator-separator.result xs)) sections c.in_ok-front.ensures)) in
     let same = subst (λ n. Accepts n w ↔ IsWordOfRows s (row ∷ []) w) (sym c.finish.ensures)
-    (row_alone s row mid c.start.new.self front c.requires added c.in_ok-start.ensures.ok w) in
+    (row_alone s row mid front c.requires added w c.start.new.self c.in_ok-start.ensures.ok) in
     let read = c.in_ok-canonical_nfa.ensures.language w in
     (λ a. same.0 (read.0 a), λ r. read.1 (same.1 r))
