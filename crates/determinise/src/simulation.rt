@@ -21,19 +21,20 @@ const ASKS_PER_EDGE: usize = 256;
 /// Nor after so many rounds.
 const MOST_ROUNDS: usize = 16;
 
-/// A simulation that has a pair of different states, or `None` where none was found.
+/// A simulation that has two states to which one letter leads from one state, or `None` where none was found.
 pub fn simulation(alloc: Global, automaton: &Nfa) -> Result<Option<StatePairs>, AllocError>
     ensures { IfOk result (λ found. IfSome found (IsSimulation automaton.now)) }
 {
     let mut pairs = StatePairs::new(alloc);
     ask_siblings(&mut pairs, automaton)?;
-    if pairs.len() == 0 || !ask_all(&mut pairs, automaton)? {
+    let siblings = pairs.len();
+    if siblings == 0 || !ask_all(&mut pairs, automaton)? {
         return Ok(None);
     }
     'rounds: for _ in 0..MOST_ROUNDS {
         let is_changed = take_out_unmatched(&mut pairs, automaton);
         if !is_changed {
-            let is_some = pairs.note_lows(automaton.states())?;
+            let is_some = pairs.note_lows(automaton.states(), siblings)?;
             if is_some {
                 return Ok(Some(pairs));
             }

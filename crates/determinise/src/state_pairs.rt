@@ -116,17 +116,19 @@ impl StatePairs {
         self.pairs[place] = (low, low);
     }
 
-    /// Notes which of so many states are the first of a pair of different states, and tells whether there are some.
-    pub fn note_lows(&mut self, count: usize) -> Result<bool, AllocError>
+    /// Notes which of so many states are the first of a pair of different states, and tells whether one of the first pairs is left.
+    pub fn note_lows(&mut self, count: usize, first: usize) -> Result<bool, AllocError>
         ensures { OnOk result (self.new ≡ self.old) }
     {
         let mut lows = vec![in self.alloc; false; count]?;
         let mut is_some = false;
+        let mut place: usize = 0;
         'pairs: for &(low, high) in &self.pairs {
             if low != high && low < lows.len() {
                 lows[low] = true;
-                is_some = true;
+                is_some = is_some || place < first;
             }
+            place = place.saturating_add(1);
         }
         self.lows = lows;
         Ok(is_some)

@@ -16,7 +16,7 @@ use std::alloc::{AllocError, Global};
 use word_automata::Nfa;
 
 /// Room for so many successors of a set is made at once.
-const ROOM: usize = 8;
+const ROOM: usize = 4;
 
 /// The sets of states of the automaton out of which no move without a letter leads.
 #[derive(Drop)]
