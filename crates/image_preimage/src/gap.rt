@@ -52,7 +52,7 @@ impl Gap {
         }
     }
 
-    /// The place of the edge with the letter, or else the one where it would go. The edge behind the gap is looked at first.
+    /// The place of the edge with the letter, or else the one where it would go. The edge behind the gap is looked at first, at once.
     fn find(&self, edges: &[(u32, usize)], letter: u32) -> Result<usize, usize>
         requires { HasIncreasingLetters edges.now }
         ensures found { IfOk result (IsEdgeAt edges.now letter) }
