@@ -65,7 +65,7 @@ fn read_automaton(alloc: Global, text: &[u8], system: &System) -> Result<Dfa, Ce
     Ok(automaton)
 }
 
-/// A text means one certificate or has one first fault, and never both.
+/// A text means at most one certificate or has at most one first fault, and never both.
 pub fn one_reading()
     ensures meaning { MeaningIsDetermined }
     ensures fault { FaultIsDetermined }

@@ -5,7 +5,7 @@ ghost use Rattle.configuration_words.specs.OneReading.{ConfigurationIsDetermined
 
 use protocol_lexer::one_reading as one_list_of_tokens;
 
-/// A text means one configuration of a system, or has one first fault, and never both. The function does nothing.
+/// A text means at most one configuration of a system or has at most one first fault, and never both. The function does nothing.
 pub fn one_reading()
     ensures configuration { ConfigurationIsDetermined }
     ensures fault { FaultIsDetermined }

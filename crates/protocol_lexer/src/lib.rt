@@ -259,7 +259,7 @@ fn kind_of_byte(b: u8) -> Option<TokenKind>
     }
 }
 
-/// A text has one list of tokens, or one first bad byte, and never both.
+/// A text has at most one list of tokens or first bad byte, and never both.
 pub fn one_reading()
     ensures tokens { TokensAreDetermined }
     ensures bad_byte { BadByteIsDetermined }

@@ -42,15 +42,3 @@ pub record Relates (t : Transducer) (u w : List ℕ) : Type 0 where
   pub start : ℕ
   pub is_start : Contains t.starts start
   pub run : RelatesFrom t start u w
-
--- some path from a start state leads to the state
-pub record IsAccessible (t : Transducer) (p : ℕ) : Type 0 where
-  pub start : ℕ
-  pub is_start : Contains t.starts start
-  pub moves : List (Label × ℕ)
-  pub path : IsPath t.states start moves p
-
--- each state lies on a path from a start state to an accepting state
-pub record IsTrim (t : Transducer) : Type 0 where
-  pub accessible : (p : ℕ) → p < length t.states → IsAccessible t p
-  pub coaccessible : (p : ℕ) → p < length t.states → (u w : List ℕ) × RelatesFrom t p u w

@@ -1,6 +1,6 @@
 //! Nondeterministic automata, whose edges have a letter or none.
 //! A word is read by the set of the states that can be reached, which is closed under moves without a letter by a worklist: time linear in
-//! the length of the word and in the number of edges.
+//! the product of the length of the word and the number of edges.
 
 ghost use Rattle.std.specs.Prelude.{◌≡◌, ◌↔◌, ◌^◌, ◌<◌, ◌++◌, [], ◌∷◌, ℕ, List, Option, Contains, length, OnOk, OnErr, IfOk, IfSome, IsTrue};
 ghost use Rattle.word_automata.specs.Path.{Node, edges_of, is_accepting};
@@ -121,7 +121,7 @@ impl Model for Nfa {
 }
 
 impl Nfa {
-    /// Whether the automaton accepts the word. It takes time linear in the length of the word and in the number of edges.
+    /// Whether the automaton accepts the word. It takes time linear in the product of the length of the word and the number of edges.
     pub fn accepts(&self, alloc: Global, word: &[u32]) -> Result<bool, AllocError>
         ensures { IfOk result (λ accepted. IsTrue accepted ↔ Accepts self.now word.now) }
     {
