@@ -1,6 +1,6 @@
 //! Deterministic automata, whose states keep a list of edges sorted by letter.
 //! A letter is looked up by binary search, after a look at the last edge; an edge goes to its place, which is cheap at the end and else
-//! linear in the edges of the state.
+//! linear in the edges of the state. Up to four edges stand in the state itself, and a state takes less than 100 bytes where it has no more.
 
 ghost use Rattle.std.specs.Prelude.{◌≡◌, ◌↔◌, ◌+◌, ◌^◌, ◌<◌, ◌≤◌, ◌++◌, [], ◌∷◌, ℕ, true, length, OnOk, OnErr, IfOk, IfErr, IfSome, OnSome, IfNone, None, Some, IsSome};
 ghost use Rattle.std.specs.List.{insert};
@@ -10,6 +10,7 @@ ghost use Rattle.word_automata.specs.Building.{empty_automaton, with_state, edge
 ghost use Rattle.word_automata.specs.EdgeList.{IsEdgeAt, IsGapFor};
 
 use crate::fault::BuildFault;
+use smallvec::SmallVec;
 use std::alloc::{AllocError, Global};
 use std::marker::Model;
 
@@ -17,7 +18,7 @@ use std::marker::Model;
 #[derive(Debug, Drop)]
 struct State {
     accepting: bool,
-    edges: Vec<(u32, usize)>,
+    edges: SmallVec<(u32, usize), 4>,
 }
 
 impl Model for State {
@@ -33,7 +34,7 @@ impl State {
     {
         State {
             accepting,
-            edges: Vec::new(alloc),
+            edges: SmallVec::new(alloc),
         }
     }
 
@@ -46,7 +47,7 @@ impl State {
     fn edges(&self) -> &[(u32, usize)]
         ensures { result.now ≡ self.now.edges }
     {
-        &self.edges
+        self.edges.as_slice()
     }
 
     fn accept(&mut self)
@@ -70,7 +71,7 @@ impl State {
     {
         Ok(State {
             accepting: self.accepting,
-            edges: Vec::from_slice(alloc, &self.edges)?,
+            edges: SmallVec::from_slice(alloc, self.edges.as_slice())?,
         })
     }
 }
