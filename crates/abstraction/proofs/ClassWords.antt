@@ -9,6 +9,7 @@ use Rattle.abstraction.specs.declared.class_automaton.Move.{Move}
 use Rattle.abstraction.specs.Merging.{HaveEqualClasses, IsMergedFrom, IsMerged}
 use Rattle.abstraction.specs.ClassAutomata.{HasClassMoves}
 use Rattle.abstraction.specs.FirstStates.{AreFirsts}
+use Rattle.abstraction.proofs.Firsts.{first_same}
 use Rattle.abstraction.proofs.MergedWords.{merged_has_state}
 
 module _ (a : Automaton) (valid : IsValid a) (classes firsts : List ℕ) (count : length classes ≡ length a.states) (are : AreFirsts classes firsts)
@@ -17,10 +18,10 @@ module _ (a : Automaton) (valid : IsValid a) (classes firsts : List ℕ) (count 
   class q = slice_index firsts q
 
   equal : (p q : ℕ) → p < length a.states → q < length a.states → slice_index firsts p ≡ slice_index firsts q → HaveEqualClasses classes p q
-  equal p q lp lq e = (are.same p q (omega arith) (omega arith)).0 e
+  equal p q lp lq e = (first_same classes firsts are p q (omega arith) (omega arith)).0 e
 
   same_first : (p q : ℕ) → p < length a.states → q < length a.states → HaveEqualClasses classes p q → slice_index firsts p ≡ slice_index firsts q
-  same_first p q lp lq e = (are.same p q (omega arith) (omega arith)).1 e
+  same_first p q lp lq e = (first_same classes firsts are p q (omega arith) (omega arith)).1 e
 
   -- a path spells a merged word
   run_merges : (moves : List (Option ℕ × ℕ)) (q end : ℕ) → q < length a.states → IsPath n.states (slice_index firsts q) moves end

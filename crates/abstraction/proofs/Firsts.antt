@@ -1,8 +1,8 @@
 -- The first states of classes, state by state.
-use Rattle.std.proofs.Common.{◌≡◌, ◌<◌, ◌+◌, ◌⊎◌, ℕ, List, [], ◌∷◌, ◌++◌, Option, None, Some, length, get_or, sym, ap, subst, ◌∙◌, inl, inr, arith, length-append}
-use Rattle.std.proofs.lemmas.Bool.{cases_eq}
+use Rattle.std.proofs.Common.{◌≡◌, ◌≢◌, ◌↔◌, ◌<◌, ◌+◌, ◌⊎◌, ℕ, List, [], ◌∷◌, ◌++◌, Option, None, Some, length, slice_index, slice_get, get_or, sym, ap, subst, ◌∙◌, inl, inr, arith, length-append}
+use Rattle.std.proofs.lemmas.Bool.{cases_eq, cases_lt}
 use Rattle.std.proofs.lemmas.List.{get_or_append_left, get_or_push}
-use Rattle.std.proofs.lemmas.Option.{slice_get-get_or, same_Some}
+use Rattle.std.proofs.lemmas.Option.{slice_get-get_or, slice_get_within, same_Some}
 use Rattle.abstraction.specs.ClassAutomata.{IsKnownFirst, IsNewFirst}
 use Rattle.abstraction.specs.FirstStates.{AreFirsts}
 
@@ -10,12 +10,14 @@ use Rattle.abstraction.specs.FirstStates.{AreFirsts}
 pub record HasFirsts (known : ℕ → Option ℕ) (classes firsts : List ℕ) (i : ℕ) : Type 0 where
   pub count : length firsts ≡ i
   pub found : (class first : ℕ) → known class ≡ Some first → (first < i) × (get_or classes first 0 ≡ class)
+  pub least : (class first q : ℕ) → known class ≡ Some first → q < first → get_or classes q 0 ≢ class
   pub done : (p : ℕ) → p < i → known (get_or classes p 0) ≡ Some (get_or firsts p 0)
 
 pub has_firsts_none : (known : ℕ → Option ℕ) (classes firsts : List ℕ) → ((c : ℕ) → known c ≡ None) → firsts ≡ [] → HasFirsts known classes firsts 0
 has_firsts_none known classes firsts none empty = record {
   count = ap length empty;
   found = λ class first h. let n = none class in cc;
+  least = λ class first q h before same. let n = none class in cc;
   done = λ p l. absurd (omega arith);
 }
 
@@ -36,6 +38,7 @@ module _ (known more : ℕ → Option ℕ) (classes firsts : List ℕ) (i first 
   has_firsts_more (inl f) = record {
     count = longer;
     found = λ class x h. let y = before.found class x (sym (f.same class) ∙ h) in (let l = y.0 in omega arith, y.1);
+    least = λ class x q h. before.least class x q (sym (f.same class) ∙ h);
     done = keep (λ c x h. f.same c ∙ h) (f.same (get_or classes i 0) ∙ f.known);
   }
   has_firsts_more (inr f) = record {
@@ -46,22 +49,45 @@ module _ (known more : ℕ → Option ℕ) (classes firsts : List ℕ) (i first 
           (omega arith, subst (λ r. get_or classes r 0 ≡ class) last same)
       | inr other ↦ let y = before.found class x (sym (f.same class other) ∙ h) in (let l = y.0 in omega arith, y.1)
     ];
+    least = λ class x q h earlier. elim (cases_eq (get_or classes i 0) class) [
+      | inl same ↦ λ equal.
+          let last : i ≡ x = same_Some i x (sym (subst (λ c. more c ≡ Some i) same f.added) ∙ h) in
+          let had : known (get_or classes q 0) ≡ Some (get_or firsts q 0) = before.done q (omega arith) in
+          let unknown : known (get_or classes q 0) ≡ None = subst (λ c. known c ≡ None) (same ∙ sym equal) f.unknown in
+          cc
+      | inr other ↦ before.least class x q (sym (f.same class other) ∙ h) earlier
+    ];
     done = keep (λ c x h. f.same c (λ same. let u = subst (λ d. known d ≡ None) same f.unknown in cc) ∙ h) (f.added ∙ ap (λ (x : ℕ). Some x) (sym f.first_is));
   }
 
 pub has_firsts_all : (known : ℕ → Option ℕ) (classes firsts : List ℕ) → HasFirsts known classes firsts (length classes) → AreFirsts classes firsts
 has_firsts_all known classes firsts all = record {
   count = all.count;
-  within = λ p there. (all.found (get_or classes p 0) (get_or firsts p 0) (all.done p there)).0;
-  same = λ p q lp lq. (
-    λ e. slice_get-get_or classes p 0 lp
-        ∙ ap (λ (x : ℕ). Some x) (sym (class_of p lp) ∙ ap (λ r. get_or classes r 0) e ∙ class_of q lq)
-        ∙ sym (slice_get-get_or classes q 0 lq),
-    λ e.
-        let same : get_or classes p 0 ≡ get_or classes q 0 = same_Some (get_or classes p 0) (get_or classes q 0) (sym (slice_get-get_or classes p 0 lp) ∙ e ∙ slice_get-get_or classes q 0 lq) in
-        same_Some (get_or firsts p 0) (get_or firsts q 0) (sym (all.done p lp) ∙ ap known same ∙ all.done q lq),
-  );
+  in_class = λ p there.
+      let is = all.found (get_or classes p 0) (get_or firsts p 0) (all.done p there) in
+      slice_get-get_or classes (get_or firsts p 0) 0 is.0 ∙ ap (λ (x : ℕ). Some x) is.1 ∙ sym (slice_get-get_or classes p 0 there);
+  none_before = λ p q there earlier same.
+      let is = all.found (get_or classes p 0) (get_or firsts p 0) (all.done p there) in
+      let at_q = slice_get-get_or classes q 0 (let l = is.0 in omega arith) in
+      all.least (get_or classes p 0) (get_or firsts p 0) q (all.done p there) earlier
+      (same_Some (get_or classes q 0) (get_or classes p 0) (sym at_q ∙ same ∙ slice_get-get_or classes p 0 there));
 }
-  where
-    class_of : (p : ℕ) → p < length classes → get_or classes (get_or firsts p 0) 0 ≡ get_or classes p 0
-    class_of p there = (all.found (get_or classes p 0) (get_or firsts p 0) (all.done p there)).1
+
+module _ (classes firsts : List ℕ) (are : AreFirsts classes firsts) where
+  -- a first state is one of the states
+  pub first_within : (p : ℕ) → p < length classes → slice_index firsts p < length classes
+  first_within p there = slice_get_within classes (slice_index firsts p) (get_or classes p 0) (are.in_class p there ∙ slice_get-get_or classes p 0 there)
+
+  -- first states are equal exactly where the classes are
+  pub first_same : (p q : ℕ) → p < length classes → q < length classes
+      → (slice_index firsts p ≡ slice_index firsts q) ↔ (slice_get classes p ≡ slice_get classes q)
+  first_same p q lp lq = (
+    λ same. sym (are.in_class p lp) ∙ ap (slice_get classes) same ∙ are.in_class q lq,
+    λ same. elim (cases_lt (slice_index firsts p) (slice_index firsts q)) [
+      | inl less ↦ absurd (are.none_before q (slice_index firsts p) lq less (are.in_class p lp ∙ same))
+      | inr not_less ↦ elim (cases_lt (slice_index firsts q) (slice_index firsts p)) [
+        | inl more ↦ absurd (are.none_before p (slice_index firsts q) lp more (are.in_class q lq ∙ sym same))
+        | inr not_more ↦ omega arith
+      ]
+    ],
+  )

@@ -8,7 +8,8 @@ ghost use Rattle.abstraction.specs.ClassAutomata.{IsKnownFirst, IsNewFirst};
 use std::alloc::{AllocError, Global};
 use std::collections::HashMap;
 
-/// For each state the first state of its class.
+/// For each state the first state of its class. `classes` has the class of each state, which may be any number. `AllocError` where memory
+/// runs out.
 pub fn first_states(alloc: Global, classes: &[usize]) -> Result<Vec<usize>, AllocError>
     ensures { IfOk result (λ firsts. AreFirsts classes.now firsts.items) }
 {

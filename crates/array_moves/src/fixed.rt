@@ -8,8 +8,7 @@ ghost use Rattle.transducers.specs.Transducer.{Relates};
 ghost use Rattle.protocol_model.specs.Raised.{IsRaisedMove};
 ghost use Rattle.array_moves.specs.Fixed.{exchange_edge, copying_node, pair_states, ring_states, two_states, fixed_states, ChangesTwoPositions};
 
-use crate::Alphabet;
-use protocol_model::Move;
+use protocol_model::{Move, SectionLetters};
 use std::alloc::{AllocError, Global};
 use transducers::{Label, State, Transducer, copy_edges};
 
@@ -18,7 +17,7 @@ use transducers::{Label, State, Transducer, copy_edges};
 pub(crate) fn compile_fixed(
     alloc: Global,
     step: &Move,
-    alphabet: Alphabet,
+    alphabet: SectionLetters,
 ) -> Result<Transducer, AllocError>
     requires two { ChangesTwoPositions step.now }
     requires valid { IsValidMove alphabet.count step.now }
@@ -33,7 +32,11 @@ pub(crate) fn compile_fixed(
 }
 
 /// The states of the machine.
-fn fixed_states(alloc: Global, step: &Move, alphabet: Alphabet) -> Result<Vec<State>, AllocError>
+fn fixed_states(
+    alloc: Global,
+    step: &Move,
+    alphabet: SectionLetters,
+) -> Result<Vec<State>, AllocError>
     requires two { ChangesTwoPositions step.now }
     requires valid { IsValidMove alphabet.count step.now }
     requires fits { alphabet.offset + alphabet.count < 2 ^ 32 }
@@ -54,13 +57,13 @@ fn pair_states(
     b: u32,
     c: u32,
     d: u32,
-    alphabet: Alphabet,
+    alphabet: SectionLetters,
 ) -> Result<Vec<State>, AllocError>
     requires valid { AllBelow alphabet.count (a ∷ b ∷ c ∷ d ∷ []) }
     requires fits { alphabet.offset + alphabet.count < 2 ^ 32 }
     ensures { IfOk result (λ states. states.items ≡ pair_states a b c d alphabet.offset alphabet.count) }
 {
-    let Alphabet { offset, count, .. } = alphabet;
+    let SectionLetters { offset, count, .. } = alphabet;
     let mut states = Vec::with_capacity(alloc, 3)?;
     states.push(state(alloc, false, offset, count, 0, &[edge(offset, a, c, 1)])?)?;
     states.push(state(alloc, false, offset, 0, 1, &[edge(offset, b, d, 2)])?)?;
@@ -75,13 +78,13 @@ fn ring_states(
     b: u32,
     c: u32,
     d: u32,
-    alphabet: Alphabet,
+    alphabet: SectionLetters,
 ) -> Result<Vec<State>, AllocError>
     requires valid { AllBelow alphabet.count (a ∷ b ∷ c ∷ d ∷ []) }
     requires fits { alphabet.offset + alphabet.count < 2 ^ 32 }
     ensures { IfOk result (λ states. states.items ≡ ring_states a b c d alphabet.offset alphabet.count) }
 {
-    let Alphabet { offset, count, .. } = alphabet;
+    let SectionLetters { offset, count, .. } = alphabet;
     let mut states = Vec::with_capacity(alloc, 3)?;
     states.push(state(alloc, false, offset, 0, 0, &[edge(offset, b, d, 1)])?)?;
     states.push(state(alloc, false, offset, count, 1, &[edge(offset, a, c, 2)])?)?;
@@ -96,13 +99,13 @@ fn two_states(
     b: u32,
     c: u32,
     d: u32,
-    alphabet: Alphabet,
+    alphabet: SectionLetters,
 ) -> Result<Vec<State>, AllocError>
     requires valid { AllBelow alphabet.count (a ∷ b ∷ c ∷ d ∷ []) }
     requires fits { alphabet.offset + alphabet.count < 2 ^ 32 }
     ensures { IfOk result (λ states. states.items ≡ two_states a b c d alphabet.offset alphabet.count) }
 {
-    let Alphabet { offset, count, .. } = alphabet;
+    let SectionLetters { offset, count, .. } = alphabet;
     let first = edge(offset, a, c, 1);
     let second = edge(offset, b, d, 2);
     let mut states = Vec::with_capacity(alloc, 4)?;

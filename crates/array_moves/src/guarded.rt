@@ -10,10 +10,9 @@ ghost use Rattle.protocol_model.specs.Raised.{IsRaisedMove};
 ghost use Rattle.array_moves.specs.declared.guard_table.ControlState.{ControlState};
 ghost use Rattle.array_moves.specs.ControlStates.{HasRoom, HasFirst, Numbers, LetterEdges, ControlEdges, IsMachine, starts_of};
 
-use crate::Alphabet;
 use crate::guard_table::{ControlState, GuardTable, guard_table_of};
 use indexmap::IndexSet;
-use protocol_model::Guard;
+use protocol_model::{Guard, SectionLetters};
 use std::alloc::{AllocError, Global};
 use transducers::{Label, State, Transducer};
 
@@ -25,7 +24,7 @@ pub(crate) fn compile_at(
     into: u32,
     guards: &[Guard],
     table: &[(u32, u32)],
-    alphabet: Alphabet,
+    alphabet: SectionLetters,
 ) -> Result<Transducer, AllocError>
     requires valid { IsValidAt alphabet.count from into guards.now table.now }
     requires fits { alphabet.offset + alphabet.count ≤ alphabet.letters }
@@ -54,7 +53,7 @@ fn starts(alloc: Global, states: &[State]) -> Result<Vec<usize>, AllocError>
 fn states(
     alloc: Global,
     guard_table: &GuardTable,
-    alphabet: Alphabet,
+    alphabet: SectionLetters,
 ) -> Result<Vec<State>, AllocError>
     requires { HasRoom alphabet.offset alphabet.count guard_table.now }
     ensures { IfOk result (λ states. (controls : List ControlState)
@@ -94,7 +93,7 @@ fn control_edges(
     guard_table: &GuardTable,
     controls: &mut IndexSet<ControlState>,
     control: ControlState,
-    alphabet: Alphabet,
+    alphabet: SectionLetters,
 ) -> Result<Vec<(Label, usize)>, AllocError>
     requires { HasRoom alphabet.offset alphabet.count guard_table.now }
     ensures { IfOk result (λ edges. ControlEdges guard_table.now alphabet.offset alphabet.count control
@@ -118,7 +117,7 @@ fn letter_edges(
     guard_table: &GuardTable,
     controls: &mut IndexSet<ControlState>,
     control: ControlState,
-    alphabet: Alphabet,
+    alphabet: SectionLetters,
 ) -> Result<Vec<(Label, usize)>, AllocError>
     requires { HasRoom alphabet.offset alphabet.count guard_table.now }
     ensures { IfOk result (λ edges. LetterEdges guard_table.now alphabet.offset alphabet.count control

@@ -14,40 +14,25 @@ ghost use Rattle.protocol_model.specs.Raised.{IsRaisedMove};
 
 use fixed::compile_fixed;
 use guarded::compile_at;
-use protocol_model::Move;
+use protocol_model::{Move, SectionLetters};
 use protocol_syntax::Kind;
 use std::alloc::{AllocError, Global};
 use transducers::Transducer;
 
-/// The letters of a section among those of a transducer: the transducer's number of letters, the section's first
-/// letter, and the section's number of letters.
-#[derive(Clone, Copy, Debug)]
-struct Alphabet {
-    letters: u32,
-    offset: u32,
-    count: u32,
-}
-
-/// The transducer over `letters` letters that relates the arrays before and after the array move, each letter raised by
-/// `offset`. The section of the move has `count` letters.
+/// The transducer over `alphabet.letters` letters that relates the arrays before and after the array move, each letter raised by
+/// `alphabet.offset`. The section of the move has `alphabet.count` letters. `AllocError` where memory runs out.
 pub fn compile_array(
     alloc: Global,
     step: &Move,
-    letters: u32,
-    offset: u32,
-    count: u32,
+    alphabet: SectionLetters,
 ) -> Result<Transducer, AllocError>
     requires array { kind_of_move step.now ≡ Kind.Array }
-    requires valid { IsValidMove count step.now }
-    requires fits { offset + count ≤ letters }
-    ensures letters { IfOk result (λ t. t.letters ≡ letters) }
-    ensures relates { IfOk result (λ t. (u w : List ℕ) → Relates t u w ↔ IsRaisedMove (IsMove step.now) offset count u w) }
+    requires valid { IsValidMove alphabet.count step.now }
+    requires fits { alphabet.offset + alphabet.count ≤ alphabet.letters }
+    ensures letters { IfOk result (λ t. t.letters ≡ alphabet.letters) }
+    ensures relates { IfOk result (λ t. (u w : List ℕ) → Relates t u w
+        ↔ IsRaisedMove (IsMove step.now) alphabet.offset alphabet.count u w) }
 {
-    let alphabet = Alphabet {
-        letters,
-        offset,
-        count,
-    };
     match step {
         Move::At {
             from,

@@ -47,9 +47,10 @@ pub(crate) fn seek(edges: &[(u32, usize)], near: usize, letter: u32) -> (Option<
     }
 }
 
-/// The place of the edge with the letter among edges that are sorted by letter, or else the one where it would go. The place `near` is
-/// looked at first, then the one that the edge has where there is an edge for each letter, and only then are the edges searched by
-/// halves.
+/// Looks for a letter among the edges of a state, letters with targets, which are sorted by letter: `Ok` with the place of the edge
+/// that has the letter, and `Err`, where none has it, with the place where such an edge would go. `near` may be any number. It takes
+/// constant time where `near` is that place, or where each letter has an edge; else the edges are searched by halves, in
+/// logarithmic time. It takes no memory.
 pub fn search_near(edges: &[(u32, usize)], near: usize, letter: u32) -> Result<usize, usize>
     requires { HasIncreasingLetters edges.now }
     ensures found { IfOk result (IsEdgeAt edges.now letter) }

@@ -6,7 +6,7 @@ use Rattle.word_automata.specs.Automaton.{Automaton, target, accepts_from, accep
 use Rattle.exploration.specs.System.{look_up}
 use Rattle.exploration.specs.Residuals.{StartsWith, AreResiduals}
 use Rattle.exploration.specs.Numbering.{IsBreadthFirst, StandsForLanguages}
-use Rattle.exploration.specs.Worklist.{Names, Explored}
+use Rattle.exploration.specs.Worklist.{IsPlaceOf, Explored}
 use Rattle.exploration.proofs.Runs.{target-inside}
 use Rattle.exploration.proofs.FirstEdges.{breadth_first}
 
@@ -18,7 +18,7 @@ module _ {S : Type 0} (letters : ℕ) (accepted : List ℕ → Type 0) (language
     (found : List S) (m : Automaton) (next : ℕ) (e : Explored letters accepted language P found m next []) (all : length found ≤ next) where
   step_language : (s : S) (a : ℕ) (w : List ℕ) (edges : List (ℕ × S)) → AreResiduals letters language P s edges
       → ((q : ℕ) (r : S) → slice_get found q ≡ Some r → IsTrue (accepts_from m q w) ↔ language r w)
-      → (o : Option ℕ) (p : Option S) → look_up edges a ≡ p → Names found o p
+      → (o : Option ℕ) (p : Option S) → look_up edges a ≡ p → IsPlaceOf found o p
       → IsTrue (elim o as (λ o. Bool) [ None ↦ false | Some r ↦ accepts_from m r w ]) ↔ language s (a ∷ w)
   step_language s a w edges are again None None f h = (λ t. absurd (true≢false (sym t)), λ t. absurd (are.stops a f w t))
   step_language s a w edges are again None (Some r) f h = absurd h

@@ -11,7 +11,7 @@ use Rattle.word_automata.specs.Automaton.{Automaton, target, find_target}
 use Rattle.word_automata.specs.Building.{AddsEdge, IsEdgeInRange, with_state, empty_automaton}
 use Rattle.exploration.specs.System.{look_up}
 use Rattle.exploration.specs.Residuals.{StartsWith, AreResiduals}
-use Rattle.exploration.specs.Worklist.{IsEarlier, FirstEdges, Names, Explored, Expands, Numbers}
+use Rattle.exploration.specs.Worklist.{IsEarlier, FirstEdges, IsPlaceOf, Explored, Expands, Numbers}
 use Rattle.exploration.proofs.Explored.{AddsTarget, adds_target, FirstEdges-kept, FirstEdges-added}
 use Rattle.exploration.proofs.Lists.{slice_get-append, slice_get-append_below, slice_get-push, slice_get-push_cases, slice_get-some, list_any_at, look_up-above, look_up-below, look_up-push_same, look_up-push_other, HasIncreasingLetters-front}
 
@@ -42,24 +42,24 @@ adds_target-added m n b from letter to adds none =
     record { was = none; here = a.here; other = λ q x ne. a.other q x ne ∙ target-with_state m b q x }
 
 module _ {S : Type 0} where
-  Names-grows : (found more : List S) (o : Option ℕ) (p : Option S) → Names found o p → Names (found ++ more) o p
-  Names-grows found more None None h = tt
-  Names-grows found more None (Some s) h = h
-  Names-grows found more (Some i) None h = h
-  Names-grows found more (Some i) (Some s) h = slice_get-append found more i s h
+  IsPlaceOf-grows : (found more : List S) (o : Option ℕ) (p : Option S) → IsPlaceOf found o p → IsPlaceOf (found ++ more) o p
+  IsPlaceOf-grows found more None None h = tt
+  IsPlaceOf-grows found more None (Some s) h = h
+  IsPlaceOf-grows found more (Some i) None h = h
+  IsPlaceOf-grows found more (Some i) (Some s) h = slice_get-append found more i s h
 
-  pub Names-some : (found : List S) (o : Option ℕ) (i : ℕ) (p : Option S) → o ≡ Some i → Names found o p → (s : S) × (p ≡ Some s) × (slice_get found i ≡ Some s)
-  Names-some found None i p e h = cc
-  Names-some found (Some j) i None e h = absurd h
-  Names-some found (Some j) i (Some s) e h = let same : j ≡ i = cc in (s, refl, subst (λ k. slice_get found k ≡ Some s) same h)
+  pub IsPlaceOf-some : (found : List S) (o : Option ℕ) (i : ℕ) (p : Option S) → o ≡ Some i → IsPlaceOf found o p → (s : S) × (p ≡ Some s) × (slice_get found i ≡ Some s)
+  IsPlaceOf-some found None i p e h = cc
+  IsPlaceOf-some found (Some j) i None e h = absurd h
+  IsPlaceOf-some found (Some j) i (Some s) e h = let same : j ≡ i = cc in (s, refl, subst (λ k. slice_get found k ≡ Some s) same h)
 
-  Names-none : (found : List S) (o : Option ℕ) → o ≡ None → Names found o None
-  Names-none found None e = tt
-  Names-none found (Some i) e = cc
+  IsPlaceOf-none : (found : List S) (o : Option ℕ) → o ≡ None → IsPlaceOf found o None
+  IsPlaceOf-none found None e = tt
+  IsPlaceOf-none found (Some i) e = cc
 
-  Names-from_none : (found : List S) (o : Option ℕ) → Names found o None → o ≡ None
-  Names-from_none found None h = refl
-  Names-from_none found (Some i) h = absurd h
+  IsPlaceOf-from_none : (found : List S) (o : Option ℕ) → IsPlaceOf found o None → o ≡ None
+  IsPlaceOf-from_none found None h = refl
+  IsPlaceOf-from_none found (Some i) h = absurd h
 
   -- what inserting a state into the set of states found says
   pub inserted_kept : (eq : S → S → Bool) → ((x y : S) → eq x y ≡ true → x ≡ y) → (old new : List S) (s : S) (i : ℕ)
@@ -155,7 +155,7 @@ module _ {S : Type 0} (letters : ℕ) (accepted : List ℕ → Type 0) (language
     latest : (letter : ℕ) → All (λ pair. pair.0 < letter) pairs → (r b q : ℕ) → target m r b ≡ Some q → IsEarlier (r, b) next letter
     latest letter below r b q h =
         elim (cases_order r next) [
-          | inl same ↦ let s = Names-some found (target m next b) q (look_up pairs b) (subst (λ x. target m x b ≡ Some q) same h) (e.current b) in
+          | inl same ↦ let s = IsPlaceOf-some found (target m next b) q (look_up pairs b) (subst (λ x. target m x b ≡ Some q) same h) (e.current b) in
               inr (same, look_up-below pairs letter b s.0 below s.1)
           | inr (inl less) ↦ inl less
           | inr (inr more) ↦ let none = e.later r b more in cc
@@ -165,7 +165,7 @@ module _ {S : Type 0} (letters : ℕ) (accepted : List ℕ → Type 0) (language
     target-below : (r b q : ℕ) → target m r b ≡ Some q → q < length found
     target-below r b q h =
         elim (cases_order r next) [
-          | inl same ↦ let s = Names-some found (target m next b) q (look_up pairs b) (subst (λ x. target m x b ≡ Some q) same h) (e.current b) in
+          | inl same ↦ let s = IsPlaceOf-some found (target m next b) q (look_up pairs b) (subst (λ x. target m x b ≡ Some q) same h) (e.current b) in
               slice_get_within found q s.0 s.2
           | inr (inl less) ↦ earlier less
           | inr (inr more) ↦ let none = e.later r b more in cc
@@ -175,7 +175,7 @@ module _ {S : Type 0} (letters : ℕ) (accepted : List ℕ → Type 0) (language
         earlier less =
             let x = slice_get-some found r (omega arith) in
             let all = e.done r x.0 less x.1 in
-            let s = Names-some found (target m r b) q (look_up all.0 b) h (all.2 b) in
+            let s = IsPlaceOf-some found (target m r b) q (look_up all.0 b) h (all.2 b) in
             slice_get_within found q s.0 s.2
 
     -- the state after the state next
@@ -188,17 +188,17 @@ module _ {S : Type 0} (letters : ℕ) (accepted : List ℕ → Type 0) (language
       distinct = e.distinct;
       accepting = e.accepting;
       done = done;
-      current = λ a. Names-none found (target m (suc next) a) (e.later (suc next) a (omega arith));
+      current = λ a. IsPlaceOf-none found (target m (suc next) a) (e.later (suc next) a (omega arith));
       later = λ q a l. e.later q a (omega arith);
       firsts = e.firsts;
     }
       where
         done : (q : ℕ) (x : S) → q < suc next → slice_get found q ≡ Some x
-            → (edges : List (ℕ × S)) × AreResiduals letters language P x edges × ((a : ℕ) → Names found (target m q a) (look_up edges a))
+            → (edges : List (ℕ × S)) × AreResiduals letters language P x edges × ((a : ℕ) → IsPlaceOf found (target m q a) (look_up edges a))
         done q x l h =
             elim (cases_order q next) [
               | inl same ↦ let i : s ≡ x = (let j = subst (λ k. slice_get found k ≡ Some x) same h in cc) in
-                  (pairs, subst (λ y. AreResiduals letters language P y pairs) i all, λ a. subst (λ k. Names found (target m k a) (look_up pairs a)) (sym same) (e.current a))
+                  (pairs, subst (λ y. AreResiduals letters language P y pairs) i all, λ a. subst (λ k. IsPlaceOf found (target m k a) (look_up pairs a)) (sym same) (e.current a))
               | inr (inl less) ↦ e.done q x less h
               | inr (inr more) ↦ absurd (omega arith)
             ]
@@ -206,29 +206,29 @@ module _ {S : Type 0} (letters : ℕ) (accepted : List ℕ → Type 0) (language
     module _ (letter : ℕ) (s : S) (below : All (λ pair. pair.0 < letter) pairs) where
       -- the state next has no edge under the letter yet
       pub none_yet : target m next letter ≡ None
-      none_yet = Names-from_none found (target m next letter) (subst (Names found (target m next letter)) (look_up-above pairs letter below) (e.current letter))
+      none_yet = IsPlaceOf-from_none found (target m next letter) (subst (IsPlaceOf found (target m next letter)) (look_up-above pairs letter below) (e.current letter))
 
       -- one more edge, to the place of the state in the list of those that were found
       current-more : (more : List S) (to : ℕ → ℕ → Option ℕ) (place : ℕ) → AddsTarget (target m) to next letter place → slice_get (found ++ more) place ≡ Some s
-          → (a : ℕ) → Names (found ++ more) (to next a) (look_up (pairs ++ (letter, s) ∷ []) a)
+          → (a : ℕ) → IsPlaceOf (found ++ more) (to next a) (look_up (pairs ++ (letter, s) ∷ []) a)
       current-more more to place adds at a =
           elim (cases_eq letter a) [
-            | inl same ↦ subst (λ x. Names (found ++ more) (to next x) (look_up (pairs ++ (letter, s) ∷ []) x)) same
-                (subst (λ o. Names (found ++ more) o (look_up (pairs ++ (letter, s) ∷ []) letter)) (sym adds.here)
-                (subst (Names (found ++ more) (Some place)) (sym (look_up-push_same pairs (letter, s) (look_up-above pairs letter below))) at))
-            | inr ne ↦ subst (λ o. Names (found ++ more) o (look_up (pairs ++ (letter, s) ∷ []) a)) (sym (adds.other next a (λ both. ne (sym both.1))))
-                (subst (Names (found ++ more) (target m next a)) (sym (look_up-push_other pairs (letter, s) a ne)) (Names-grows found more (target m next a) (look_up pairs a) (e.current a)))
+            | inl same ↦ subst (λ x. IsPlaceOf (found ++ more) (to next x) (look_up (pairs ++ (letter, s) ∷ []) x)) same
+                (subst (λ o. IsPlaceOf (found ++ more) o (look_up (pairs ++ (letter, s) ∷ []) letter)) (sym adds.here)
+                (subst (IsPlaceOf (found ++ more) (Some place)) (sym (look_up-push_same pairs (letter, s) (look_up-above pairs letter below))) at))
+            | inr ne ↦ subst (λ o. IsPlaceOf (found ++ more) o (look_up (pairs ++ (letter, s) ∷ []) a)) (sym (adds.other next a (λ both. ne (sym both.1))))
+                (subst (IsPlaceOf (found ++ more) (target m next a)) (sym (look_up-push_other pairs (letter, s) a ne)) (IsPlaceOf-grows found more (target m next a) (look_up pairs a) (e.current a)))
           ]
 
       done-more : (more : List S) (to : ℕ → ℕ → Option ℕ) (place : ℕ) → AddsTarget (target m) to next letter place
           → (q : ℕ) (x : S) → q < next → slice_get found q ≡ Some x
-          → (edges : List (ℕ × S)) × AreResiduals letters language P x edges × ((a : ℕ) → Names (found ++ more) (to q a) (look_up edges a))
+          → (edges : List (ℕ × S)) × AreResiduals letters language P x edges × ((a : ℕ) → IsPlaceOf (found ++ more) (to q a) (look_up edges a))
       done-more more to place adds q x l h =
           let all = e.done q x l h in (
             all.0,
             all.1,
-            λ a. subst (λ o. Names (found ++ more) o (look_up all.0 a)) (sym (adds.other q a (λ both. absurd (let i = both.0 in omega arith))))
-                (Names-grows found more (target m q a) (look_up all.0 a) (all.2 a)),
+            λ a. subst (λ o. IsPlaceOf (found ++ more) o (look_up all.0 a)) (sym (adds.other q a (λ both. absurd (let i = both.0 in omega arith))))
+                (IsPlaceOf-grows found more (target m q a) (look_up all.0 a) (all.2 a)),
           )
 
       later-more : (to : ℕ → ℕ → Option ℕ) (place : ℕ) → AddsTarget (target m) to next letter place → (q a : ℕ) → next < q → to q a ≡ None
@@ -246,9 +246,9 @@ module _ {S : Type 0} (letters : ℕ) (accepted : List ℕ → Type 0) (language
             states = e.states;
             distinct = e.distinct;
             accepting = λ q x h. subst (λ b. IsTrue b ↔ language x []) (sym (adds.same_acceptance q)) (e.accepting q x h);
-            done = λ q x l h. subst (λ ks. (edges : List (ℕ × S)) × AreResiduals letters language P x edges × ((a : ℕ) → Names ks (target n q a) (look_up edges a))) whole
+            done = λ q x l h. subst (λ ks. (edges : List (ℕ × S)) × AreResiduals letters language P x edges × ((a : ℕ) → IsPlaceOf ks (target n q a) (look_up edges a))) whole
                 (done-more [] (target n) place more q x l h);
-            current = λ a. subst (λ ks. Names ks (target n next a) (look_up (pairs ++ (letter, s) ∷ []) a)) whole
+            current = λ a. subst (λ ks. IsPlaceOf ks (target n next a) (look_up (pairs ++ (letter, s) ∷ []) a)) whole
                 (current-more [] (target n) place more (slice_get-append found [] place s at) a);
             later = later-more (target n) place more;
             firsts = FirstEdges-kept (target m) (target n) next letter place more (length found) e.firsts (latest letter below);

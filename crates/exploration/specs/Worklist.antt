@@ -19,11 +19,11 @@ pub record FirstEdges (to : ℕ → ℕ → Option ℕ) (n : ℕ) : Type 0 where
   pub ordered : (q r : ℕ) → 0 < q → q < r → r < n → IsEarlier (first q) (first r).0 (first r).1
 
 -- the number, if there is one, is the place of the state in the list
-abbrev pub Names : {S : Type 0} → List S → Option ℕ → Option S → Type 0
-Names found None None = Unit {0}
-Names found None (Some s) = ⊥
-Names found (Some i) None = ⊥
-Names found (Some i) (Some s) = slice_get found i ≡ Some s
+abbrev pub IsPlaceOf : {S : Type 0} → List S → Option ℕ → Option S → Type 0
+IsPlaceOf found None None = Unit {0}
+IsPlaceOf found None (Some s) = ⊥
+IsPlaceOf found (Some i) None = ⊥
+IsPlaceOf found (Some i) (Some s) = slice_get found i ≡ Some s
 
 -- the states that were found have their numbers and flags; those before the state next have all their edges, the state next those of
 -- the pairs, and later states none
@@ -36,8 +36,8 @@ pub record Explored {S : Type 0} (letters : ℕ) (accepted : List ℕ → Type 0
   pub distinct : (p q : ℕ) (s : S) → slice_get found p ≡ Some s → slice_get found q ≡ Some s → p ≡ q
   pub accepting : (q : ℕ) (s : S) → slice_get found q ≡ Some s → IsTrue (is_accepting m.states q) ↔ language s []
   pub done : (q : ℕ) (s : S) → q < next → slice_get found q ≡ Some s
-      → (all : List (ℕ × S)) × AreResiduals letters language P s all × ((a : ℕ) → Names found (target m q a) (look_up all a))
-  pub current : (a : ℕ) → Names found (target m next a) (look_up pairs a)
+      → (all : List (ℕ × S)) × AreResiduals letters language P s all × ((a : ℕ) → IsPlaceOf found (target m q a) (look_up all a))
+  pub current : (a : ℕ) → IsPlaceOf found (target m next a) (look_up pairs a)
   pub later : (q a : ℕ) → next < q → target m q a ≡ None
   pub firsts : FirstEdges (target m) (length found)
 

@@ -6,15 +6,17 @@ ghost use Rattle.std.specs.Prelude.{◌≡◌, ◌++◌, [], ◌∷◌, true, le
 use crate::place_table::PlaceTable;
 use std::alloc::{AllocError, Global};
 
-/// The states that were found.
+/// The states that were found. The place of a state is the number of states before it.
 #[derive(Drop)]
 pub struct FoundStates<S> {
+    /// The states, in the order in which they were pushed.
     pub states: Vec<S>,
     places: PlaceTable,
 }
 
 impl<S: Copy + Eq + Drop> FoundStates<S> {
-    /// No state yet, of those whose codes are below the number.
+    /// No state yet. Codes are to be below `codes`; others cost more when they are looked up. Where `codes` is at most 1,048,576, time
+    /// and memory are linear in it, and else constant. `AllocError` where memory runs out.
     pub fn new(alloc: Global, codes: usize) -> Result<FoundStates<S>, AllocError>
         ensures { IfOk result (λ found. found.states.items ≡ []) }
     {
@@ -24,14 +26,14 @@ impl<S: Copy + Eq + Drop> FoundStates<S> {
         })
     }
 
-    /// The number of states that were found.
+    /// The number of states that were found, in constant time.
     pub fn len(&self) -> usize
         ensures { result ≡ length self.now.states.items }
     {
         self.states.len()
     }
 
-    /// Whether the state stands at the place.
+    /// Whether the state stands at the place, which may be any number: at most one comparison, and no memory.
     pub fn holds(&self, place: usize, state: &S) -> bool
         requires { (x y : S) → S.eq x y ≡ true → x ≡ y }
         ensures { IsTrue result → slice_get self.now.states.items place ≡ Some state.now }
@@ -39,7 +41,10 @@ impl<S: Copy + Eq + Drop> FoundStates<S> {
         place < self.states.len() && self.states[place] == *state
     }
 
-    /// The place of the state, where it was found before. Where it was not, it is to be pushed next.
+    /// A place at which the state stands, looked for by the code of the state, or `None`. That a place is right is promised, and `None`
+    /// promises nothing: the state may have been found before. After `None` the state is to be pushed next, since the table may have
+    /// kept the next place for it. It takes constant time, on average. `AllocError` where memory runs out, or where there are
+    /// 4,294,967,295 states or more; the states stay as they are in each case.
     pub fn look_up(&mut self, code: usize, state: &S) -> Result<Option<usize>, AllocError>
         requires { (x y : S) → S.eq x y ≡ true → x ≡ y }
         ensures same { self.new.states.items ≡ self.old.states.items }
@@ -52,7 +57,7 @@ impl<S: Copy + Eq + Drop> FoundStates<S> {
         Ok(None)
     }
 
-    /// Adds the state at the end.
+    /// Adds the state at the end, also where it stands there already, in constant time, on average. `AllocError` where memory runs out.
     pub fn push(&mut self, state: S) -> Result<(), AllocError>
         ensures { OnOk result (self.new.states.items ≡ self.old.states.items ++ state ∷ []) }
     {

@@ -5,29 +5,29 @@ ghost use Rattle.std.specs.Prelude.{◌≡◌, ◌↔◌, ◌+◌, ◌++◌, ◌
 ghost use Rattle.transducers.specs.Transducer.{Relates};
 ghost use Rattle.memory_moves.specs.Machine.{IsLabel, IsCopiedBetween, chain, copying_end};
 
+use protocol_model::SectionLetters;
 use std::alloc::{AllocError, Global};
 use transducers::{Label, State, Transducer, copy_edges};
 
-/// The transducer that follows the labels of the prefix, then copies letters, of the `count` letters from `offset` on, and then
-/// follows the label of the suffix, if there is one.
+/// The transducer that follows the labels of the prefix, then copies letters of the section, and then follows the label of the suffix,
+/// if there is one.
 pub(crate) fn copy_between(
     alloc: Global,
     prefix: &[Label],
     suffix: Option<Label>,
-    letters: u32,
-    offset: u32,
-    count: u32,
+    alphabet: SectionLetters,
 ) -> Result<Transducer, AllocError>
-    requires prefix { All (IsLabel letters) prefix.now }
-    requires suffix { IfSome suffix (IsLabel letters) }
-    requires fits { offset + count ≤ letters }
-    ensures letters { IfOk result (λ t. t.letters ≡ letters) }
-    ensures relates { IfOk result (λ t. (u w : List ℕ) → Relates t u w ↔ IsCopiedBetween prefix.now suffix offset count u w) }
+    requires prefix { All (IsLabel alphabet.letters) prefix.now }
+    requires suffix { IfSome suffix (IsLabel alphabet.letters) }
+    requires fits { alphabet.offset + alphabet.count ≤ alphabet.letters }
+    ensures letters { IfOk result (λ t. t.letters ≡ alphabet.letters) }
+    ensures relates { IfOk result (λ t. (u w : List ℕ) → Relates t u w
+        ↔ IsCopiedBetween prefix.now suffix alphabet.offset alphabet.count u w) }
 {
     let mut states = chain(alloc, prefix)?;
-    push_end(alloc, &mut states, suffix, offset, count)?;
+    push_end(alloc, &mut states, suffix, alphabet)?;
     let starts = vec![in alloc; 0]?;
-    Ok(Transducer::from_states(letters, starts, states))
+    Ok(Transducer::from_states(alphabet.letters, starts, states))
 }
 
 /// A state for each label, which leads to the next state.
@@ -47,14 +47,14 @@ fn push_end(
     alloc: Global,
     states: &mut Vec<State>,
     suffix: Option<Label>,
-    offset: u32,
-    count: u32,
+    alphabet: SectionLetters,
 ) -> Result<(), AllocError>
-    requires { offset + count < 2 ^ 32 }
-    ensures { OnOk result (states.new.items ≡ states.old.items ++ copying_end (length states.old.items) offset count suffix) }
+    requires { alphabet.offset + alphabet.count < 2 ^ 32 }
+    ensures { OnOk result (states.new.items ≡ states.old.items
+        ++ copying_end (length states.old.items) alphabet.offset alphabet.count suffix) }
 {
     let copying = states.len();
-    let mut edges = copy_edges(alloc, offset, count, copying)?;
+    let mut edges = copy_edges(alloc, alphabet.offset, alphabet.count, copying)?;
     match suffix {
         None => states.push(State::new(true, edges))?,
         Some(label) => {

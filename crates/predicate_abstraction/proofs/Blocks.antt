@@ -6,6 +6,7 @@ use Rattle.std.proofs.lemmas.List.{get_or_append_left, get_or_push, get_or-set_s
 use Rattle.std.proofs.lemmas.Option.{slice_get-get_or, same_Some}
 use Rattle.word_automata.proofs.Members.{Contains-none}
 use Rattle.abstraction.specs.FirstStates.{AreFirsts}
+use Rattle.abstraction.proofs.Firsts.{first_within, first_same}
 use Rattle.predicate_abstraction.specs.Splitting.{AreNumbers, AreBlocks, IsRefined, IsKnownMove, IsNewMove, IsNumbering}
 use Rattle.predicate_abstraction.proofs.Edges.{take_cases, take_keeps, take_last}
 
@@ -197,9 +198,9 @@ moved_all first_new old blocks moved states small has = record {
 -- first states of blocks number them
 pub numbered : (blocks classes : List ℕ) → AreFirsts blocks classes → IsNumbering blocks classes
 numbered blocks classes are = record {
-  numbers = record { count = are.count; below = are.within };
+  numbers = record { count = are.count; below = first_within blocks classes are };
   same = λ p q lp lq.
-      let both = are.same p q lp lq in
+      let both = first_same blocks classes are p q lp lq in
       let at_p = slice_get-get_or blocks p 0 lp in
       let at_q = slice_get-get_or blocks q 0 lq in (
         λ e. same_Some (get_or blocks p 0) (get_or blocks q 0) (sym at_p ∙ both.0 e ∙ at_q),

@@ -6,6 +6,7 @@ use Rattle.std.proofs.lemmas.List.Elements.{Contains-append_left, Contains-appen
 use Rattle.std.proofs.lemmas.Option.{slice_get-get_or, same_Some}
 use Rattle.word_automata.specs.Automaton.{Automaton}
 use Rattle.abstraction.specs.FirstStates.{AreFirsts}
+use Rattle.abstraction.proofs.Firsts.{first_within, first_same}
 use Rattle.predicate_abstraction.specs.Splitting.{AreNumbers, AreClassesBy, AreCommon}
 use Rattle.predicate_abstraction.proofs.Marks.{place-row, place-column}
 
@@ -32,10 +33,10 @@ pub common_all : (a b places both : List ℕ) → HasPlaces a b places (length a
 common_all a b places both has small_a small_b are = record {
   numbers = record {
     count = are.count ∙ long;
-    below = λ p there. subst (λ n. get_or both p 0 < n) long (are.within p (let l = long in omega arith));
+    below = λ p there. subst (λ n. get_or both p 0 < n) long (first_within places both are p (let l = long in omega arith));
   };
   apart = λ p q lp lq.
-      let same = are.same p q (let l = long in omega arith) (let l = long in omega arith) in
+      let same = first_same places both are p q (let l = long in omega arith) (let l = long in omega arith) in
       let at_p = slice_get-get_or places p 0 (let l = long in omega arith) in
       let at_q = slice_get-get_or places q 0 (let l = long in omega arith) in
       let place_p = has.at p lp in

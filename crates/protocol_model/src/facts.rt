@@ -10,6 +10,17 @@ ghost use Rattle.protocol_model.specs.Words.{separator_of};
 use crate::system::{Section, System};
 use protocol_syntax::Kind;
 
+/// The letters of a section among those of an automaton or a transducer: the `count` letters from `offset` on.
+#[derive(Clone, Copy, Debug)]
+pub struct SectionLetters {
+    /// The number of letters of the automaton or the transducer.
+    pub letters: u32,
+    /// The first letter of the section.
+    pub offset: u32,
+    /// The number of letters of the section.
+    pub count: u32,
+}
+
 impl System {
     /// The number of letters of all sections, which is also the letter that separates them in words.
     pub fn separator(&self) -> u32

@@ -14,7 +14,7 @@ mod rules;
 mod sections;
 mod system;
 
-pub use facts::{is_in, table_value};
+pub use facts::{SectionLetters, is_in, table_value};
 pub use fault::ModelFault;
 pub use law::texts_say_allowed_protocols;
 pub use names::{is_name, is_word};

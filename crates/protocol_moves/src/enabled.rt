@@ -17,7 +17,7 @@ fn has_start(from: u32, guards: &[Guard], list: &[u32]) -> bool
     ensures { result ≡ some_below (can_change_at from guards.now list.now) (length list.now) }
 {
     let extents = guard_extents(guards, list);
-    for i in 0..list.len() {
+    'positions: for i in 0..list.len() {
         let starts = list[i] == from;
         let holds = guards_hold(guards, &extents, i);
         if starts & holds {
@@ -31,7 +31,7 @@ fn has_start(from: u32, guards: &[Guard], list: &[u32]) -> bool
 fn has_neighbours(a: u32, b: u32, list: &[u32]) -> bool
     ensures { result ≡ some_below (λ k. can_change_two a b list.now k (k + 1)) (length list.now - 1) }
 {
-    for i in 1..list.len() {
+    'neighbours: for i in 1..list.len() {
         let left = list[i - 1] == a;
         let right = list[i] == b;
         if left & right {
@@ -50,7 +50,7 @@ fn has_partner(i: usize, a: u32, b: u32, list: &[u32]) -> bool
     if first != a {
         return false;
     }
-    for j in 0..list.len() {
+    'partners: for j in 0..list.len() {
         let apart = i != j;
         let partner = list[j] == b;
         if apart & partner {
@@ -67,7 +67,7 @@ fn has_two(a: u32, b: u32, list: &[u32]) -> bool
     if !is_in(list, b) {
         return false;
     }
-    for i in 0..list.len() {
+    'positions: for i in 0..list.len() {
         if has_partner(i, a, b, list) {
             return true;
         }

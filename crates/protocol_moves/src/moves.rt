@@ -27,7 +27,7 @@ fn guard_extent(guard: &Guard, list: &[u32]) -> Extent
         first: list.len(),
         last: 0,
     };
-    for i in 0..list.len() {
+    'positions: for i in 0..list.len() {
         extent = extent.next(i, is_hit(guard, list[i]));
     }
     extent
@@ -42,7 +42,7 @@ fn change_extent(table: &[(u32, u32)], old: &[u32], new: &[u32]) -> Extent
         first: old.len(),
         last: 0,
     };
-    for i in 0..old.len() {
+    'positions: for i in 0..old.len() {
         extent = extent.next(i, table_value(table, old[i]) != new[i]);
     }
     extent
@@ -54,7 +54,7 @@ pub fn guard_extents(guards: &[Guard], list: &[u32]) -> [Extent; 4]
     ensures { HaveExtents guards.now result list.now }
 {
     let mut extents = [Extent { first: 0, last: 0 }; 4];
-    for k in 0..guards.len() {
+    'guards: for k in 0..guards.len() {
         extents[k] = guard_extent(&guards[k], list);
     }
     extents
@@ -84,7 +84,7 @@ pub fn guards_hold(guards: &[Guard], extents: &[Extent], i: usize) -> bool
     requires { length guards.now ≤ length extents.now }
     ensures { result ≡ all_hold guards.now extents.now i }
 {
-    for k in 0..guards.len() {
+    'guards: for k in 0..guards.len() {
         let extent = extents[k];
         if !holds_at(&guards[k], extent.first < i, i < extent.last) {
             return false;
@@ -109,7 +109,7 @@ fn is_at_move(
     }
     let extents = guard_extents(guards, old);
     let changed = change_extent(table, old, new);
-    for i in 0..old.len() {
+    'positions: for i in 0..old.len() {
         let moves = (old[i] == change.0) & (new[i] == change.1);
         let stays = changed.is_within(i, i);
         let holds = guards_hold(guards, &extents, i);
@@ -128,7 +128,7 @@ fn is_pair_move(was: (u32, u32), becomes: (u32, u32), old: &[u32], new: &[u32]) 
         return false;
     }
     let changed = change_extent(&[], old, new);
-    for i in 1..old.len() {
+    'neighbours: for i in 1..old.len() {
         let left = (old[i - 1] == was.0) & (new[i - 1] == becomes.0);
         let right = (old[i] == was.1) & (new[i] == becomes.1);
         let stays = changed.is_within(i - 1, i);
@@ -150,7 +150,7 @@ fn is_two_move(was: (u32, u32), becomes: (u32, u32), old: &[u32], new: &[u32]) -
     let mut one = false;
     let mut other = false;
     let mut both = false;
-    for i in 0..old.len() {
+    'positions: for i in 0..old.len() {
         let stays = old[i] == new[i];
         let is_one = (old[i] == was.0) & (new[i] == becomes.0);
         let is_other = (old[i] == was.1) & (new[i] == becomes.1);

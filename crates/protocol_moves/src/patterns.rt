@@ -48,7 +48,7 @@ fn read_letter(atoms: &[Atom], letter: u32, begun: &mut [bool], going: &mut [boo
 {
     let mut reached = false;
     let mut next = false;
-    for j in 0..atoms.len() {
+    'atoms: for j in 0..atoms.len() {
         let many = atoms[j].many;
         let fits = is_in(atoms[j].letters.as_slice(), letter);
         let was_begun = begun[j] | reached;
@@ -68,7 +68,7 @@ fn reaches_end(atoms: &[Atom], begun: &[bool], going: &[bool]) -> bool
     ensures { result ≡ reached_end false atoms.now begun.now going.now }
 {
     let mut reached = false;
-    for j in 0..atoms.len() {
+    'atoms: for j in 0..atoms.len() {
         reached = is_passed(atoms[j].many, begun[j] | reached, going[j]);
     }
     begun[atoms.len()] | reached
@@ -82,7 +82,7 @@ pub fn atoms_match(atoms: &[Atom], list: &[u32]) -> bool
     let mut begun = [false; 33];
     let mut going = [false; 32];
     begun[0] = true;
-    for letter in list {
+    'letters: for letter in list {
         read_letter(atoms, *letter, &mut begun, &mut going);
     }
     reaches_end(atoms, &begun, &going)

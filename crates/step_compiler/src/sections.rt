@@ -13,19 +13,10 @@ ghost use Rattle.step_compiler.specs.Sections.{Stays, IsMoveOf, IsSectionTransdu
 
 use array_moves::compile_array;
 use memory_moves::{compile_cell, compile_channel, compile_stack};
-use protocol_model::{Move, Section};
+use protocol_model::{Move, Section, SectionLetters};
 use protocol_syntax::Kind;
 use std::alloc::{AllocError, Global};
 use transducers::{Transducer, copy_any, copy_one};
-
-/// The letters of a section among those of the automata: their number of letters, the section's first letter, and the
-/// section's number of letters.
-#[derive(Clone, Copy, Debug)]
-struct Alphabet {
-    letters: u32,
-    offset: u32,
-    count: u32,
-}
 
 /// For each section the transducer, over `letters` letters, of its move among `moves`, or of no move where there is none.
 /// The letters of a section stand behind those of the sections before.
@@ -65,7 +56,7 @@ fn compile_section(
     requires limit { letters ≤ 257 }
     ensures { IfOk result (IsSectionTransducer section.now (move_of moves.now number) letters offset) }
 {
-    let alphabet = Alphabet {
+    let alphabet = SectionLetters {
         letters,
         offset,
         count: section.letter_count(),
@@ -89,32 +80,33 @@ fn find_move(moves: &[(u32, Move)], number: u32) -> Option<&Move>
 }
 
 /// The transducer of the lists before and after the move.
-fn compile_move(alloc: Global, step: &Move, alphabet: Alphabet) -> Result<Transducer, AllocError>
+fn compile_move(
+    alloc: Global,
+    step: &Move,
+    alphabet: SectionLetters,
+) -> Result<Transducer, AllocError>
     requires valid { IsValidMove alphabet.count step.now }
     requires fits { alphabet.offset + alphabet.count ≤ alphabet.letters }
     ensures letters { IfOk result (λ t. t.letters ≡ alphabet.letters) }
     ensures relates { IfOk result (λ t. (u w : List ℕ) → Relates t u w
         ↔ IsRaisedMove (IsMove step.now) alphabet.offset alphabet.count u w) }
 {
-    let Alphabet {
-        letters,
-        offset,
-        count,
-    } = alphabet;
     match step {
-        Move::Set { from, to } => compile_cell(alloc, *from, *to, letters, offset, count),
-        Move::Send { .. } | Move::Recv { .. } => {
-            compile_channel(alloc, step, letters, offset, count)
-        }
-        Move::Stack { .. } => compile_stack(alloc, step, letters, offset, count),
+        Move::Set { from, to } => compile_cell(alloc, *from, *to, alphabet),
+        Move::Send { .. } | Move::Recv { .. } => compile_channel(alloc, step, alphabet),
+        Move::Stack { .. } => compile_stack(alloc, step, alphabet),
         Move::At { .. } | Move::Pair { .. } | Move::Ring { .. } | Move::Two { .. } => {
-            compile_array(alloc, step, letters, offset, count)
+            compile_array(alloc, step, alphabet)
         }
     }
 }
 
 /// The transducer of the lists of a section of this kind that stays.
-fn compile_copy(alloc: Global, kind: Kind, alphabet: Alphabet) -> Result<Transducer, AllocError>
+fn compile_copy(
+    alloc: Global,
+    kind: Kind,
+    alphabet: SectionLetters,
+) -> Result<Transducer, AllocError>
     requires fits { alphabet.offset + alphabet.count ≤ alphabet.letters }
     ensures letters { IfOk result (λ t. t.letters ≡ alphabet.letters) }
     ensures relates { IfOk result (λ t. (u w : List ℕ) → Relates t u w

@@ -12,11 +12,12 @@ use Rattle.sequence.proofs.Tests.{joined}
 
 pub returns-clause-relates : goal.returns-clause-relates
 returns-clause-relates c =
+    let alphabet = c.args.alphabet in
     let a = c.args.from in
     let b = c.args.to in
     IfOk-weaker c.copy_between.result
-    (λ t. (u w : List ℕ) → Relates t u w ↔ IsCopiedBetween (exchange (a + c.args.offset) (b + c.args.offset) ∷ []) None c.args.offset 0 u w)
-    (λ t. (u w : List ℕ) → Relates t u w ↔ IsRaisedMove (IsMove (Set a b)) c.args.offset c.args.count u w)
-    (λ t h u w. joined (h u w) (cell_relates c.args.offset c.args.count u w a b c.requires.valid))
-    (subst (λ label. IfOk c.copy_between.result (λ t. (u w : List ℕ) → Relates t u w ↔ IsCopiedBetween (label ∷ []) None c.args.offset 0 u w))
+    (λ t. (u w : List ℕ) → Relates t u w ↔ IsCopiedBetween (exchange (a + alphabet.offset) (b + alphabet.offset) ∷ []) None alphabet.offset 0 u w)
+    (λ t. (u w : List ℕ) → Relates t u w ↔ IsRaisedMove (IsMove (Set a b)) alphabet.offset alphabet.count u w)
+    (λ t h u w. joined (h u w) (cell_relates alphabet.offset alphabet.count u w a b c.requires.valid))
+    (subst (λ label. IfOk c.copy_between.result (λ t. (u w : List ℕ) → Relates t u w ↔ IsCopiedBetween (label ∷ []) None alphabet.offset 0 u w))
     c.exchange-change.ensures c.copy_between.ensures.relates)

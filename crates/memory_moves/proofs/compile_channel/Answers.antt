@@ -12,26 +12,28 @@ use Rattle.sequence.proofs.Tests.{joined}
 
 pub returns-in-Send-clause-relates : goal.returns-in-Send-clause-relates
 returns-in-Send-clause-relates c =
+    let alphabet = c.args.alphabet in
     let a = c.in-Send.letter in
-    let valid : a < c.args.count = subst (IsValidMove c.args.count) c.in-Send.is c.requires.valid in
-    subst (λ m. IfOk c.copy_between.result (λ t. (u w : List ℕ) → Relates t u w ↔ IsRaisedMove (IsMove m) c.args.offset c.args.count u w))
+    let valid : a < alphabet.count = subst (IsValidMove alphabet.count) c.in-Send.is c.requires.valid in
+    subst (λ m. IfOk c.copy_between.result (λ t. (u w : List ℕ) → Relates t u w ↔ IsRaisedMove (IsMove m) alphabet.offset alphabet.count u w))
     (sym c.in-Send.is)
     (IfOk-weaker c.copy_between.result
-    (λ t. (u w : List ℕ) → Relates t u w ↔ IsCopiedBetween [] (Some (writing (a + c.args.offset))) c.args.offset c.args.count u w)
-    (λ t. (u w : List ℕ) → Relates t u w ↔ IsRaisedMove (IsMove (Send a)) c.args.offset c.args.count u w)
-    (λ t h u w. joined (h u w) (send_relates c.args.offset c.args.count u w a valid))
+    (λ t. (u w : List ℕ) → Relates t u w ↔ IsCopiedBetween [] (Some (writing (a + alphabet.offset))) alphabet.offset alphabet.count u w)
+    (λ t. (u w : List ℕ) → Relates t u w ↔ IsRaisedMove (IsMove (Send a)) alphabet.offset alphabet.count u w)
+    (λ t h u w. joined (h u w) (send_relates alphabet.offset alphabet.count u w a valid))
     (subst (λ label. IfOk c.copy_between.result (λ t. (u w : List ℕ) → Relates t u w
-    ↔ IsCopiedBetween [] (Some label) c.args.offset c.args.count u w)) c.writing-sent.ensures c.copy_between.ensures.relates))
+    ↔ IsCopiedBetween [] (Some label) alphabet.offset alphabet.count u w)) c.writing-sent.ensures c.copy_between.ensures.relates))
 
 pub returns-in-Recv-clause-relates : goal.returns-in-Recv-clause-relates
 returns-in-Recv-clause-relates c =
+    let alphabet = c.args.alphabet in
     let a = c.in-Recv.letter in
     let result = c.copy_between-in-Recv.result in
-    let valid : a < c.args.count = subst (IsValidMove c.args.count) c.in-Recv.is c.requires.valid in
-    subst (λ m. IfOk result (λ t. (u w : List ℕ) → Relates t u w ↔ IsRaisedMove (IsMove m) c.args.offset c.args.count u w)) (sym c.in-Recv.is)
+    let valid : a < alphabet.count = subst (IsValidMove alphabet.count) c.in-Recv.is c.requires.valid in
+    subst (λ m. IfOk result (λ t. (u w : List ℕ) → Relates t u w ↔ IsRaisedMove (IsMove m) alphabet.offset alphabet.count u w)) (sym c.in-Recv.is)
     (IfOk-weaker result
-    (λ t. (u w : List ℕ) → Relates t u w ↔ IsCopiedBetween (reading (a + c.args.offset) ∷ []) None c.args.offset c.args.count u w)
-    (λ t. (u w : List ℕ) → Relates t u w ↔ IsRaisedMove (IsMove (Recv a)) c.args.offset c.args.count u w)
-    (λ t h u w. joined (h u w) (receive_relates c.args.offset c.args.count u w a valid))
+    (λ t. (u w : List ℕ) → Relates t u w ↔ IsCopiedBetween (reading (a + alphabet.offset) ∷ []) None alphabet.offset alphabet.count u w)
+    (λ t. (u w : List ℕ) → Relates t u w ↔ IsRaisedMove (IsMove (Recv a)) alphabet.offset alphabet.count u w)
+    (λ t h u w. joined (h u w) (receive_relates alphabet.offset alphabet.count u w a valid))
     (subst (λ label. IfOk result (λ t. (u w : List ℕ) → Relates t u w
-    ↔ IsCopiedBetween (label ∷ []) None c.args.offset c.args.count u w)) c.reading-received.ensures c.copy_between-in-Recv.ensures.relates))
+    ↔ IsCopiedBetween (label ∷ []) None alphabet.offset alphabet.count u w)) c.reading-received.ensures c.copy_between-in-Recv.ensures.relates))

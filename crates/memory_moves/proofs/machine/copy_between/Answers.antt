@@ -5,15 +5,17 @@ use Rattle.memory_moves.proofs.MachineLemmas.{is_machine, IsValid-machine, Relat
 use Rattle.memory_moves.proofs.machine.copy_between.Goals as goal
 
 pub from_states-requires : goal.from_states-requires
-from_states-requires c = subst IsValid (sym (is_machine c.args.letters c.args.offset c.args.count c.args.prefix.now c.args.suffix _ _ _
+from_states-requires c = let alphabet = c.args.alphabet in
+    subst IsValid (sym (is_machine alphabet.letters alphabet.offset alphabet.count c.args.prefix.now c.args.suffix _ _ _
     c.in_ok-starts.ensures.items c.in_ok-states.ensures c.in_ok-push_end.ensures))
-    (IsValid-machine c.args.letters c.args.offset c.args.count c.args.prefix.now c.args.suffix c.requires.prefix c.requires.suffix
+    (IsValid-machine alphabet.letters alphabet.offset alphabet.count c.args.prefix.now c.args.suffix c.requires.prefix c.requires.suffix
     c.requires.fits)
 
 pub returns-clause-relates : goal.returns-clause-relates
 returns-clause-relates c u w =
-    subst (λ t. (Relates t u w → IsCopiedBetween c.args.prefix.now c.args.suffix c.args.offset c.args.count u w)
-    × (IsCopiedBetween c.args.prefix.now c.args.suffix c.args.offset c.args.count u w → Relates t u w))
-    (sym (c.from_states.ensures ∙ is_machine c.args.letters c.args.offset c.args.count c.args.prefix.now c.args.suffix _ _ _
+    let alphabet = c.args.alphabet in
+    subst (λ t. (Relates t u w → IsCopiedBetween c.args.prefix.now c.args.suffix alphabet.offset alphabet.count u w)
+    × (IsCopiedBetween c.args.prefix.now c.args.suffix alphabet.offset alphabet.count u w → Relates t u w))
+    (sym (c.from_states.ensures ∙ is_machine alphabet.letters alphabet.offset alphabet.count c.args.prefix.now c.args.suffix _ _ _
     c.in_ok-starts.ensures.items c.in_ok-states.ensures c.in_ok-push_end.ensures))
-    (Relates-machine c.args.letters c.args.offset c.args.count c.args.prefix.now c.args.suffix u w)
+    (Relates-machine alphabet.letters alphabet.offset alphabet.count c.args.prefix.now c.args.suffix u w)

@@ -6,15 +6,15 @@ use Rattle.protocol_moves.proofs.enabled.has_neighbours.Goals as goal
 
 pub returns-then-left-right : goal.returns-then-left-right
 returns-then-left-right c =
-    let l = c.loop-i in
+    let l = c.neighbours in
     let list = c.args.list.now in
     let test : ℕ → Bool = λ k. can_change_two c.args.a c.args.b list k (k + 1) in
-    sym (some_at test (length list - 1) (l.i - 1) (omega (arith, c.loop-i-test.true, l.auto.i))
+    sym (some_at test (length list - 1) (l.i - 1) (omega (arith, c.neighbours-test.true, l.auto.i))
     (sym (neighbours_are c.args.a c.args.b list l.i l.auto.i) ∙ c.if-left-right.true))
 
-pub loop-i-preserved : goal.loop-i-preserved
-loop-i-preserved c =
-    let l = c.loop-i in
+pub neighbours-preserved : goal.neighbours-preserved
+neighbours-preserved c =
+    let l = c.neighbours in
     let list = c.args.list.now in
     λ j h. elim (cases_lt (j + 1) l.i) [
       | inl less ↦ l.invariant j less
@@ -28,4 +28,4 @@ pub returns : goal.returns
 returns c =
     let list = c.args.list.now in
     sym (none_at (λ k. can_change_two c.args.a c.args.b list k (k + 1)) (length list - 1)
-    (λ j h. c.loop-i.invariant j (omega (arith, h, c.loop-i-test.false))))
+    (λ j h. c.neighbours.invariant j (omega (arith, h, c.neighbours-test.false))))

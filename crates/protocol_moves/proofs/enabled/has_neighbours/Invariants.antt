@@ -3,5 +3,5 @@ use Rattle.protocol_moves.specs.Gathering.{can_change_two}
 use Rattle.protocol_moves.proofs.enabled.has_neighbours.Given as goal
 
 -- no pair that ends before i can change
-abbrev pub invariant-loop-i : goal.invariant-loop-i
-invariant-loop-i l = (j : ℕ) → j + 1 < l.i → can_change_two l.a l.b l.list j (j + 1) ≡ false
+abbrev pub invariant-neighbours : goal.invariant-neighbours
+invariant-neighbours l = (j : ℕ) → j + 1 < l.i → can_change_two l.a l.b l.list j (j + 1) ≡ false

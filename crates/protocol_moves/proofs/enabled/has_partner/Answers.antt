@@ -11,14 +11,14 @@ returns-then-first-a c =
 
 pub returns-then-apart-partner : goal.returns-then-apart-partner
 returns-then-apart-partner c =
-    let l = c.loop-j in
+    let l = c.partners in
     let list = c.args.list.now in
     let e = partner_is c.args.a c.args.b list c.args.i l.j (not (c.args.i == l.j)) c.if-first-a.false refl in
-    sym (some_at (can_change_two c.args.a c.args.b list c.args.i) (length list) l.j c.loop-j-test.true (sym e ∙ c.if-apart-partner.true))
+    sym (some_at (can_change_two c.args.a c.args.b list c.args.i) (length list) l.j c.partners-test.true (sym e ∙ c.if-apart-partner.true))
 
-pub loop-j-preserved : goal.loop-j-preserved
-loop-j-preserved c =
-    let l = c.loop-j in
+pub partners-preserved : goal.partners-preserved
+partners-preserved c =
+    let l = c.partners in
     let e = partner_is c.args.a c.args.b c.args.list.now c.args.i l.j (not (c.args.i == l.j)) c.if-first-a.false refl in
     below_more _ _ l.invariant (sym e ∙ c.if-apart-partner.false)
 
@@ -26,4 +26,4 @@ pub returns : goal.returns
 returns c =
     let list = c.args.list.now in
     sym (none_at (can_change_two c.args.a c.args.b list c.args.i) (length list)
-    (λ k h. c.loop-j.invariant k (omega (arith, h, c.loop-j-test.false))))
+    (λ k h. c.partners.invariant k (omega (arith, h, c.partners-test.false))))

@@ -3,5 +3,5 @@ use Rattle.protocol_moves.specs.Gathering.{can_change_two}
 use Rattle.protocol_moves.proofs.enabled.has_partner.Given as goal
 
 -- no position before j is the partner
-abbrev pub invariant-loop-j : goal.invariant-loop-j
-invariant-loop-j l = (k : ℕ) → k < l.j → can_change_two l.a l.b l.list l.i k ≡ false
+abbrev pub invariant-partners : goal.invariant-partners
+invariant-partners l = (k : ℕ) → k < l.j → can_change_two l.a l.b l.list l.i k ≡ false

@@ -3,5 +3,5 @@ use Rattle.protocol_moves.specs.Gathering.{can_change_at}
 use Rattle.protocol_moves.proofs.enabled.has_start.Given as goal
 
 -- no position before i can change
-abbrev pub invariant-loop-i : goal.invariant-loop-i
-invariant-loop-i l = (j : ℕ) → j < l.i → can_change_at l.from l.guards l.list j ≡ false
+abbrev pub invariant-positions : goal.invariant-positions
+invariant-positions l = (j : ℕ) → j < l.i → can_change_at l.from l.guards l.list j ≡ false

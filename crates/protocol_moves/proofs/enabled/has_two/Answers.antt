@@ -13,16 +13,16 @@ returns-then-not-is_in c =
 
 pub returns-then-has_partner : goal.returns-then-has_partner
 returns-then-has_partner c =
-    let l = c.loop-i in
+    let l = c.positions in
     let list = c.args.list.now in
-    sym (some_at (λ i. some_below (can_change_two c.args.a c.args.b list i) (length list)) (length list) l.i c.loop-i-test.true
+    sym (some_at (λ i. some_below (can_change_two c.args.a c.args.b list i) (length list)) (length list) l.i c.positions-test.true
     (sym c.has_partner.ensures ∙ c.if-has_partner.true))
 
-pub loop-i-preserved : goal.loop-i-preserved
-loop-i-preserved c = below_more _ _ c.loop-i.invariant (sym c.has_partner.ensures ∙ c.if-has_partner.false)
+pub positions-preserved : goal.positions-preserved
+positions-preserved c = below_more _ _ c.positions.invariant (sym c.has_partner.ensures ∙ c.if-has_partner.false)
 
 pub returns : goal.returns
 returns c =
     let list = c.args.list.now in
     sym (none_at (λ i. some_below (can_change_two c.args.a c.args.b list i) (length list)) (length list)
-    (λ k h. c.loop-i.invariant k (omega (arith, h, c.loop-i-test.false))))
+    (λ k h. c.positions.invariant k (omega (arith, h, c.positions-test.false))))

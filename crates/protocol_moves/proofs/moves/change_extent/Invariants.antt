@@ -2,5 +2,5 @@ use Rattle.protocol_moves.specs.Extents.{changes}
 use Rattle.protocol_moves.proofs.ExtentLemmas.{IsExtentTo}
 use Rattle.protocol_moves.proofs.moves.change_extent.Given as goal
 
-abbrev pub invariant-loop-i : goal.invariant-loop-i
-invariant-loop-i l = IsExtentTo (changes l.table l.old l.new) l.i l.extent.first l.extent.last
+abbrev pub invariant-positions : goal.invariant-positions
+invariant-positions l = IsExtentTo (changes l.table l.old l.new) l.i l.extent.first l.extent.last

@@ -3,5 +3,5 @@ use Rattle.protocol_moves.specs.Extents.{is_hit}
 use Rattle.protocol_moves.proofs.ExtentLemmas.{IsExtentTo}
 use Rattle.protocol_moves.proofs.moves.guard_extent.Given as goal
 
-abbrev pub invariant-loop-i : goal.invariant-loop-i
-invariant-loop-i l = IsExtentTo (map (is_hit l.guard) l.list) l.i l.extent.first l.extent.last
+abbrev pub invariant-positions : goal.invariant-positions
+invariant-positions l = IsExtentTo (map (is_hit l.guard) l.list) l.i l.extent.first l.extent.last

@@ -4,16 +4,16 @@ use Rattle.protocol_moves.specs.Extents.{HaveExtents}
 use Rattle.protocol_moves.proofs.TestedMove.{extents_push}
 use Rattle.protocol_moves.proofs.moves.guard_extents.Goals as goal
 
-pub loop-k-preserved : goal.loop-k-preserved
-loop-k-preserved c =
-    let l = c.loop-k in (
+pub guards-preserved : goal.guards-preserved
+guards-preserved c =
+    let l = c.guards in (
       extents_push c.args.guards.now l.extents c.args.list.now l.k c.index-guards-k.result c.guard_extent.result
-          c.loop-k-test.true (omega (arith, c.loop-k-test.true, c.requires, l.invariant.1)) c.index-guards-k.is l.invariant.0 c.guard_extent.ensures,
+          c.guards-test.true (omega (arith, c.guards-test.true, c.requires, l.invariant.1)) c.index-guards-k.is l.invariant.0 c.guard_extent.ensures,
       length-set l.extents l.k c.guard_extent.result ∙ l.invariant.1,
     )
 
 pub returns : goal.returns
 returns c =
-    let l = c.loop-k in
+    let l = c.guards in
     subst (λ guards. HaveExtents guards l.extents c.args.list.now)
-    (take_all l.k c.args.guards.now (omega (arith, c.loop-k-test.false))) l.invariant.0
+    (take_all l.k c.args.guards.now (omega (arith, c.guards-test.false))) l.invariant.0

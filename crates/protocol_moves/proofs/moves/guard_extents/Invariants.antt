@@ -3,5 +3,5 @@ use Rattle.protocol_moves.specs.Extents.{HaveExtents}
 use Rattle.protocol_moves.proofs.moves.guard_extents.Given as goal
 
 -- the guards before k have their extents
-abbrev pub invariant-loop-k : goal.invariant-loop-k
-invariant-loop-k l = HaveExtents (take l.k l.guards) l.extents l.list × (length l.extents ≡ 4)
+abbrev pub invariant-guards : goal.invariant-guards
+invariant-guards l = HaveExtents (take l.k l.guards) l.extents l.list × (length l.extents ≡ 4)

@@ -11,29 +11,29 @@ returns-then-old-new c =
 pub returns-then-moves-stays : goal.returns-then-moves-stays
 returns-then-moves-stays c =
     let change = c.args.change in
-    let l = c.loop-i in
+    let l = c.positions in
     let e = at_by change.0 change.1 c.args.guards.now c.args.table.now c.args.old.now c.args.new.now l.i
     c.change_extent-changed.result.first c.change_extent-changed.result.last c.guard_extents-extents.result
-    c.if-old-new.false c.loop-i-test.true c.change_extent-changed.ensures c.guard_extents-extents.ensures in
+    c.if-old-new.false c.positions-test.true c.change_extent-changed.ensures c.guard_extents-extents.ensures in
     let tested = c.if-moves-stays.true in (
-      λ h. at_found change.0 change.1 c.args.guards.now c.args.table.now c.args.old.now c.args.new.now l.i c.if-old-new.false c.loop-i-test.true
+      λ h. at_found change.0 change.1 c.args.guards.now c.args.table.now c.args.old.now c.args.new.now l.i c.if-old-new.false c.positions-test.true
           (sym e ∙ three_hold _ _ _ _ _ c.is_within-stays.ensures c.guards_hold-holds.ensures tested),
       λ m. refl,
     )
 
-pub loop-i-preserved : goal.loop-i-preserved
-loop-i-preserved c =
+pub positions-preserved : goal.positions-preserved
+positions-preserved c =
     let change = c.args.change in
-    let l = c.loop-i in
+    let l = c.positions in
     let e = at_by change.0 change.1 c.args.guards.now c.args.table.now c.args.old.now c.args.new.now l.i
     c.change_extent-changed.result.first c.change_extent-changed.result.last c.guard_extents-extents.result
-    c.if-old-new.false c.loop-i-test.true c.change_extent-changed.ensures c.guard_extents-extents.ensures in
+    c.if-old-new.false c.positions-test.true c.change_extent-changed.ensures c.guard_extents-extents.ensures in
     let tested = c.if-moves-stays.false in
     below_more _ _ l.invariant (sym e ∙ three_hold _ _ _ _ _ c.is_within-stays.ensures c.guards_hold-holds.ensures tested)
 
 pub returns : goal.returns
 returns c =
     let change = c.args.change in
-    let l = c.loop-i in
+    let l = c.positions in
     never (at_none change.0 change.1 c.args.guards.now c.args.table.now c.args.old.now c.args.new.now
-    (λ j h. l.invariant j (omega (arith, h, c.loop-i-test.false))))
+    (λ j h. l.invariant j (omega (arith, h, c.positions-test.false))))

@@ -12,22 +12,22 @@ returns-then-old-new c =
 
 pub returns-then-left-right : goal.returns-then-left-right
 returns-then-left-right c =
-    let l = c.loop-i in
+    let l = c.neighbours in
     let tested = c.if-left-right.true in
     let e = pair_turn c.args.was.0 c.args.was.1 c.args.becomes.0 c.args.becomes.1 c.args.old.now c.args.new.now l.i
-    c.change_extent-changed.result.first c.change_extent-changed.result.last c.if-old-new.false l.auto.i c.loop-i-test.true
+    c.change_extent-changed.result.first c.change_extent-changed.result.last c.if-old-new.false l.auto.i c.neighbours-test.true
     c.change_extent-changed.ensures in (
       λ h. pair_found c.args.was.0 c.args.was.1 c.args.becomes.0 c.args.becomes.1 c.args.old.now c.args.new.now (l.i - 1)
-          c.if-old-new.false (omega (arith, c.loop-i-test.true, l.auto.i)) (sym e ∙ two_hold _ _ _ c.is_within-stays.ensures tested),
+          c.if-old-new.false (omega (arith, c.neighbours-test.true, l.auto.i)) (sym e ∙ two_hold _ _ _ c.is_within-stays.ensures tested),
       λ m. refl,
     )
 
-pub loop-i-preserved : goal.loop-i-preserved
-loop-i-preserved c =
-    let l = c.loop-i in
+pub neighbours-preserved : goal.neighbours-preserved
+neighbours-preserved c =
+    let l = c.neighbours in
     let tested = c.if-left-right.false in
     let e = pair_turn c.args.was.0 c.args.was.1 c.args.becomes.0 c.args.becomes.1 c.args.old.now c.args.new.now l.i
-    c.change_extent-changed.result.first c.change_extent-changed.result.last c.if-old-new.false l.auto.i c.loop-i-test.true
+    c.change_extent-changed.result.first c.change_extent-changed.result.last c.if-old-new.false l.auto.i c.neighbours-test.true
     c.change_extent-changed.ensures in
     λ j h. elim (cases_lt (j + 1) l.i) [
       | inl less ↦ l.invariant j less
@@ -39,6 +39,6 @@ loop-i-preserved c =
 
 pub returns : goal.returns
 returns c =
-    let l = c.loop-i in
+    let l = c.neighbours in
     never (pair_none c.args.was.0 c.args.was.1 c.args.becomes.0 c.args.becomes.1 c.args.old.now c.args.new.now
-    (λ j h. l.invariant j (omega (arith, h, c.loop-i-test.false))))
+    (λ j h. l.invariant j (omega (arith, h, c.neighbours-test.false))))

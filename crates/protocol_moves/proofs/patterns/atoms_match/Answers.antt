@@ -4,19 +4,19 @@ use Rattle.protocol_moves.proofs.Simulation.{can_match, first_begun, after_lette
 use Rattle.protocol_moves.proofs.patterns.atoms_match.Goals as goal
 use Rattle.protocol_moves.proofs.Lists.{drop_more}
 
-pub loop-letter-init : goal.loop-letter-init
-loop-letter-init c = (sym (first_begun c.args.atoms.now 32 32 c.args.list.now c.requires), refl, refl)
+pub letters-init : goal.letters-init
+letters-init c = (sym (first_begun c.args.atoms.now 32 32 c.args.list.now c.requires), refl, refl)
 
-pub loop-letter-preserved : goal.loop-letter-preserved
-loop-letter-preserved c =
-    let l = c.loop-letter in
+pub letters-preserved : goal.letters-preserved
+letters-preserved c =
+    let l = c.letters in
     let atoms = c.args.atoms.now in
     let list = c.args.list.now in
     let letter = get_or list l.letter-index 0 in
     let rest = drop (l.letter-index + 1) list in (
       rw (c.read_letter.ensures.begun, c.read_letter.ensures.going)
           (l.invariant.0
-          ∙ ap (λ w. can_match atoms l.begun l.going w) (drop_more list l.letter-index 0 c.loop-letter-test.true)
+          ∙ ap (λ w. can_match atoms l.begun l.going w) (drop_more list l.letter-index 0 c.letters-test.true)
           ∙ sym (after_letter letter false false atoms l.begun l.going rest
           (omega (arith, c.requires, l.invariant.1)) (omega (arith, c.requires, l.invariant.2)))),
       omega (arith, c.read_letter.auto.begun, l.invariant.1),
@@ -25,7 +25,7 @@ loop-letter-preserved c =
 
 pub returns : goal.returns
 returns c =
-    let l = c.loop-letter in
+    let l = c.letters in
     c.reaches_end.ensures
     ∙ at_end false c.args.atoms.now l.begun l.going (omega (arith, c.requires, l.invariant.1)) (omega (arith, c.requires, l.invariant.2))
     ∙ ap (λ w. can_match c.args.atoms.now l.begun l.going w) (sym (drop_all l.letter-index c.args.list.now (omega arith)))
