@@ -17,7 +17,7 @@ use Rattle.certificate.specs.LineLayout.{opening_text}
 use Rattle.certificate.specs.RunText.{MeansRun}
 use Rattle.certificate.specs.RunFaults.{FaultInRun}
 use Rattle.certificate.specs.Meaning.{IsCertificateOf}
-use Rattle.certificate.specs.Faults.{IsOtherVersion, IsFirstFault, IsSecondFault, FaultInFirst, FaultInSecond, FaultInBody, HasFault}
+use Rattle.certificate.specs.Faults.{IsOtherVersion, IsFirstLineFault, IsSecondLineFault, FaultInFirst, FaultInSecond, FaultInBody, HasFault}
 use Rattle.sequence.proofs.Cuts.{cut_unique, no_cut}
 use Rattle.certificate.proofs.NumberLemmas.{IsNumber-Lacks, decimal-IsNumber, small_decimal-IsNumber}
 use Rattle.certificate.proofs.LineLemmas.{heads_differ}
@@ -47,7 +47,7 @@ unsafe_is_not_unknown e =
     heads_differ 115 107 _ _ (omega arith) tails
 
 -- a first line has one fault
-first_unique : (line : List ℕ) (fault other : CertFault) → IsFirstFault line fault → IsFirstFault line other → fault ≡ other
+first_unique : (line : List ℕ) (fault other : CertFault) → IsFirstLineFault line fault → IsFirstLineFault line other → fault ≡ other
 first_unique line (Version n) (Version m) h k = ap Version (h.0 ∙ sym k.0)
 first_unique line (Version n) (NothingToVerify m) h k = absurd (known_version line (codes "unknown") k.1 h.1)
 first_unique line (Version n) (BadLine m) h k = absurd (k.4 h.1)
@@ -62,7 +62,7 @@ first_unique line (BadLine n) (BadLine m) h k = ap BadLine (h.0 ∙ sym k.0)
 first_unique line (BadLine n) _ h k = absurd k
 first_unique line _ other h k = absurd h
 
-safe_has_no_fault : (line : List ℕ) (fault : CertFault) → line ≡ codes "armc 1 safe" → IsFirstFault line fault → ⊥
+safe_has_no_fault : (line : List ℕ) (fault : CertFault) → line ≡ codes "armc 1 safe" → IsFirstLineFault line fault → ⊥
 safe_has_no_fault line (Version n) e h = known_version line (codes "safe") e h.1
 safe_has_no_fault line (NothingToVerify n) e h = safe_is_not_unknown (sym e ∙ h.1)
 safe_has_no_fault line (BadLine n) e h = h.1 e
@@ -74,7 +74,7 @@ in_first_unique text fault other (inl short) (inr h) = absurd (no_cut 10 h.0 h.1
 in_first_unique text fault other (inr h) (inl short) = absurd (no_cut 10 h.0 h.1 (subst (Lacks 10) h.2.joined short.0))
 in_first_unique text fault other (inr h) (inr k) =
     let parts = cut_unique 10 h.0 k.0 h.1 k.1 h.2.first k.2.first (sym h.2.joined ∙ k.2.joined) in
-    first_unique h.0 fault other h.3 (subst (λ line. IsFirstFault line other) (sym parts.0) k.3)
+    first_unique h.0 fault other h.3 (subst (λ line. IsFirstLineFault line other) (sym parts.0) k.3)
 
 -- a text whose first line is that of an automaton has no fault there
 no_fault_in_first : (text rest : List ℕ) (fault : CertFault) → text ≡ codes "armc 1 safe" ++ 10 ∷ rest → FaultInFirst text fault → ⊥
@@ -84,7 +84,7 @@ no_fault_in_first text rest fault e (inr h) =
     (cut_unique 10 h.0 (codes "armc 1 safe") h.1 rest h.2.first safe_line_lacks (sym h.2.joined ∙ e)).0 h.3
 
 -- a second line has one fault
-second_unique : (line : List ℕ) (fault other : CertFault) → IsSecondFault line fault → IsSecondFault line other → fault ≡ other
+second_unique : (line : List ℕ) (fault other : CertFault) → IsSecondLineFault line fault → IsSecondLineFault line other → fault ≡ other
 second_unique line (BadLine n) (BadLine m) h k = ap BadLine (h.0 ∙ sym k.0)
 second_unique line (BadLine n) (TooMany m) h k = absurd (h.1 k.1 k.2 k.3)
 second_unique line (BadLine n) _ h k = absurd k
@@ -94,7 +94,7 @@ second_unique line (TooMany n) _ h k = absurd k
 second_unique line _ other h k = absurd h
 
 states_have_no_fault : (line : List ℕ) (count : ℕ) (fault : CertFault) → count ≤ 1000000 → line ≡ codes "states " ++ decimal count
-    → IsSecondFault line fault → ⊥
+    → IsSecondLineFault line fault → ⊥
 states_have_no_fault line count (BadLine n) limit e h = h.1 (decimal count) (small_decimal-IsNumber count (omega arith)) e
 states_have_no_fault line count (TooMany n) limit e h =
     let same : h.1 ≡ decimal count = append_cancel_left (codes "states ") _ _ (sym h.3 ∙ e) in
@@ -108,7 +108,7 @@ in_second_unique text fault other (inl short) (inr h) = absurd (no_cut 10 h.0 h.
 in_second_unique text fault other (inr h) (inl short) = absurd (no_cut 10 h.0 h.1 (subst (Lacks 10) h.2.joined short.0))
 in_second_unique text fault other (inr h) (inr k) =
     let parts = cut_unique 10 h.0 k.0 h.1 k.1 h.2.first k.2.first (sym h.2.joined ∙ k.2.joined) in
-    second_unique h.0 fault other h.3 (subst (λ line. IsSecondFault line other) (sym parts.0) k.3)
+    second_unique h.0 fault other h.3 (subst (λ line. IsSecondLineFault line other) (sym parts.0) k.3)
 
 no_fault_in_second : (rest body : List ℕ) (count : ℕ) (fault : CertFault) → count ≤ 1000000
     → rest ≡ codes "states " ++ decimal count ++ 10 ∷ body → FaultInSecond rest fault → ⊥
@@ -136,7 +136,7 @@ opening_unique text body other count number limit limit' e f =
     )
 
 -- a text whose first line is that of a run has no fault there, and is no text of an automaton
-unsafe_has_no_fault : (line : List ℕ) (fault : CertFault) → line ≡ codes "armc 1 unsafe" → IsFirstFault line fault → ⊥
+unsafe_has_no_fault : (line : List ℕ) (fault : CertFault) → line ≡ codes "armc 1 unsafe" → IsFirstLineFault line fault → ⊥
 unsafe_has_no_fault line (Version n) e h = known_version line (codes "unsafe") e h.1
 unsafe_has_no_fault line (NothingToVerify n) e h = unsafe_is_not_unknown (sym e ∙ h.1)
 unsafe_has_no_fault line (BadLine n) e h = h.2 e

@@ -16,7 +16,7 @@ use Rattle.certificate.specs.Reading.{beyond}
 use Rattle.certificate.specs.SafeText.{letter_text, line_text, IsInRange, AreNoTwoEdges}
 use Rattle.certificate.specs.Reading.{GoesOn, body_text}
 use Rattle.certificate.specs.LineLayout.{IsEdgeLine, lines_text}
-use Rattle.certificate.specs.Faults.{Says, IsSecondIn, HasNoLayout, NamesNoLetter, IsLaterFault, FaultInLater, FaultInBody}
+use Rattle.certificate.specs.Faults.{Says, IsSecondIn, HasNoLayout, NamesNoLetter, IsLaterLineFault, FaultInLater, FaultInBody}
 use Rattle.sequence.proofs.Cuts.{cut_unique, no_cut}
 use Rattle.certificate.proofs.NumberLemmas.{IsNumber-Lacks, decimal-IsNumber, small_decimal-IsNumber}
 use Rattle.certificate.proofs.AlphabetLemmas.{letter_text-no_space, letter_text-laid_out, system_letter_text-injective}
@@ -94,7 +94,7 @@ module _ (s : SystemData) (valid : IsValid s) where
 
   -- a line has one fault, and the line `end` has none
   later_unique : (count number : ℕ) (lines : List Line) (line : List ℕ) (fault other : CertFault)
-      → IsLaterFault s count lines number line fault → IsLaterFault s count lines number line other → fault ≡ other
+      → IsLaterLineFault s count lines number line fault → IsLaterLineFault s count lines number line other → fault ≡ other
   later_unique count number lines line (BadLine n) (BadLine m) h k = ap BadLine (h.0 ∙ sym k.0)
   later_unique count number lines line (BadLine n) (UnknownName m) h k = absurd (names_layout line k.1 h.2)
   later_unique count number lines line (BadLine n) (OutOfRange m) h k = absurd (says_layout line k.1 k.2 h.2)
@@ -120,7 +120,7 @@ module _ (s : SystemData) (valid : IsValid s) where
   later_unique count number lines line _ other h k = absurd h
 
   end_is_no_fault : (count number : ℕ) (lines : List Line) (line : List ℕ) (fault : CertFault) → line ≡ codes "end"
-      → IsLaterFault s count lines number line fault → ⊥
+      → IsLaterLineFault s count lines number line fault → ⊥
   end_is_no_fault count number lines line (BadLine n) e h = h.1 e
   end_is_no_fault count number lines line (UnknownName n) e h = end_names (subst (NamesNoLetter s) e h.1)
   end_is_no_fault count number lines line (OutOfRange n) e h = end_says h.1 (subst (λ l. Says s l h.1) e h.2)
@@ -143,7 +143,7 @@ module _ (s : SystemData) (valid : IsValid s) where
         (sym is ∙ e) in
         end_is_no_line s y parts.0
 
-    line_stops : (number : ℕ) (lines : List Line) (line : List ℕ) (fault : CertFault) → IsLaterFault s count lines number line fault
+    line_stops : (number : ℕ) (lines : List Line) (line : List ℕ) (fault : CertFault) → IsLaterLineFault s count lines number line fault
         → (y : Line) → IsInRange (automata_letters s) count y → (IsSecondIn lines y → ⊥) → Says s line y → ⊥
     line_stops number lines line (BadLine n) h y range new says = says_layout line y says h.2
     line_stops number lines line (UnknownName n) h y range new says = says_letter line y says h.1
@@ -214,7 +214,7 @@ module _ (s : SystemData) (valid : IsValid s) where
     in_later_unique number lines rest fault other (inr (inl later)) (inr (inl later')) =
         let parts = cut_unique 10 later.0 later'.0 later.1 later'.1 later.2.first later'.2.first (sym later.2.joined ∙ later'.2.joined) in
         later_unique count number lines later.0 fault other later.3
-        (subst (λ line. IsLaterFault s count lines number line other) (sym parts.0) later'.3)
+        (subst (λ line. IsLaterLineFault s count lines number line other) (sym parts.0) later'.3)
     in_later_unique number lines rest fault other (inr (inl later)) (inr (inr more)) =
         absurd (end_is_no_fault count number lines later.0 fault (ended rest later.0 later.1 more.0 later.2 more.1) later.3)
       where

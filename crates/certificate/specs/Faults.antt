@@ -58,45 +58,45 @@ IsOtherVersion line =
     (version : List ℕ) × (kind : List ℕ) × IsNumber version × (version ≢ codes "1") × IsKind kind × (line ≡ codes "armc " ++ (version ++ 32 ∷ kind))
 
 -- what is wrong with a first line
-abbrev pub IsFirstFault : List ℕ → CertFault → Type 0
-IsFirstFault line (Version n) = (n ≡ 1) × IsOtherVersion line
-IsFirstFault line (NothingToVerify n) = (n ≡ 1) × (line ≡ codes "armc 1 unknown")
-IsFirstFault line (BadLine n) =
+abbrev pub IsFirstLineFault : List ℕ → CertFault → Type 0
+IsFirstLineFault line (Version n) = (n ≡ 1) × IsOtherVersion line
+IsFirstLineFault line (NothingToVerify n) = (n ≡ 1) × (line ≡ codes "armc 1 unknown")
+IsFirstLineFault line (BadLine n) =
     (n ≡ 1) × (line ≢ codes "armc 1 safe") × (line ≢ codes "armc 1 unsafe") × (line ≢ codes "armc 1 unknown") × (IsOtherVersion line → ⊥)
-IsFirstFault line _ = ⊥
+IsFirstLineFault line _ = ⊥
 
 -- what is wrong with a second line
-abbrev pub IsSecondFault : List ℕ → CertFault → Type 0
-IsSecondFault line (BadLine n) = (n ≡ 2) × ((field : List ℕ) → IsNumber field → line ≡ codes "states " ++ field → ⊥)
-IsSecondFault line (TooMany n) =
+abbrev pub IsSecondLineFault : List ℕ → CertFault → Type 0
+IsSecondLineFault line (BadLine n) = (n ≡ 2) × ((field : List ℕ) → IsNumber field → line ≡ codes "states " ++ field → ⊥)
+IsSecondLineFault line (TooMany n) =
     (n ≡ 2) × (field : List ℕ) × IsNumber field × (line ≡ codes "states " ++ field) × (1000000 < digits_value 10 field)
-IsSecondFault line _ = ⊥
+IsSecondLineFault line _ = ⊥
 
 -- what is wrong with the line of this number, after these lines on states and edges
-abbrev pub IsLaterFault : SystemData → ℕ → List Line → ℕ → List ℕ → CertFault → Type 0
-IsLaterFault s count lines number line (BadLine n) = (n ≡ number) × (line ≢ codes "end") × HasNoLayout line
-IsLaterFault s count lines number line (UnknownName n) = (n ≡ number) × NamesNoLetter s line
-IsLaterFault s count lines number line (OutOfRange n) =
+abbrev pub IsLaterLineFault : SystemData → ℕ → List Line → ℕ → List ℕ → CertFault → Type 0
+IsLaterLineFault s count lines number line (BadLine n) = (n ≡ number) × (line ≢ codes "end") × HasNoLayout line
+IsLaterLineFault s count lines number line (UnknownName n) = (n ≡ number) × NamesNoLetter s line
+IsLaterLineFault s count lines number line (OutOfRange n) =
     (n ≡ number) × (x : Line) × Says s line x × (IsInRange (automata_letters s) count x → ⊥)
-IsLaterFault s count lines number line (TwoEdges n) =
+IsLaterLineFault s count lines number line (TwoEdges n) =
     (n ≡ number) × (x : Line) × Says s line x × IsInRange (automata_letters s) count x × IsSecondIn lines x
-IsLaterFault s count lines number line _ = ⊥
+IsLaterLineFault s count lines number line _ = ⊥
 
 -- the fault stands in the first line
 abbrev pub FaultInFirst : List ℕ → CertFault → Type 0
 FaultInFirst text fault =
-    IsCutShort 1 text fault ⊎ ((line : List ℕ) × (after : List ℕ) × IsCutAt 10 text line after × IsFirstFault line fault)
+    IsCutShort 1 text fault ⊎ ((line : List ℕ) × (after : List ℕ) × IsCutAt 10 text line after × IsFirstLineFault line fault)
 
 -- the fault stands in the second line, where the text is what follows the first one
 abbrev pub FaultInSecond : List ℕ → CertFault → Type 0
 FaultInSecond text fault =
-    IsCutShort 2 text fault ⊎ ((line : List ℕ) × (after : List ℕ) × IsCutAt 10 text line after × IsSecondFault line fault)
+    IsCutShort 2 text fault ⊎ ((line : List ℕ) × (after : List ℕ) × IsCutAt 10 text line after × IsSecondLineFault line fault)
 
 -- the fault stands at the beginning of the rest, or after its line `end`
 abbrev pub FaultInLater : SystemData → ℕ → List Line → ℕ → List ℕ → CertFault → Type 0
 FaultInLater s count lines number rest fault =
     IsCutShort number rest fault
-    ⊎ (((line : List ℕ) × (after : List ℕ) × IsCutAt 10 rest line after × IsLaterFault s count lines number line fault)
+    ⊎ (((line : List ℕ) × (after : List ℕ) × IsCutAt 10 rest line after × IsLaterLineFault s count lines number line fault)
     ⊎ ((after : List ℕ) × (rest ≡ codes "end" ++ 10 ∷ after) × (after ≢ []) × (fault ≡ BadLine (number + 1))))
 
 -- the fault stands after some lines on states and edges

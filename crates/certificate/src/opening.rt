@@ -3,7 +3,7 @@
 
 ghost use Rattle.std.specs.Prelude.{◌≡◌, ◌≢◌, ◌↔◌, ◌++◌, ◌∷◌, ◌≤◌, ℕ, List, IfOk, IfErr, IsOkAnd, IsTrue, OnErr, MatchOption, codes, decimal};
 ghost use Rattle.certificate.specs.NextLine.{IsNotUnsafe};
-ghost use Rattle.certificate.specs.Faults.{FaultInFirst, FaultInSecond, IsFirstFault, IsOtherVersion, IsKind};
+ghost use Rattle.certificate.specs.Faults.{FaultInFirst, FaultInSecond, IsFirstLineFault, IsOtherVersion, IsKind};
 
 use crate::bytes::{after_prefix, cut_at};
 use crate::fault::CertFault;
@@ -35,7 +35,7 @@ pub fn read_first_line(text: &[u8]) -> Result<&[u8], CertFault>
 fn first_line_fault(line: &[u8]) -> Option<CertFault>
     requires { line.now ≢ codes "armc 1 unsafe" }
     ensures { MatchOption result (line.now ≡ codes "armc 1 safe")
-        (λ fault. IsFirstFault line.now fault × (line.now ≢ codes "armc 1 safe")) }
+        (λ fault. IsFirstLineFault line.now fault × (line.now ≢ codes "armc 1 safe")) }
 {
     if line == b"armc 1 safe".as_slice() {
         return None;
