@@ -1,4 +1,6 @@
-// The top call: the reply to the words is made, and then its two texts are put, the one on standard output first.
+//! The top call: the reply to the words is made, and then its two texts are put, the one on standard output first. It costs what the
+//! command costs, and the length of both texts.
+
 ghost use Rattle.std.specs.Prelude.{◌≡◌, ◌⊎◌, IfOk, Err, None, map, string_bytes};
 ghost use Rattle.command_words.specs.Words.{command_of};
 ghost use Rattle.armc_commands.specs.Reply.{reply_of};

@@ -1,4 +1,6 @@
-// How two texts reach two sinks: each by one call, and nothing after a fault.
+//! How two texts reach two sinks: each by one call, an empty one by none, and nothing after a fault.
+//! It costs what the sinks take for the texts.
+
 ghost use Rattle.armc_commands.specs.Delivery.{Delivers, CountsFaults};
 ghost use Rattle.armc_commands.specs.Text.{PutsText};
 

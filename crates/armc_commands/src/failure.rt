@@ -1,4 +1,6 @@
-// Why a call has no reply: the three ways in which reading a text or making one can end.
+//! Why a call has no reply: the three ways in which reading a text or making one can end.
+//! A failure owns the name of its text: it costs a copy of the name.
+
 use sequence::Text;
 use std::alloc::AllocError;
 

@@ -1,4 +1,5 @@
-// The laws of replies, from those of the texts, of the judgement and of the search.
+//! The laws of replies, from those of the texts, of the judgement and of the search.
+//! Their functions do nothing, and no call of the program needs them.
 
 ghost use Rattle.armc_commands.specs.OneReply.{OutcomeIsDetermined};
 ghost use Rattle.armc_commands.specs.ReplyHistories.{ChecksTellHistories, GeneratesTellHistories};

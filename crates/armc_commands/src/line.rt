@@ -1,4 +1,6 @@
-// Lines of output.
+//! Parts of lines of output: a line of words and more after them, and the name of a rule.
+//! A line is copied, in time linear in its length; a name is a part of the system, found in constant time.
+
 ghost use Rattle.std.specs.Prelude.{◌≡◌, ◌++◌, IfOk};
 ghost use Rattle.armc_commands.specs.Line.{line, rule_name as rule_name_of};
 

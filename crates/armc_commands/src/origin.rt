@@ -1,5 +1,6 @@
-// Where a text comes from: the library, by one read of a whole text within a limit; the command, whose text is copied; or the generator.
-// Each costs the length of the text.
+//! Where a text comes from: the library, by one read of a whole text within a limit; the command, whose text is copied; or the generator.
+//! Each costs the length of the text.
+
 ghost use Rattle.std.specs.Prelude.{◌≡◌, ◌≤◌, ◌⊎◌, IsTrue};
 ghost use Rattle.armc_commands.specs.Origin.{IsReadable, origin_of};
 ghost use Rattle.armc_commands.specs.Reads.{GivesText, IsToldOrigin, failure_of_read};
@@ -46,7 +47,10 @@ fn failure_of(alloc: Global, name: &str, fail: ReadFail) -> Failure
     }
 }
 
-/// The text of this origin, or why it could not be read. A text that the command gives is copied, and one that is generated is made.
+/// The text of this origin. A text that the command gives is copied, and one that is generated is made.
+///
+/// Errors: `ReadFault` where the library failed and `TooLong` where the text is longer than its limit, each with the name, and `Memory`
+/// where memory ran out.
 pub fn text_from<L: Library>(
     alloc: Global,
     origin: Origin,

@@ -1,5 +1,6 @@
-// What a call comes to: the words, the protocol and the second text are read in this order, each text once, and the first that has a
-// fault or cannot be read ends the call. It costs what the command costs.
+//! What a call comes to: the words, the protocol and the second text are read in this order, each text once, and the first that has a
+//! fault or cannot be read ends the call. It costs what the command costs.
+
 ghost use Rattle.std.specs.Prelude.{◌≡◌, ◌≤◌, ℕ, List, None, Some, IsTrue, map, string_bytes};
 ghost use Rattle.armc_io.specs.Library.{LibraryState};
 ghost use Rattle.protocol_model.specs.Numbering.{system_of};
@@ -82,7 +83,10 @@ fn reply_to_command<L: Library, G: Gate, R: Threads + Sync>(
     }
 }
 
-/// Reads the texts that the words name in their order, each once, and makes the reply; or says why there is none.
+/// Reads the texts that the words name in their order, each once, and makes the reply.
+///
+/// Errors: `ReadFault` where the library failed and `TooLong` where a text is longer than its limit, each with the name, and `Memory`
+/// where memory ran out.
 pub fn reply_to<L: Library, G: Gate, R: Threads + Sync>(
     alloc: Global,
     runtime: &R,

@@ -1,10 +1,11 @@
-// How the first fault of a protocol or of a configuration is told: in one line, with its place.
+//! How the first fault of a protocol or of a configuration is told: in one line with its place, what is wrong, and the name or the limit
+//! that it is about. A line is made by one format, in time linear in its length.
+
 ghost use Rattle.std.specs.Prelude.{◌≡◌, ◌≢◌, ◌++◌, IfOk, OnOk};
 ghost use Rattle.armc_commands.specs.Refusal.{located, in_protocol, refusal_text, configuration_refusal_text, syntax_text, model_text, what_word};
 ghost use Rattle.armc_commands.specs.Line.{line};
 
 use configuration_words::ConfigFault;
-use itoa::Buffer;
 use protocol_lexer::Place;
 use protocol_model::ModelFault;
 use protocol_syntax::{Name, SyntaxFault, What};
@@ -20,57 +21,42 @@ pub enum Refusal {
 }
 
 // What there is too much of.
-fn what_word(what: What) -> &'static [u8]
+fn what_word(what: What) -> &'static str
     ensures { result.now ≡ what_word what }
 {
     match what {
-        What::NameBytes => b"name bytes",
-        What::Sections => b"sections",
-        What::Letters => b"letters",
-        What::InitRows => b"init rows",
-        What::Rules => b"rules",
-        What::BadRows => b"bad rows",
-        What::Atoms => b"atoms",
-        What::Guards => b"guards",
-        What::Pushed => b"pushed letters",
+        What::NameBytes => "name bytes",
+        What::Sections => "sections",
+        What::Letters => "letters",
+        What::InitRows => "init rows",
+        What::Rules => "rules",
+        What::BadRows => "bad rows",
+        What::Atoms => "atoms",
+        What::Guards => "guards",
+        What::Pushed => "pushed letters",
     }
 }
 
 // The line of a fault at this place of a text of this kind, told by some words and a name or a word after them.
 fn line_at(
     alloc: Global,
-    kind: &[u8],
+    kind: &str,
     place: Place,
-    words: &[u8],
-    name: &[u8],
+    words: &str,
+    name: &str,
 ) -> Result<Vec<u8>, AllocError>
     ensures { IfOk result (λ made. made.items ≡ line (located kind.now place (words.now ++ name.now))) }
 {
-    let mut buffer = Buffer::new();
-    let mut made = Vec::from_slice(alloc, b"armc: ")?;
-    made.extend_from_slice(kind)?;
-    made.extend_from_slice(b": line ")?;
-    made.extend_from_slice(buffer.format(place.line).as_bytes())?;
-    made.extend_from_slice(b" column ")?;
-    made.extend_from_slice(buffer.format(place.column).as_bytes())?;
-    made.extend_from_slice(b": ")?;
-    made.extend_from_slice(words)?;
-    made.extend_from_slice(name)?;
-    made.push(b'\n')?;
-    Ok(made)
+    let Place { line, column } = place;
+    let made = format!(in alloc; "armc: {kind}: line {line} column {column}: {words}{name}\n")?;
+    Ok(made.into_bytes())
 }
 
 // The line of a fault at this name.
-fn line_at_name(alloc: Global, words: &[u8], name: &Name) -> Result<Vec<u8>, AllocError>
+fn line_at_name(alloc: Global, words: &str, name: &Name) -> Result<Vec<u8>, AllocError>
     ensures { IfOk result (λ made. made.items ≡ line (in_protocol name.now.place (words.now ++ name.now.text))) }
 {
-    line_at(
-        alloc,
-        b"protocol",
-        name.place,
-        words,
-        name.text.as_str().as_bytes(),
-    )
+    line_at(alloc, "protocol", name.place, words, name.text.as_str())
 }
 
 // The line of a fault of the grammar.
@@ -78,16 +64,16 @@ fn syntax_line(alloc: Global, fault: &SyntaxFault) -> Result<Vec<u8>, AllocError
     ensures { IfOk result (λ made. made.items ≡ line (syntax_text fault.now)) }
 {
     match fault {
-        SyntaxFault::BadByte { place } => line_at(alloc, b"protocol", *place, b"bad byte", b""),
+        SyntaxFault::BadByte { place } => line_at(alloc, "protocol", *place, "bad byte", ""),
         SyntaxFault::Unexpected { place } => line_at(
             alloc,
-            b"protocol",
+            "protocol",
             *place,
-            b"unexpected token",
-            b"",
+            "unexpected token",
+            "",
         ),
         SyntaxFault::TooMany { what, place } => {
-            line_at(alloc, b"protocol", *place, b"too many ", what_word(*what))
+            line_at(alloc, "protocol", *place, "too many ", what_word(*what))
         }
         SyntaxFault::Memory => Err(AllocError),
     }
@@ -98,10 +84,10 @@ fn model_line(alloc: Global, fault: &ModelFault) -> Result<Vec<u8>, AllocError>
     ensures { IfOk result (λ made. made.items ≡ line (model_text fault.now)) }
 {
     match fault {
-        ModelFault::Duplicate { name } => line_at_name(alloc, b"duplicate ", name),
-        ModelFault::Unknown { name } => line_at_name(alloc, b"unknown ", name),
-        ModelFault::TouchedTwice { name } => line_at_name(alloc, b"touched twice ", name),
-        ModelFault::WrongKind { name } => line_at_name(alloc, b"wrong kind ", name),
+        ModelFault::Duplicate { name } => line_at_name(alloc, "duplicate ", name),
+        ModelFault::Unknown { name } => line_at_name(alloc, "unknown ", name),
+        ModelFault::TouchedTwice { name } => line_at_name(alloc, "touched twice ", name),
+        ModelFault::WrongKind { name } => line_at_name(alloc, "wrong kind ", name),
         ModelFault::Memory => Err(AllocError),
     }
 }
@@ -123,10 +109,10 @@ pub fn configuration_refusal_line(alloc: Global, fault: &ConfigFault) -> Result<
 {
     match fault {
         ConfigFault::BadByte { place } => {
-            line_at(alloc, b"configuration", *place, b"bad byte", b"")
+            line_at(alloc, "configuration", *place, "bad byte", "")
         }
         ConfigFault::Unexpected { place } => {
-            line_at(alloc, b"configuration", *place, b"unexpected token", b"")
+            line_at(alloc, "configuration", *place, "unexpected token", "")
         }
         ConfigFault::Memory => Err(AllocError),
     }

@@ -1,4 +1,6 @@
-// Replies, and those that do not depend on the command.
+//! Replies, which are a status and two texts, and those that do not depend on the command.
+//! A text is moved into its reply; the lines that are made here are copied, in time linear in their length.
+
 ghost use Rattle.std.specs.Prelude.{◌≡◌, IfOk};
 ghost use Rattle.armc_commands.specs.Reply.{on_out as on_out_of, on_err as on_err_of, usage as usage_reply, refusal_reply as refusal_reply_of, failure_reply as failure_reply_of};
 

@@ -1,3 +1,6 @@
+//! The exit statuses of the program: what a call comes to, as a number from 0 to 9.
+//! A status is a plain value, which is copied.
+
 /// The exit status of the program.
 #[derive(Clone, Copy, Debug, PartialEq, Eq)]
 pub enum Status {

@@ -24,3 +24,14 @@ pieces letters rules =
     let defined = append_assoc (letters ++ codes " dead }") (10 ∷ []) (init ++ (rules ++ bad))
     ∙ append_assoc letters (codes " dead }") (10 ∷ init ++ (rules ++ bad)) in
     ap (λ rest. codes "protocol chain\narray P {" ++ rest) (written ∙ sym defined)
+
+-- a rule as it is written, and as the definition has it
+pub rule_pieces : (i next : List ℕ)
+    → codes "rule r" ++ (next ++ (codes " { P: at s" ++ (i ++ (codes " -> s" ++ (next ++ codes "; }\n")))))
+    ≡ protocol_line (codes "rule r" ++ (next ++ (codes " { P: at s" ++ (i ++ (codes " -> s" ++ (next ++ codes "; }"))))))
+rule_pieces i next =
+    let inner = append_assoc next (codes "; }") (10 ∷ []) in
+    let middle = append_assoc i (codes " -> s" ++ (next ++ codes "; }")) (10 ∷ []) ∙ ap (λ rest. i ++ (codes " -> s" ++ rest)) inner in
+    let outer = append_assoc next (codes " { P: at s" ++ (i ++ (codes " -> s" ++ (next ++ codes "; }")))) (10 ∷ [])
+    ∙ ap (λ rest. next ++ (codes " { P: at s" ++ rest)) middle in
+    ap (λ rest. codes "rule r" ++ rest) (sym outer)

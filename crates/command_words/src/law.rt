@@ -1,4 +1,5 @@
-//! What the plain forms of the commands mean: a law over the definition of words, which no call of the program needs.
+//! What the plain forms of the commands mean: a law over the definition of words. Its function does nothing, and no call of the program
+//! needs it.
 
 ghost use Rattle.command_words.specs.PlainForms.{PlainFormsMean};
 

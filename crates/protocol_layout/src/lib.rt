@@ -1,5 +1,6 @@
 //! Printing a protocol in its canonical layout: each item on a line of its own, and its words with
-//! one space between them, but none before `:`, `;`, `*` and `+`.
+//! one space between them, but none before `:`, `;`, `*` and `+`. It goes through the protocol once,
+//! in time linear in the text.
 #![tactic(auto)]
 
 ghost use Rattle.std.specs.Prelude.{◌≡◌, ◌++◌, ◌∷◌, [], codes, map, IfOk, OnOk, if◌then◌else◌};

@@ -1,4 +1,5 @@
-//! The abstractions that a search can use.
+//! The abstractions that a search can use, as the report names them.
+//! A method is a plain value, which is copied.
 
 /// What a search relates states by.
 #[derive(Clone, Copy, Debug, PartialEq, Eq)]

@@ -12,6 +12,8 @@ use search_history::{Log, LogEnd, RoundLog};
 use std::alloc::{AllocError, Global};
 
 /// The report of a search by this method with this log: the compact text of a JSON object, and a line feed.
+///
+/// Errors: `AllocError` where memory runs out.
 pub fn report(alloc: Global, method: Method, log: &Log) -> Result<Vec<u8>, AllocError>
     ensures { IfOk result (λ text. text.items ≡ report_text method log.now) }
 {

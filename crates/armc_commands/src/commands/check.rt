@@ -1,5 +1,6 @@
-// The command that searches for a proof or a bad run, and tells its certificate and, where it is asked for, its report. It costs what the
-// search costs, in so many threads as the settings say; the reply does not depend on their number.
+//! The command that searches for a proof or a bad run, and tells its certificate and, where it is asked for, its report. It costs what the
+//! search costs, in so many threads as the settings say; the reply does not depend on their number.
+
 ghost use Rattle.std.specs.Prelude.{◌≡◌, IfOk};
 ghost use Rattle.command_words.specs.Words.{IsSettings};
 ghost use Rattle.command_words.specs.declared.Settings.{Settings as SettingsData};

@@ -1,6 +1,7 @@
-// The command that searches a generated protocol with the default settings, and tells a summary. It costs what the search costs, in so many
-// threads as the words say; the reply does not depend on their number.
-ghost use Rattle.std.specs.Prelude.{◌≡◌, ◌<◌, ◌≤◌, ◌++◌, ℕ, IfOk, OnOk, decimal};
+//! The command that searches a generated protocol with the default settings, and tells a summary.
+//! It costs what the search costs, in so many threads as the words say; the reply does not depend on their number.
+
+ghost use Rattle.std.specs.Prelude.{◌≡◌, ◌<◌, ◌≤◌, ◌++◌, ℕ, IfOk, OnOk, codes, string_bytes};
 ghost use Rattle.protocol_model.specs.System.{SystemData};
 ghost use Rattle.armc_commands.specs.declared.reply.Reply.{Reply as ReplyData};
 ghost use Rattle.armc_commands.specs.Line.{line};
@@ -9,7 +10,6 @@ ghost use Rattle.armc_commands.specs.Commands.Generate.{IsGenerateReply, Generat
 use crate::reply::{Reply, on_out};
 use crate::status::Status;
 use armc_io::Gate;
-use itoa::Buffer;
 use minimise::Canon;
 use protocol_model::System;
 use protocol_search::{FirstAbstraction, search_system, verdicts_show};
@@ -32,54 +32,43 @@ fn verdict_status(verdict: &Verdict) -> Status
     }
 }
 
-// Adds the line of these words with a number at its end.
-fn push_number(text: &mut Vec<u8>, words: &[u8], number: u64) -> Result<(), AllocError>
-    ensures { OnOk result (text.new.items ≡ text.old.items ++ line (words.now ++ decimal number)) }
+// Writes the lines of the number, the verdict, and the rounds and the sum of the log.
+fn write_search(text: &mut String, number: u32, verdict: &str, log: &Log) -> Result<(), AllocError>
+    ensures { OnOk result (string_bytes text.new ≡ string_bytes text.old
+        ++ search_lines number (line (codes "verdict " ++ verdict.now)) log.now) }
 {
-    let mut buffer = Buffer::new();
-    text.extend_from_slice(words)?;
-    text.extend_from_slice(buffer.format(number).as_bytes())?;
-    text.push(b'\n')?;
-    Ok(())
+    let rounds = log.rounds.len();
+    let counted = log.counted;
+    writeln!(
+        text,
+        "gen {number}\nverdict {verdict}\nrounds {rounds}\ncounted {counted}"
+    )
 }
 
-// Adds the lines of the number, the verdict, and the rounds and the sum of the log.
-fn push_search(text: &mut Vec<u8>, number: u64, verdict: &[u8], log: &Log) -> Result<(), AllocError>
-    ensures { OnOk result (text.new.items ≡ text.old.items ++ search_lines number verdict.now log.now) }
-{
-    push_number(text, b"gen ", number)?;
-    text.extend_from_slice(verdict)?;
-    push_number(text, b"rounds ", log.rounds.len() as u64)?;
-    push_number(text, b"counted ", log.counted)
-}
-
-// Adds the lines of the states and the edges of the proof.
-fn push_proof(text: &mut Vec<u8>, proof: &Canon) -> Result<(), AllocError>
-    ensures { OnOk result (text.new.items ≡ text.old.items ++ proof_lines proof.now) }
+// Writes the lines of the states and the edges of the proof.
+fn write_proof(text: &mut String, proof: &Canon) -> Result<(), AllocError>
+    ensures { OnOk result (string_bytes text.new ≡ string_bytes text.old ++ proof_lines proof.now) }
 {
     let automaton = proof.as_dfa();
-    push_number(text, b"states ", automaton.states() as u64)?;
-    push_number(text, b"edges ", automaton.edges() as u64)
+    let states = automaton.states();
+    let edges = automaton.edges();
+    writeln!(text, "states {states}\nedges {edges}")
 }
 
 // The summary of the verdict on the chain of this number.
 fn summary(alloc: Global, number: u32, verdict: &Verdict) -> Result<Vec<u8>, AllocError>
     ensures { IfOk result (λ text. text.items ≡ summary_of number verdict.now) }
 {
-    let mut text = Vec::new(alloc);
+    let mut text = String::new(alloc);
     match verdict {
         Verdict::Safe { proof, log } => {
-            push_search(&mut text, number as u64, b"verdict safe\n", log)?;
-            push_proof(&mut text, proof)?;
+            write_search(&mut text, number, "safe", log)?;
+            write_proof(&mut text, proof)?;
         }
-        Verdict::Unsafe { log, .. } => {
-            push_search(&mut text, number as u64, b"verdict unsafe\n", log)?;
-        }
-        Verdict::Unknown { log } => {
-            push_search(&mut text, number as u64, b"verdict unknown\n", log)?;
-        }
+        Verdict::Unsafe { log, .. } => write_search(&mut text, number, "unsafe", log)?,
+        Verdict::Unknown { log } => write_search(&mut text, number, "unknown", log)?,
     }
-    Ok(text)
+    Ok(text.into_bytes())
 }
 
 /// The summary of the search for the system of the chain of this number, by the default settings. The only error is that memory ran out.

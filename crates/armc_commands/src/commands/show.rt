@@ -1,4 +1,6 @@
-// The command that lays out a protocol. It costs the length of the layout.
+//! The command that lays out a protocol: its text is the canonical layout of a protocol that was read and has no fault.
+//! It costs the length of the layout.
+
 ghost use Rattle.std.specs.Prelude.{IfOk};
 ghost use Rattle.armc_commands.specs.Commands.Show.{IsShowReply};
 

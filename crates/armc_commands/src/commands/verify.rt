@@ -1,6 +1,7 @@
-// The command that judges a certificate: its text is read, the judgement is made, and its answer is told in a line.
-// It costs what the judgement costs.
-ghost use Rattle.std.specs.Prelude.{◌≡◌, ◌≢◌, ◌↔◌, ◌++◌, ℕ, List, IsTrue, IfOk, OnOk, MatchOption, decimal};
+//! The command that judges a certificate: its text is read, the judgement is made, and its answer is told in a line.
+//! It costs what the judgement costs.
+
+ghost use Rattle.std.specs.Prelude.{◌≡◌, ◌≢◌, ◌↔◌, ◌++◌, ℕ, List, IsTrue, IfOk, OnOk, MatchOption, codes, decimal};
 ghost use Rattle.protocol_model.specs.Patterns.{fits};
 ghost use Rattle.configuration_words.specs.Texts.{configuration_text as text_of};
 ghost use Rattle.protocol_model.specs.System.{SystemData};
@@ -15,7 +16,6 @@ use crate::status::Status;
 use certificate::{CertFault, read};
 use certificate_checker::{Answer, check_certificate, proofs_are_sound};
 use configuration_words::configuration_text;
-use itoa::Buffer;
 use protocol_model::{Configuration, System};
 use std::alloc::{AllocError, Global};
 
@@ -57,12 +57,12 @@ fn line_of_exit(
     Ok(made)
 }
 
-// A line with a number at its end.
-fn line_with_number(alloc: Global, start: &[u8], number: u64) -> Result<Vec<u8>, AllocError>
-    ensures { IfOk result (λ made. made.items ≡ line (start.now ++ decimal number)) }
+// The line of a step of a run, by its number, to which no rule leads.
+fn line_of_step(alloc: Global, step: u64) -> Result<Vec<u8>, AllocError>
+    ensures { IfOk result (λ made. made.items ≡ line (codes "not valid: not step: " ++ decimal step)) }
 {
-    let mut buffer = Buffer::new();
-    line_of(alloc, start, buffer.format(number).as_bytes())
+    let made = format!(in alloc; "not valid: not step: {step}\n")?;
+    Ok(made.into_bytes())
 }
 
 // The line that tells an answer.
@@ -89,22 +89,17 @@ fn answer_line(alloc: Global, system: &System, answer: &Answer) -> Result<Vec<u8
             after,
         } => line_of_exit(alloc, system, *rule, before, after),
         Answer::NotInitial => b"not valid: not initial\n".to_vec(alloc),
-        Answer::NotStep(step) => line_with_number(alloc, b"not valid: not step: ", *step),
+        Answer::NotStep(step) => line_of_step(alloc, *step),
         Answer::NotBad => b"not valid: not bad\n".to_vec(alloc),
     }
 }
 
 // The line of a fault of a certificate at the line of this number.
-fn fault_at(alloc: Global, number: u64, words: &[u8]) -> Result<Vec<u8>, AllocError>
+fn fault_at(alloc: Global, number: u64, words: &str) -> Result<Vec<u8>, AllocError>
     ensures { IfOk result (λ made. made.items ≡ line (in_certificate number words.now)) }
 {
-    let mut buffer = Buffer::new();
-    let mut made = Vec::from_slice(alloc, b"armc: certificate: line ")?;
-    made.extend_from_slice(buffer.format(number).as_bytes())?;
-    made.extend_from_slice(b": ")?;
-    made.extend_from_slice(words)?;
-    made.push(b'\n')?;
-    Ok(made)
+    let made = format!(in alloc; "armc: certificate: line {number}: {words}\n")?;
+    Ok(made.into_bytes())
 }
 
 // The line that tells the first fault of a certificate.
@@ -113,14 +108,14 @@ fn fault_line(alloc: Global, fault: &CertFault) -> Result<Vec<u8>, AllocError>
     ensures line { IfOk result (λ made. made.items ≡ line (fault_text fault.now)) }
 {
     match fault {
-        CertFault::Version { line } => fault_at(alloc, *line, b"version"),
-        CertFault::BadLine { line } => fault_at(alloc, *line, b"bad line"),
-        CertFault::UnknownName { line } => fault_at(alloc, *line, b"unknown name"),
-        CertFault::OutOfRange { line } => fault_at(alloc, *line, b"out of range"),
-        CertFault::TwoEdges { line } => fault_at(alloc, *line, b"two edges"),
-        CertFault::Truncated { line } => fault_at(alloc, *line, b"truncated"),
-        CertFault::NothingToVerify { line } => fault_at(alloc, *line, b"nothing to verify"),
-        CertFault::TooMany { line } => fault_at(alloc, *line, b"too many states"),
+        CertFault::Version { line } => fault_at(alloc, *line, "version"),
+        CertFault::BadLine { line } => fault_at(alloc, *line, "bad line"),
+        CertFault::UnknownName { line } => fault_at(alloc, *line, "unknown name"),
+        CertFault::OutOfRange { line } => fault_at(alloc, *line, "out of range"),
+        CertFault::TwoEdges { line } => fault_at(alloc, *line, "two edges"),
+        CertFault::Truncated { line } => fault_at(alloc, *line, "truncated"),
+        CertFault::NothingToVerify { line } => fault_at(alloc, *line, "nothing to verify"),
+        CertFault::TooMany { line } => fault_at(alloc, *line, "too many states"),
         CertFault::Memory => Err(AllocError),
     }
 }
