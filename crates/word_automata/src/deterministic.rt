@@ -1,6 +1,6 @@
 //! Deterministic automata, whose states keep a list of edges sorted by letter.
 //! A letter is looked up by binary search, after a look at the last edge; an edge goes to its place, which is cheap at the end and else
-//! linear in the edges of the state. Up to four edges stand in the state itself, and a state takes less than 100 bytes where it has no more.
+//! linear in the edges of the state. Up to four edges stand in the state itself, which takes less than 100 bytes then.
 
 ghost use Rattle.std.specs.Prelude.{◌≡◌, ◌↔◌, ◌+◌, ◌^◌, ◌<◌, ◌≤◌, ◌++◌, [], ◌∷◌, ℕ, true, length, OnOk, OnErr, IfOk, IfErr, IfSome, OnSome, IfNone, None, Some, IsSome};
 ghost use Rattle.std.specs.List.{insert};
