@@ -19,7 +19,7 @@ use Rattle.protocol_model.proofs.InRange.{each_at_most}
 use Rattle.std.specs.Prelude.{codes}
 use Rattle.configuration_words.specs.declared.reading.Stage.TheVariants as Stages
 use Rattle.configuration_words.specs.declared.fault.ConfigFault.TheVariants.{Unexpected}
-use Rattle.configuration_words.specs.ConfigurationText.{AreTokensOf, Begin, IsWrongAt, parts_tokens, spelled_tokens}
+use Rattle.configuration_words.specs.ConfigurationText.{AreTokensOf, CanBeCompleted, IsWrongAt, parts_tokens, spelled_tokens}
 use Rattle.configuration_words.specs.ConfigurationReader.{ReaderData, reader_of, advance, whole_lists, IsAtWrongToken}
 use Rattle.configuration_words.proofs.ReaderLemmas.{Completes, tail_tokens, IsReadable, IsReady, advanced, stopped, ended, completable}
 
@@ -96,7 +96,7 @@ module _ (s : SystemData) (words : List (List ℕ)) (n : ℕ) (r : ReaderData) (
             leads.1 rest c.lists (reading.completes (x ∷ rest) c (subst (λ tokens. AreTokensOf s tokens c) (onto x rest within is) are));
       }
 
-  begun : Begin s (take n words)
+  begun : CanBeCompleted s (take n words)
   begun =
       let some = completable r reading.ready in
       (some.0, record { lists = some.1 }, reading.completed some.0 some.1 some.2)
@@ -127,7 +127,7 @@ module _ (s : SystemData) (words : List (List ℕ)) (n : ℕ) (r : ReaderData) (
 
     pub wrong_end : whole_lists r ≡ None → n ≡ length words → IsWrongAt s words (length words)
     wrong_end e at_end = record {
-      before = subst (λ k. Begin s (take k words)) at_end begun;
+      before = subst (λ k. CanBeCompleted s (take k words)) at_end begun;
       here = inr (
         refl,
         λ c are.

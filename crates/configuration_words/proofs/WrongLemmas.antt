@@ -12,11 +12,11 @@ use Rattle.protocol_model.specs.System.{SystemData}
 use Rattle.configuration_words.specs.declared.fault.ConfigFault.{ConfigFault}
 use Rattle.configuration_words.specs.declared.fault.ConfigFault.TheVariants.{BadByte, Unexpected, Memory}
 use Rattle.configuration_words.specs.ConfigurationReader.{IsAtWrongToken}
-use Rattle.configuration_words.specs.ConfigurationText.{AreTokensOf, Begin, IsWrongAt, IsUnexpectedAt, IsFirstFault, MeansConfiguration, spelled_tokens}
+use Rattle.configuration_words.specs.ConfigurationText.{AreTokensOf, CanBeCompleted, IsWrongAt, IsUnexpectedAt, IsFirstFault, MeansConfiguration, spelled_tokens}
 
 module _ (s : SystemData) (words : List (List ℕ)) where
   -- where the tokens of a configuration begin, fewer of them do
-  shorter : (j k : ℕ) → j ≤ k → Begin s (take k words) → Begin s (take j words)
+  shorter : (j k : ℕ) → j ≤ k → CanBeCompleted s (take k words) → CanBeCompleted s (take j words)
   shorter j k h b = (
     drop j (take k words) ++ b.0,
     b.1,
@@ -27,7 +27,7 @@ module _ (s : SystemData) (words : List (List ℕ)) where
   )
 
   -- the tokens of a configuration begin one
-  begin_of : (c : Configuration) → AreTokensOf s words c → (j : ℕ) → Begin s (take j words)
+  begin_of : (c : Configuration) → AreTokensOf s words c → (j : ℕ) → CanBeCompleted s (take j words)
   begin_of c are j = (drop j words, c, subst (λ tokens. AreTokensOf s tokens c) (sym (take-append-drop j words)) are)
 
   -- the tokens of a configuration have no wrong one

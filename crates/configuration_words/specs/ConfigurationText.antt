@@ -38,8 +38,8 @@ pub record AreTokensOf (s : SystemData) (tokens : List (List ℕ)) (c : Configur
   pub spelled_so : tokens ≡ configuration_tokens s c
 
 -- some tokens after these complete them to those of a configuration
-abbrev pub Begin : SystemData → List (List ℕ) → Type 0
-Begin s tokens = (more : List (List ℕ)) × (c : Configuration) × AreTokensOf s (tokens ++ more) c
+abbrev pub CanBeCompleted : SystemData → List (List ℕ) → Type 0
+CanBeCompleted s tokens = (more : List (List ℕ)) × (c : Configuration) × AreTokensOf s (tokens ++ more) c
 
 -- the bytes of the tokens of a text
 abbrev pub spelled_tokens : List ℕ → List Token → List (List ℕ)
@@ -54,8 +54,8 @@ pub record MeansConfiguration (s : SystemData) (text : List ℕ) (c : Configurat
 -- The token at an index is the first that is wrong: the tokens before it begin a configuration's, and with it they do not; or it is
 -- the end of the text, and the tokens are no configuration's.
 pub record IsWrongAt (s : SystemData) (tokens : List (List ℕ)) (j : ℕ) : Type 0 where
-  pub before : Begin s (take j tokens)
-  pub here : ((j < length tokens) × (Begin s (take (j + 1) tokens) → ⊥))
+  pub before : CanBeCompleted s (take j tokens)
+  pub here : ((j < length tokens) × (CanBeCompleted s (take (j + 1) tokens) → ⊥))
       ⊎ ((j ≡ length tokens) × ((c : Configuration) → AreTokensOf s tokens c → ⊥))
 
 -- the place is that of the first wrong token, or of the end of the text

@@ -110,10 +110,7 @@ fn position_at(found: &IndexSet<Position>, number: usize) -> Position
     requires { number < index_set_len found.now }
     ensures { slice_get found.now.keys number ≡ Some result }
 {
-    match found.get_index(number) {
-        Some(position) => *position,
-        None => unreachable!(),
-    }
+    found.as_slice()[number]
 }
 
 /// Inserts a position where it is not there yet.
