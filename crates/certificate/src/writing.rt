@@ -26,9 +26,8 @@ pub fn write_safe(alloc: Global, system: &System, proof: &Dfa) -> Result<Vec<u8>
     ensures meaning { IfOk result (λ text. MeansAutomaton system.now text.items proof.now) }
 {
     let alphabet = Alphabet::new(alloc, system)?;
-    let mut text = Vec::from_slice(alloc, b"armc 1 safe\nstates ")?;
-    push_number(&mut text, proof.states())?;
-    text.push(b'\n')?;
+    let count = proof.states();
+    let mut text = format!(in alloc; "armc 1 safe\nstates {count}\n")?.into_bytes();
     push_final_states(&mut text, proof)?;
     push_edges(&mut text, &alphabet, proof)?;
     text.extend_from_slice(b"end\n")?;
@@ -39,13 +38,8 @@ pub fn write_safe(alloc: Global, system: &System, proof: &Dfa) -> Result<Vec<u8>
 pub fn write_unknown(alloc: Global, counted: u64, budget: u64) -> Result<Vec<u8>, AllocError>
     ensures { IfOk result (λ text. text.items ≡ unknown_text counted budget) }
 {
-    let mut buffer = Buffer::new();
-    let mut text = Vec::from_slice(alloc, b"armc 1 unknown\ncounted ")?;
-    text.extend_from_slice(buffer.format(counted).as_bytes())?;
-    text.extend_from_slice(b"\nbudget ")?;
-    text.extend_from_slice(buffer.format(budget).as_bytes())?;
-    text.extend_from_slice(b"\nend\n")?;
-    Ok(text)
+    let text = format!(in alloc; "armc 1 unknown\ncounted {counted}\nbudget {budget}\nend\n")?;
+    Ok(text.into_bytes())
 }
 
 /// Adds the lines of all accepting states.

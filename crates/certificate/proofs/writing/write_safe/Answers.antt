@@ -1,4 +1,4 @@
-use Rattle.std.proofs.Common.{◌≡◌, [], ◌∷◌, ◌++◌, length, codes, decimal, flat_map, sym, ap, subst, ◌∙◌}
+use Rattle.std.proofs.Common.{◌≡◌, [], ◌∷◌, ◌++◌, length, codes, flat_map, sym, ap, subst, ◌∙◌}
 use Rattle.certificate.specs.SafeText.{MeansAutomaton}
 use Rattle.certificate.specs.LineLayout.{lines_text, opening_text}
 use Rattle.certificate.specs.Writing.{final_states, edge_lines}
@@ -12,11 +12,10 @@ returns-clause-text c =
     let s = c.args.system.now in
     let m = c.args.proof.now in
     let finals = flat_map final_text (final_states 0 m.states) in
-    let opened : c.push.new.self.items ≡ opening_text (length m.states) =
-    c.in_ok-push.ensures.items
-    ∙ ap (λ text. text ++ 10 ∷ [])
-    (c.in_ok-push_number.ensures ∙ ap (λ text. text ++ decimal c.states.result) c.in_ok-text.ensures.items)
-    ∙ ap (λ n. opening_text n) c.states.ensures.count in
+    let opened : c.into_bytes-text.result.items ≡ opening_text (length m.states) =
+    ap (λ text. text.items) c.into_bytes-text.ensures.value
+    ∙ c.in_ok-format.ensures.ok
+    ∙ ap (λ n. opening_text n) c.states-count.ensures.count in
     c.in_ok-extend_from_slice.ensures.items
     ∙ ap (λ text. text ++ (codes "end" ++ 10 ∷ []))
     (c.in_ok-push_edges.ensures
@@ -28,4 +27,4 @@ returns-clause-text c =
 pub returns-clause-meaning : goal.returns-clause-meaning
 returns-clause-meaning c =
     subst (λ text. MeansAutomaton c.args.system.now text c.args.proof.now) (sym (returns-clause-text c))
-    (written_means c.args.proof.now c.states.ensures.valid c.args.system.now c.requires.letters c.requires.limit)
+    (written_means c.args.proof.now c.states-count.ensures.valid c.args.system.now c.requires.letters c.requires.limit)
