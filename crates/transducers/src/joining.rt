@@ -25,7 +25,7 @@ pub fn join_sections(
     ensures joined { IfOk result (λ t. (u w : List ℕ) → Relates t u w ↔ RelatesJoined separator parts.now u w) }
 {
     let last = parts.len() - 1;
-    let mut joined = parts[last].copy(alloc)?;
+    let mut joined = parts[last].copy()?;
     'parts: for k in (0..last).rev() {
         joined = join_before(alloc, &parts[k], separator, joined)?;
     }

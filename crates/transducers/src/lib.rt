@@ -17,7 +17,7 @@ pub use combination::{either, inverse};
 pub use copies::{copy_any, copy_edges, copy_one};
 pub use joining::join_sections;
 pub use search::relates;
-use std::alloc::{AllocError, Global};
+use std::alloc::AllocError;
 use std::marker::Model;
 
 /// What an edge reads and what it writes: a letter each, or nothing. Each edge does at least one of the two.
@@ -40,7 +40,7 @@ impl Label {
 }
 
 /// A state: whether it accepts, and its edges, each a label and the number of the target state.
-#[derive(Drop, Debug)]
+#[derive(Clone, Drop, Debug)]
 pub struct State {
     accepting: bool,
     edges: Vec<(Label, usize)>,
@@ -67,7 +67,7 @@ impl State {
 /// A transducer: a number of letters, start states, and states with their edges. The letters and states that it names
 /// are in range, and each edge reads or writes. It relates the word that a path from a start state to an accepting state
 /// reads to the word that this path writes.
-#[derive(Drop, Debug)]
+#[derive(Clone, Drop, Debug)]
 pub struct Transducer {
     letters: u32,
     starts: Vec<usize>,
@@ -144,24 +144,11 @@ impl Transducer {
         }
     }
 
-    /// A copy of the transducer.
-    pub fn copy(&self, alloc: Global) -> Result<Transducer, AllocError>
+    /// A copy of the transducer, in time linear in its states and edges. `AllocError` where memory runs out.
+    pub fn copy(&self) -> Result<Transducer, AllocError>
         ensures { IfOk result (λ t. t ≡ self.now) }
     {
-        let starts = Vec::from_slice(alloc, self.starts.as_slice())?;
-        let mut states = Vec::with_capacity(alloc, self.states.len())?;
-        'states: for state in &self.states {
-            let edges = Vec::from_slice(alloc, state.edges.as_slice())?;
-            states.push(State {
-                accepting: state.accepting,
-                edges,
-            })?;
-        }
-        Ok(Transducer {
-            letters: self.letters,
-            starts,
-            states,
-        })
+        self.clone()
     }
 }
 
