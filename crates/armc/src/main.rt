@@ -22,7 +22,7 @@ fn main(rt: HostRuntime) -> ExitCode {
     let Ok(arguments) = env::args(&rt) else {
         return out_of_memory(&mut err);
     };
-    for word in arguments.skip(1) {
+    'words: for word in arguments.skip(1) {
         if words.push(word).is_err() {
             return out_of_memory(&mut err);
         }

@@ -34,7 +34,7 @@ impl Place {
         ensures column { result.column ≤ self.column + length bytes.now }
     {
         let mut place = self;
-        for b in bytes {
+        'bytes: for b in bytes {
             place = place.after_byte(*b);
         }
         place
@@ -119,7 +119,7 @@ pub fn tokens(alloc: Global, text: &[u8]) -> Result<Vec<Token>, LexFault>
     let mut rest = text;
     let mut at = 0;
     let mut place = Place::START;
-    while !rest.is_empty() {
+    'tokens: while !rest.is_empty() {
         let Some(piece) = piece_of(rest) else {
             return Err(LexFault::BadByte { place });
         };

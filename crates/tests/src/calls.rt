@@ -54,7 +54,7 @@ pub(crate) struct Answer {
 /// The words as texts of their own.
 fn owned(alloc: Global, words: &[&str]) -> Result<Vec<String>, AllocError> {
     let mut texts = Vec::new(alloc);
-    for word in words {
+    'words: for word in words {
         texts.push(String::from_str(alloc, word)?)?;
     }
     Ok(texts)

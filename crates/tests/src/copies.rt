@@ -42,7 +42,7 @@ fn of_automata(rt: HostRuntime) -> Result<(), Fail> {
 
 #[test]
 fn of_a_transducer(rt: HostRuntime) -> Result<(), Fail> {
-    for rule in &rules(rt.alloc(), HANDOFF)? {
+    'rules: for rule in &rules(rt.alloc(), HANDOFF)? {
         assert!(rt; is_alike(rt.alloc(), rule, &rule.copy()?)?);
     }
     Ok(())

@@ -396,7 +396,7 @@ fn is_answered<R: Threads + Sync>(
 
 #[test]
 fn no_answer_changes_in_place_of_a_fault(rt: HostRuntime) -> Result<(), Fail> {
-    for call in &CALLS {
+    'calls: for call in &CALLS {
         assert!(rt; is_answered(rt.alloc(), &rt, call)?, "{}", call.title);
     }
     Ok(())

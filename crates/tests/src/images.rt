@@ -12,7 +12,7 @@ use word_automata::DfaBuilder;
 fn single(alloc: Global, word: &[u32]) -> Result<Canon, Fail> {
     let mut builder = DfaBuilder::new(alloc, 4);
     let mut last = builder.state(word.is_empty())?;
-    for (i, letter) in word.iter().enumerate() {
+    'letters: for (i, letter) in word.iter().enumerate() {
         let next = builder.state(i + 1 == word.len())?;
         builder.edge(last, *letter, next)?;
         last = next;

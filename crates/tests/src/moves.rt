@@ -29,7 +29,7 @@ fn leading(
     after: &[u32],
 ) -> Result<Vec<usize>, AllocError> {
     let mut numbers = Vec::new(alloc);
-    for (number, rule) in rules.iter().enumerate() {
+    'rules: for (number, rule) in rules.iter().enumerate() {
         if relates(alloc, rule, before, after)? {
             numbers.push(number)?;
         }

@@ -41,7 +41,7 @@ impl Gate for Meeting {
             (second, first)
         };
         mine.store(true, Ordering::SeqCst);
-        for _turn in 0..TURNS {
+        'turns: for _turn in 0..TURNS {
             if other.load(Ordering::SeqCst) {
                 return;
             }

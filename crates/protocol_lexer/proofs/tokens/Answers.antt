@@ -10,26 +10,26 @@ use Rattle.protocol_lexer.proofs.tokens.Goals as goal
 pub returns-in_default-clause-bad_byte : goal.returns-in_default-clause-bad_byte
 returns-in_default-clause-bad_byte c = λ place e.
     let text = c.args.text.now in
-    let same : c.loop-rest.place ≡ place = cc in
-    let end = Leads-end text c.loop-rest.found.items c.loop-rest.rest.now c.loop-rest.at c.loop-rest.place c.loop-rest.invariant.leads in
+    let same : c.tokens.place ≡ place = cc in
+    let end = Leads-end text c.tokens.found.items c.tokens.rest.now c.tokens.at c.tokens.place c.tokens.invariant.leads in
     subst (λ (p : Place). IsBadByte text p) same
-    (c.loop-rest.found.items, c.loop-rest.rest.now, end, not_empty _ (grind arith), (cc))
+    (c.tokens.found.items, c.tokens.rest.now, end, not_empty _ (grind arith), (cc))
 
-pub loop-rest-preserved : goal.loop-rest-preserved
-loop-rest-preserved c = record {
+pub tokens-preserved : goal.tokens-preserved
+tokens-preserved c = record {
   within = grind (arith, common_steps);
   line = grind (arith, common_steps);
   column = grind (arith, common_steps);
   leads =
-      Leads-step c.args.text.now c.loop-rest.found.items c.loop-rest.rest.now c.loop-rest.at c.loop-rest.place c.in-Some.piece
-      c.loop-rest.invariant.leads (cc) _ _ _ _ (c.in_ok-push_token.ensures.ok) c.split_at.ensures.back (λ i. c.loop-rest.at + c.in-Some.piece.length)
+      Leads-step c.args.text.now c.tokens.found.items c.tokens.rest.now c.tokens.at c.tokens.place c.in-Some.piece
+      c.tokens.invariant.leads (cc) _ _ _ _ (c.in_ok-push_token.ensures.ok) c.split_at.ensures.back (λ i. c.tokens.at + c.in-Some.piece.length)
       (rw (c.after-place.ensures.place, c.split_at.ensures.front));
 }
 
 pub returns-clause-taken : goal.returns-clause-taken
 returns-clause-taken c =
-    let end = Leads-end c.args.text.now c.loop-rest.found.items c.loop-rest.rest.now c.loop-rest.at c.loop-rest.place c.loop-rest.invariant.leads in
-    (c.loop-rest.place, subst (λ (rest : List ℕ). Takes c.args.text.now 0 start_place c.loop-rest.found.items rest c.loop-rest.place) (is_empty _ (grind arith)) end)
+    let end = Leads-end c.args.text.now c.tokens.found.items c.tokens.rest.now c.tokens.at c.tokens.place c.tokens.invariant.leads in
+    (c.tokens.place, subst (λ (rest : List ℕ). Takes c.args.text.now 0 start_place c.tokens.found.items rest c.tokens.place) (is_empty _ (grind arith)) end)
 
 pub returns-clause-lie_in_order : goal.returns-clause-lie_in_order
-returns-clause-lie_in_order c = LieInOrder-taken c.args.text.now c.loop-rest.found.items (returns-clause-taken c)
+returns-clause-lie_in_order c = LieInOrder-taken c.args.text.now c.tokens.found.items (returns-clause-taken c)
