@@ -53,7 +53,8 @@ pub trait Graph {
     /// A number above all codes, so small as can be told.
     fn codes(&self) -> usize;
 
-    /// The code of the state. States that share a code are told apart all the same, but cost more.
+    /// The code of the state. Different states are to have different codes. States that share one are told apart all the same, but what
+    /// is looked up of them may be found anew at each visit, so that a walk can run out of memory.
     fn code(&self, state: &Self::State) -> usize;
 
     ghost equality: { (x y : Self.State) → Self.State.eq x y ≡ true → x ≡ y };

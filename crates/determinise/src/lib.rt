@@ -33,7 +33,7 @@ use std::alloc::{AllocError, Global};
 use word_automata::{Dfa, Nfa};
 
 /// The deterministic automaton of the sets of states that words lead to (M. O. Rabin and D. Scott, 1959), which accepts the same
-/// words. States are numbered breadth first, letters in increasing order. States from which no word is accepted stand in no set. Edges
+/// words. States are numbered breadth first, which is no clause here. States from which no word is accepted stand in no set. Edges
 /// whose targets are simulated by those of other edges of the same state and letter are dropped first, and states that others of a set
 /// simulate stand in no set, as far as pairs of states were compared. The time is linear in the edges of the automaton and in those that
 /// leave the states of the sets that are reached, up to sorting, on average. Where a letter leads from one state to two, pairs of states

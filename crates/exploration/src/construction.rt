@@ -17,7 +17,8 @@ use std::hash::Hash;
 use word_automata::{Dfa, DfaBuilder};
 
 /// The automaton of the states of the system that are reached from its start state, with the same language from each. States are
-/// numbered breadth first, letters in increasing order. The work is linear in the edges that are reached, on average.
+/// numbered breadth first, letters in increasing order. Each state of the automaton stands for one of the system; that no two of these
+/// become one is no clause. The work is linear in the edges that are reached, on average. `AllocError` where memory runs out.
 pub fn explore<T: TransitionSystem>(alloc: Global, system: &T) -> Result<Dfa, AllocError>
     ensures language { IfOk result (λ built. (w : List ℕ) → accepts built w ≡ accepts_by (T.system system.now) w) }
     ensures letters { IfOk result (λ built. built.letters ≡ (T.system system.now).letters) }
@@ -29,7 +30,8 @@ pub fn explore<T: TransitionSystem>(alloc: Global, system: &T) -> Result<Dfa, Al
 }
 
 /// The automaton of the states of the system that are reached from its start state, with their languages. States are numbered
-/// breadth first, letters in increasing order. The work is linear in the edges that are reached, on average.
+/// breadth first, letters in increasing order; that no two of the system's states become one is no clause. The work is linear in the
+/// edges that are reached, on average. `AllocError` where memory runs out.
 pub fn explore_languages<T: LanguageSystem>(alloc: Global, system: &T) -> Result<Dfa, AllocError>
     ensures language { IfOk result (λ built. (w : List ℕ) → IsTrue (accepts built w) ↔ T.accepted system.now w) }
     ensures letters { IfOk result (λ built. built.letters ≡ T.letter_count system.now) }

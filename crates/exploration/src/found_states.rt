@@ -33,7 +33,8 @@ impl<S: Copy + Eq + Drop> FoundStates<S> {
         self.states.len()
     }
 
-    /// Whether the state stands at the place, which may be any number: at most one comparison, and no memory.
+    /// Whether the state was seen at the place, which may be any number: where it says so, the state stands there, and that it always
+    /// says so where it does is no clause. At most one comparison, and no memory.
     pub fn holds(&self, place: usize, state: &S) -> bool
         requires { (x y : S) → S.eq x y ≡ true → x ≡ y }
         ensures { IsTrue result → slice_get self.now.states.items place ≡ Some state.now }

@@ -15,8 +15,8 @@ use crate::parts::Parts;
 use std::alloc::{AllocError, Global};
 use word_automata::Dfa;
 
-/// Finer classes of states of which any two different ones are told apart by words. They are the classes of states that accept the same
-/// words.
+/// Finer classes of states of which any two different ones are told apart by words. That states in one class accept the same words is
+/// no clause: a pass over the classes sees it afterwards.
 pub fn refine(alloc: Global, automaton: &Dfa, coarse: Vec<usize>) -> Result<Vec<usize>, AllocError>
     requires valid { IsValid automaton.now }
     requires coarse { AreCoarse automaton.now coarse.items }
