@@ -33,11 +33,10 @@ use std::alloc::{AllocError, Global};
 use word_automata::{Dfa, Nfa};
 
 /// The deterministic automaton of the sets of states that words lead to (M. O. Rabin and D. Scott, 1959), which accepts the same
-/// words. States are numbered breadth first, which is no clause here. States from which no word is accepted stand in no set. Edges
-/// whose targets are simulated by those of other edges of the same state and letter are dropped first, and states that others of a set
-/// simulate stand in no set, as far as pairs of states were compared. The time is linear in the edges of the automaton and in those that
-/// leave the states of the sets that are reached, up to sorting, on average. Where a letter leads from one state to two, pairs of states
-/// are compared, at most 2 to the 18 of them in at most 16 rounds over their edges, and a set may take time quadratic in its states.
+/// words. States are numbered breadth first, which is no clause here. States from which no word is accepted stand in no set, nor, as far
+/// as pairs were compared, states that others of it simulate; edges whose targets are simulated by those of edges beside them go first.
+/// The time is linear in the edges of the automaton and in those that leave the sets' states, up to sorting, on average. Where a letter
+/// leads from one state to two, at most 2 to the 18 pairs of states are compared in at most 16 rounds, and a set may take its square.
 pub fn determinise(alloc: Global, automaton: &Nfa) -> Result<Dfa, AllocError>
     ensures language { IfOk result (λ dfa. (w : List ℕ) → IsTrue (accepts dfa w) ↔ Accepts automaton.now w) }
     ensures letters { IfOk result (λ dfa. dfa.letters ≡ automaton.now.letters) }

@@ -1,8 +1,7 @@
 //! A simulation between the states of an automaton (R. Milner, 1971), as far as it is asked for: the pairs of states to which one
-//! letter leads from one state, and the pairs on which these depend. Of the pairs those that do not hold are taken out, in rounds from
-//! the last to the first, until a round takes none out (the greatest fixpoint). There are at most 2 to the 18 pairs and 16 rounds, and
-//! pairs are asked for at most 256 times for each state and edge: where it takes more, there is no answer. Where no letter leads to two
-//! states, it costs one pass over the edges.
+//! letter leads from one state, and the pairs on which these depend. Those that do not hold are taken out, in rounds, until a round
+//! takes none out (the greatest fixpoint). There are at most 2 to the 18 pairs and 16 rounds, and pairs are asked for at most 256 times
+//! for each state and edge, or there is no answer. Where no letter leads to two states, it costs one pass over the edges.
 
 ghost use Rattle.std.specs.Prelude.{◌≡◌, false, IsTrue, IfOk, IfSome};
 ghost use Rattle.determinise.specs.Simulation.{IsBelow, IsMatched, AreMatched, IsSimulatedBy, IsSimulation};
@@ -52,15 +51,18 @@ fn ask_siblings(pairs: &mut StatePairs, automaton: &Nfa) -> Result<(), AllocErro
     Ok(())
 }
 
-/// Adds the pairs of different targets of the edges, in order, with one letter.
+/// Adds the pairs of different targets of the edges, in order, with one letter. Of equal edges the first is looked at.
 fn ask_within(pairs: &mut StatePairs, edges: &[(Option<u32>, usize)]) -> Result<(), AllocError> {
-    let mut from = 0;
+    let (mut from, mut last) = (0, None);
     'edges: for &(letter, to) in edges {
         if pairs.len() > MOST_PAIRS {
             return Ok(());
         }
-        from = first_with(edges, from, letter);
-        ask_above(pairs, edges, from, end_of_letter(edges, from, letter), to)?;
+        if last != Some((letter, to)) {
+            from = first_with(edges, from, letter);
+            ask_above(pairs, edges, from, end_of_letter(edges, from, letter), to)?;
+            last = Some((letter, to));
+        }
     }
     Ok(())
 }
