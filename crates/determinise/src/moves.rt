@@ -1,4 +1,5 @@
-//! The moves with a letter out of a set of states.
+//! The moves with a letter out of a set of states, in the order of their letters. They are sorted only where they are out of order,
+//! which costs their number times its logarithm, and else one pass.
 
 ghost use Rattle.std.specs.Prelude.{◌≡◌, ◌↔◌, ◌<◌, ◌++◌, ℕ, Contains, IsTrue, length, map, IfOk, OnOk};
 ghost use Rattle.std.specs.List.{filter_map};

@@ -1,4 +1,5 @@
-//! Sets of states.
+//! The sets of states that moves without a letter reach from some states, by a walk that visits each state once. Where no such move
+//! leaves them, they stay as they are, at the cost of looking at each once.
 
 ghost use Rattle.std.specs.Prelude.{◌≡◌, ◌↔◌, ◌<◌, ℕ, true, false, All, Contains, IsTrue, IfOk, OnOk, length, slice_index_or};
 ghost use Rattle.word_automata.specs.Path.{edges_of, is_accepting};

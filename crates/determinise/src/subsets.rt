@@ -1,4 +1,5 @@
-//! The system of the sets of states of a nondeterministic automaton.
+//! The system of the sets of states of a nondeterministic automaton: a letter leads from a set to the set of all its targets.
+//! The successors of a set cost the edges that leave its states, up to sorting, and the pairs of targets that are compared.
 
 ghost use Rattle.std.specs.Prelude.{◌≡◌, ◌<◌, length};
 ghost use Rattle.std.specs.Cmp.Lexicographic.{bytes_decides};

@@ -1,4 +1,5 @@
-//! The construction of an automaton from a transition system, breadth first.
+//! The construction of an automaton from a transition system, breadth first: each state that is found gets the next number, and its
+//! successors are looked up by code or by hash. It costs time linear in the edges that are reached, on average.
 
 ghost use Rattle.std.specs.Prelude.{◌≡◌, ◌↔◌, ◌<◌, ◌+◌, ℕ, List, [], true, length, slice_get, Some, IsTrue, IfOk, OnOk};
 ghost use Rattle.word_automata.specs.Automaton.{accepts, IsValid};

@@ -1,4 +1,5 @@
-//! Systems of states that stand for languages.
+//! Systems of states that stand for languages, so that a set of states may be any one with the right language.
+//! The trait has no code of its own; what a call costs is the implementation's.
 
 ghost use Rattle.std.specs.Prelude.{◌≡◌, ◌↔◌, ℕ, List, [], true, IsTrue, IfOk, IfSome};
 ghost use Rattle.exploration.specs.Residuals.{StartsWith, AreResiduals};

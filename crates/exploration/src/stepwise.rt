@@ -1,4 +1,5 @@
 //! A transition system as a system of languages: the language of a state is what the system accepts from it.
+//! Each call hands on to the system, and costs what it costs there.
 
 ghost use Rattle.std.specs.Prelude.{ℕ, List, IsTrue};
 ghost use Rattle.exploration.specs.System.{accepts_by, accepts_by_from};

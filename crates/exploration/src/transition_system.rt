@@ -1,4 +1,5 @@
-//! What a deterministic automaton is before its states have numbers.
+//! What a deterministic automaton is before its states have numbers: a start state, and the successors of each state by letters.
+//! The trait has no code of its own; what a call costs is the implementation's.
 
 ghost use Rattle.std.specs.Prelude.{◌≡◌, true, IfOk, IfSome};
 ghost use Rattle.exploration.specs.System.{System, IsSuccessors};

@@ -1,4 +1,5 @@
-//! Canonical automata.
+//! Canonical automata: the least ones of their languages, numbered breadth first (A. Nerode, 1958; J. Hopcroft, 1971, for the classes
+//! of states). Making one costs time linear in the edges times the logarithm of the states; comparing two costs their size.
 
 ghost use Rattle.std.specs.Prelude.{◌≡◌, ◌↔◌, ◌<◌, ◌^◌, List, ℕ, IsTrue, IfOk, length};
 ghost use Rattle.word_automata.specs.Automaton.{accepts};

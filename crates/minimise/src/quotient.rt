@@ -1,4 +1,5 @@
-//! The system of the classes of states.
+//! The system of the classes of states, each named by its least state, from which the canonical automaton is explored.
+//! The successors of a class cost the edges of its least state.
 
 ghost use Rattle.std.specs.Prelude.{◌≡◌, length};
 ghost use Rattle.minimise.specs.Refinement.{HasLeastStates, quotient, IsLeastState, least_state};

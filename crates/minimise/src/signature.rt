@@ -1,4 +1,5 @@
-//! What a round of refinement compares states by.
+//! What a round of refinement compares states by: the class, whether the state accepts, and the classes that letters lead to.
+//! Signatures are hashed by a polynomial over their parts, in time linear in the edges.
 
 ghost use Rattle.std.specs.Prelude.{◌≡◌, ◌↔◌, IsTrue};
 ghost use Rattle.std.specs.Cmp.{partial_equiv_from_equiv};

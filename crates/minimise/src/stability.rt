@@ -1,4 +1,5 @@
-//! Whether classes are stable: states of one class have one signature.
+//! Whether classes are stable: states of one class have one signature. Each state is compared with the least one of its class, in
+//! time linear in the edges of both.
 
 ghost use Rattle.std.specs.Prelude.{◌≡◌, ◌<◌, IsTrue, IfOk, length};
 ghost use Rattle.minimise.specs.Rounds.{IsLikeLeast, AreAlike};

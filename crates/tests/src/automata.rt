@@ -1,4 +1,5 @@
-//! Automata that are built by hand, and their languages.
+//! Automata that are built by hand, and their languages: what builders refuse, what automata accept, and the operations that the
+//! program does not call. Each takes a few states.
 
 ghost use Rattle.std.specs.Prelude.{◌≡◌, IfOk};
 

@@ -1,4 +1,5 @@
 //! Calls of the whole program over a library and sinks in memory, and what they come to.
+//! They cost what the commands cost on small protocols.
 
 use armc_commands::{Status, run};
 use armc_io::{Gate, Library, MemoryLibrary, MemorySink, Sink};

@@ -1,4 +1,5 @@
-//! Canonical automata of equal languages.
+//! Canonical automata of equal languages are equal, and have as many states as the language has residuals.
+//! Each takes a few states.
 
 use minimise::{Canon, canonical, same};
 use std::alloc::Global;

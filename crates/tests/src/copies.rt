@@ -1,4 +1,5 @@
 //! The copy of each value equals it, as it is printed, on a protocol with a cell and a channel.
+//! A copy costs the size of the value.
 
 use crate::moves::{HANDOFF, rules, system};
 use configuration_words::decode;

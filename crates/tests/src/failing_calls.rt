@@ -1,4 +1,5 @@
-//! Calls whose reads or writes fail: the status, and what both sinks took.
+//! Calls whose reads or writes fail: the status, and what both sinks took. The calls that fail are numbered, and each number in turn is
+//! one row of a table.
 
 use crate::calls::{AMPLE, Call, FIRST, Room, answer_of};
 use armc_commands::Status;

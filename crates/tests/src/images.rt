@@ -1,4 +1,5 @@
-//! Images and preimages of words under a rule.
+//! Images and preimages of words under a rule, compared with the words that the definition gives.
+//! Each takes a few states.
 
 use crate::moves::{HANDOFF, rules};
 use image_preimage::{image, preimage};

@@ -1,4 +1,5 @@
-//! Automata of many states, and over many letters.
+//! Automata of many states, and over many letters: a chain of a million states is minimised, and inclusion is decided over four thousand
+//! million letters, which bodies of quadratic time, or with a row for each letter, do not finish.
 
 use boolean_operations::included;
 use minimise::canonical;

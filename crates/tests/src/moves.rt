@@ -1,4 +1,5 @@
 //! The rules of small protocols as transducers: which of them relate two words.
+//! Each protocol is parsed from its text and compiled once.
 
 use crate::read_system;
 use protocol_model::System;

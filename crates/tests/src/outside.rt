@@ -1,4 +1,5 @@
 //! Libraries and sinks that fail in the middle, and those over files and streams.
+//! Each reads or writes a few bytes, or as many as a limit and one more.
 
 use armc_io::{
     FileLibrary, Gate, Library, MemoryLibrary, MemorySink, NoGate, ReadFail, Sink, SinkFail,

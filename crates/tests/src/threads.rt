@@ -1,4 +1,5 @@
 //! Images and preimages in threads: those of two rules are in work at once, also in a whole search, and each rule is asked once.
+//! A gate holds the first that enters until a second one has come, for at most 10,000,000 turns.
 
 ghost use Rattle.std.specs.Prelude.{◌≤◌};
 

@@ -1,4 +1,5 @@
-//! Building a transducer state by state and edge by edge. Each call takes constant time for each edge that it adds, on average.
+//! Building a transducer state by state and edge by edge. The builder keeps a list of edges for each state.
+//! Each call takes constant time for each edge that it adds, on average.
 
 ghost use Rattle.std.specs.Prelude.{◌≡◌, ◌<◌, ◌⊎◌, ◌∷◌, [], All, IfSome, IsSome, IfOk, OnOk, OnErr, length};
 ghost use Rattle.transducers.specs.Builder.{without_states, with_state, with_start, with_edges};
