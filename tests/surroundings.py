@@ -78,7 +78,7 @@ class Tree:
             file.write(FAKE)
         os.chmod(os.path.join(self.bin, "rt"), 0o755)
         self.environment = {**os.environ, "PATH": f"{self.bin}:{os.environ['PATH']}", "FAKE_LIST": self.list, "FAKE_SLEEP": "0", "FAKE_FAULT": ""}
-        self.environment.update(FAKE_KIT="rattle-kit-13f", TMPDIR=folder, ARMC_JOBS="2")
+        self.environment.update(FAKE_KIT="rattle-kit-13b", TMPDIR=folder, ARMC_JOBS="2")
         self.environment.pop("ARMC_TRY", None)
 
     def call(self, *words, program="armc", **changed):
@@ -106,8 +106,8 @@ def launcher():
         found = tree.call("x", FAKE_FAULT="other")
         if found["status"] != 126 or "could not be built, at crate other; " not in found["stderr"] or "top" in found["asked"]:
             wrong.append(f"with a crate that is not proved: {found}")
-        found = tree.call("x", FAKE_KIT="rattle-kit-13e")
-        if found["status"] != 126 or found["asked"] or found["stderr"].count("\n") != 1 or "rattle-kit-13f or later is needed" not in found["stderr"]:
+        found = tree.call("x", FAKE_KIT="rattle-kit-13a")
+        if found["status"] != 126 or found["asked"] or found["stderr"].count("\n") != 1 or "rattle-kit-13b or later is needed" not in found["stderr"]:
             wrong.append(f"with an old kit: {found}")
         os.remove(os.path.join(tree.bin, "rt"))
         if not shutil.which("rt", path=tree.environment["PATH"]):
@@ -126,7 +126,7 @@ def launcher_unproved():
         lines = found["stderr"].splitlines()
         wrong += [] if lines[1:] == ["armc: not proved"] and "nothing of this run is proved" in lines[0] else [f"it says {lines}"]
         found = tree.call("x", ARMC_TRY="1", FAKE_KIT="rattle-kit-12")
-        if found["status"] != 126 or found["stderr"].count("\n") != 1 or "rattle-kit-13f or later is needed" not in found["stderr"]:
+        if found["status"] != 126 or found["stderr"].count("\n") != 1 or "rattle-kit-13b or later is needed" not in found["stderr"]:
             wrong.append(f"with an old kit: {found}")
         return wrong
 
