@@ -4,8 +4,5 @@ pub mod EncodingLemmas
 pub mod DecodingLemmas
 pub mod TextLemmas
 pub mod LetterLemmas
-pub mod ReaderLemmas
-pub mod RunLemmas
-pub mod WrongLemmas
+pub mod GrammarLemmas
 pub mod TokenLemmas
-pub mod ReadingLaws

@@ -1,73 +1,80 @@
--- Which texts are configurations, and where every other text first goes wrong.
-use Rattle.std.specs.Prelude.{◌≡◌, ◌<◌, ◌+◌, ◌⊎◌, ℕ, List, [], ◌∷◌, ◌++◌, map, take, length, slice_get, codes, IsTrue}
-use Rattle.std.specs.List.{join_by}
-use Rattle.protocol_lexer.specs.declared.Place.{Place}
-use Rattle.protocol_lexer.specs.declared.Token.{Token}
-use Rattle.protocol_lexer.specs.Tokens.{AreTokens, IsBadByte}
-use Rattle.protocol_syntax.specs.Symbol.{place_of, spelled}
+-- Which texts are configurations, and where every other text first goes wrong: the grammar of configurations is made of the system's
+-- sections.
+use Rattle.std.specs.Prelude.{ℕ, Bool, true, false, List, [], ◌∷◌}
+use Rattle.protocol_lexer.specs.declared.TokenKind.TheVariants.{Colon, Semicolon}
+use Rattle.forms.specs.declared.fault.SyntaxFault.{SyntaxFault}
+use Rattle.forms.specs.declared.fault.SyntaxFault.TheVariants as Faults
+use Rattle.forms.specs.declared.symbol.Keyword.TheVariants as Words
+use Rattle.forms.specs.declared.symbol.Symbol.TheVariants.{Reserved, Sign}
+use Rattle.forms.specs.Grammar.{Grammar, sign, one_of, gives, ◌>>=◌, ◌or◌, many, means, each}
+use Rattle.forms.specs.FirstFault.{IsMeaning, IsFault}
 use Rattle.protocol_model.specs.declared.system.Section.{Section}
 use Rattle.protocol_model.specs.declared.system.Configuration.{Configuration}
 use Rattle.protocol_model.specs.System.{SystemData}
-use Rattle.protocol_model.specs.Patterns.{fits}
-use Rattle.configuration_words.specs.Texts.{letter_name}
+use Rattle.protocol_model.specs.Patterns.{has_any_length}
 use Rattle.configuration_words.specs.declared.fault.ConfigFault.{ConfigFault}
 use Rattle.configuration_words.specs.declared.fault.ConfigFault.TheVariants.{BadByte, Unexpected, Memory}
 
--- the tokens of a list, each by its bytes: the names of its letters, or `empty` where there is no letter
-abbrev pub list_tokens : Section → List ℕ → List (List ℕ)
-list_tokens section [] = codes "empty" ∷ []
-list_tokens section (a ∷ list) = map (letter_name section) (a ∷ list)
+-- letter { letter }
+unfoldable pub letters : Section → Grammar (List ℕ)
+letters section = do
+  first ← one_of section.letters
+  rest ← many (one_of section.letters)
+  gives (first ∷ rest)
 
--- the name of the section, a colon, and its list
-abbrev pub part_tokens : Section → List ℕ → List (List ℕ)
-part_tokens section list = section.name ∷ codes ":" ∷ list_tokens section list
+unfoldable pub one_letter : Section → Grammar (List ℕ)
+one_letter section = do
+  letter ← one_of section.letters
+  gives (letter ∷ [])
 
--- the parts of all sections
-abbrev pub parts_tokens : List Section → List (List ℕ) → List (List (List ℕ))
-parts_tokens [] lists = []
-parts_tokens (section ∷ sections) [] = []
-parts_tokens (section ∷ sections) (list ∷ lists) = part_tokens section list ∷ parts_tokens sections lists
+-- list = "empty" | letter { letter }, where lists have any length, and else one letter
+unfoldable pub list_of : Bool → Section → Grammar (List ℕ)
+list_of true section = means (Reserved Words.Empty) [] or letters section
+list_of false section = one_letter section
 
--- the tokens of a configuration: its parts with a semicolon between neighbours
-abbrev pub configuration_tokens : SystemData → Configuration → List (List ℕ)
-configuration_tokens s c = join_by (λ part. part) (codes ";" ∷ []) (parts_tokens s.sections c.lists)
+-- part = name ":" list, with the name and the letters of the section
+unfoldable pub part : Section → Grammar (List ℕ)
+part section = do
+  name ← one_of (section.name ∷ [])
+  colon ← sign (Sign Colon)
+  list_of (has_any_length section.kind) section
 
--- the tokens, each by its bytes, are those of this configuration, which fits the system
-pub record AreTokensOf (s : SystemData) (tokens : List (List ℕ)) (c : Configuration) : Type 0 where
-  pub fitting : IsTrue (fits s c)
-  pub spelled_so : tokens ≡ configuration_tokens s c
+-- ";" part
+unfoldable pub later_part : Section → Grammar (List ℕ)
+later_part section = do
+  semicolon ← sign (Sign Semicolon)
+  part section
 
--- some tokens after these complete them to those of a configuration
-abbrev pub CanBeCompleted : SystemData → List (List ℕ) → Type 0
-CanBeCompleted s tokens = (more : List (List ℕ)) × (c : Configuration) × AreTokensOf s (tokens ++ more) c
+-- part { ";" part }, with a part for each section in their order
+unfoldable pub parts : List Section → Grammar (List (List ℕ))
+parts [] = gives []
+parts (section ∷ sections) = do
+  list ← part section
+  lists ← each later_part sections
+  gives (list ∷ lists)
 
--- the bytes of the tokens of a text
-abbrev pub spelled_tokens : List ℕ → List Token → List (List ℕ)
-spelled_tokens text tokens = map (spelled text) tokens
+unfoldable pub configuration : List Section → Grammar Configuration
+configuration sections = do
+  lists ← parts sections
+  gives (record { lists = lists })
 
 -- the text means this configuration
-pub record MeansConfiguration (s : SystemData) (text : List ℕ) (c : Configuration) : Type 0 where
-  pub tokens : List Token
-  pub are_tokens : AreTokens text tokens
-  pub means : AreTokensOf s (spelled_tokens text tokens) c
+abbrev pub MeansConfiguration : SystemData → List ℕ → Configuration → Type 0
+MeansConfiguration s text c = IsMeaning (configuration s.sections) text c
 
--- The token at an index is the first that is wrong: the tokens before it begin a configuration's, and with it they do not; or it is
--- the end of the text, and the tokens are no configuration's.
-pub record IsWrongAt (s : SystemData) (tokens : List (List ℕ)) (j : ℕ) : Type 0 where
-  pub before : CanBeCompleted s (take j tokens)
-  pub here : ((j < length tokens) × (CanBeCompleted s (take (j + 1) tokens) → ⊥))
-      ⊎ ((j ≡ length tokens) × ((c : Configuration) → AreTokensOf s tokens c → ⊥))
+-- the same fault of the grammar
+abbrev pub syntax_fault : ConfigFault → SyntaxFault
+syntax_fault (BadByte place) = Faults.BadByte place
+syntax_fault (Unexpected place) = Faults.Unexpected place
+syntax_fault Memory = Faults.Memory
 
--- the place is that of the first wrong token, or of the end of the text
-pub record IsUnexpectedAt (s : SystemData) (text : List ℕ) (place : Place) : Type 0 where
-  pub tokens : List Token
-  pub are_tokens : AreTokens text tokens
-  pub index : ℕ
-  pub wrong : IsWrongAt s (spelled_tokens text tokens) index
-  pub at : place ≡ place_of text (slice_get tokens index)
-
--- the first fault of a text: a bad byte wherever it stands, and else the first wrong token
+-- the first fault of a text: a bad byte wherever it stands, and else the first token through which the text begins no configuration
 abbrev pub IsFirstFault : SystemData → List ℕ → ConfigFault → Type 0
-IsFirstFault s text (BadByte place) = IsBadByte text place
-IsFirstFault s text (Unexpected place) = IsUnexpectedAt s text place
-IsFirstFault s text Memory = ⊥
+IsFirstFault s text fault = IsFault (configuration s.sections) text (syntax_fault fault)
+
+-- the fault of a configuration that a fault of the grammar is; only private contracts speak of this
+abbrev pub config_fault : SyntaxFault → ConfigFault
+config_fault (Faults.BadByte place) = BadByte place
+config_fault (Faults.Unexpected place) = Unexpected place
+config_fault (Faults.TooMany what place) = Unexpected place
+config_fault Faults.Memory = Memory

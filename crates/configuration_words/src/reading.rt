@@ -1,261 +1,168 @@
-//! From texts to configurations: one pass over the tokens.
-//! A deterministic automaton takes the tokens by their bytes. Its state tells what can still be completed, so the first wrong token is the
-//! first that it cannot take.
+//! From texts to configurations, by a grammar that is made of the system's sections.
+//! Each form reads what it says, with one token of lookahead; time is linear in the tokens, and in a section's letters for each letter.
 
-ghost use Rattle.std.specs.Prelude.{◌≡◌, ◌≢◌, ◌↔◌, ◌++◌, ◌∷◌, [], OnOk, ◌<◌, ◌≤◌, IfErr, IfOk, IfSome, IsTrue, Some, None, if◌then◌else◌, length, position};
-ghost use Rattle.std.specs.List.{AllByRecursion};
-ghost use Rattle.std.specs.Option.{option_map};
-ghost use Rattle.std.specs.Str.{bytes_eq};
-ghost use Rattle.protocol_lexer.specs.Tokens.{LiesIn};
-ghost use Rattle.protocol_syntax.specs.Symbol.{spelled};
+ghost use Rattle.std.specs.Prelude.{◌≡◌, ◌≢◌, ◌↔◌, IfErr, IfOk, IsTrue};
+ghost use Rattle.forms.specs.Grammar.{one_of};
+ghost use Rattle.forms.specs.Reading.{IsRead};
+ghost use Rattle.forms.specs.Symbol.{source_of};
 ghost use Rattle.protocol_model.specs.declared.system.Configuration.{Configuration};
-ghost use Rattle.protocol_model.specs.System.{IsValid, letter_count};
-ghost use Rattle.protocol_model.specs.Patterns.{fits};
-ghost use Rattle.configuration_words.specs.ConfigurationText.{AreTokensOf, IsFirstFault, MeansConfiguration, spelled_tokens};
-ghost use Rattle.configuration_words.specs.ConfigurationReader.{HasFewLetters, IsAtWrongToken, advance, effect_of, letter_effect, letter_number, reader_of, take_effect, whole_lists};
-ghost use Rattle.configuration_words.specs.declared.reading.Stage.TheVariants as Stages;
+ghost use Rattle.protocol_model.specs.System.{IsValid};
+ghost use Rattle.protocol_model.specs.Patterns.{fits, has_any_length};
+ghost use Rattle.configuration_words.specs.ConfigurationText.{IsFirstFault, MeansConfiguration, config_fault, configuration, later_part, letters, list_of, one_letter, part, parts};
 
 use crate::fault::ConfigFault;
-use protocol_lexer::{LexFault, Place, Token, one_reading, tokens};
+use forms::{
+    COLON, Form, FormOf, Keyword, Many, OneOf, SEMICOLON, Sign, Source, Symbol, SyntaxFault, parse,
+    read_each, with_first,
+};
 use protocol_model::{Configuration, Section, System};
 use sequence::Sequence;
-use std::alloc::{AllocError, Global};
-use std::marker::Model;
-use std::mem::replace;
+use std::alloc::Global;
+use std::slice::from_ref;
 
-/// How much of the part of a section was read.
+const EMPTY: Sign = Sign(Symbol::Reserved(Keyword::Empty));
+
+/// A letter of the section, which means its number.
 #[derive(Clone, Copy)]
-enum Stage {
-    /// Nothing: the section's name comes next.
-    Name,
-    /// The name: a colon comes next.
-    Colon,
-    /// The name and the colon: a letter or `empty` comes next.
-    First,
-    /// Some letters, and more may come.
-    Letters,
-    /// The whole part: what comes next stands behind it.
-    Behind,
+struct Letter<'a>(&'a Section);
+
+impl<'a> Form for Letter<'a> {
+    type Meaning = u32;
+
+    ghost grammar = { λ x. one_of x.0.now.letters };
+
+    fn opens(&self, source: &Source<'_>, at: usize) -> bool {
+        OneOf(self.0.letters.as_slice()).opens(source, at)
+    }
+
+    fn read(&self, source: &Source<'_>, at: &mut usize) -> Result<u32, SyntaxFault> {
+        let number = OneOf(self.0.letters.as_slice()).read(source, at)?;
+        u32::try_from(number).map_err(|_| SyntaxFault::Memory)
+    }
 }
 
-/// What a token does where it may stand.
+/// Letters of the section, of which there is at least one.
+#[tactic(auto, unfolding(crate::specs::ConfigurationText::letters, forms::specs::Reading::read_then))]
+fn read_letters(
+    section: &Section,
+    source: &Source<'_>,
+    at: &mut usize,
+) -> Result<Sequence<u32>, SyntaxFault>
+    ensures { IsRead (letters section.now) (source_of source.now.text.now source.now.tokens.now) at.old at.new result }
+{
+    let first = Letter(section).read(source, at)?;
+    let rest = Many(Letter(section)).read(source, at)?;
+    with_first(first, rest.into_vec())
+}
+
+/// A list of exactly one letter.
+#[tactic(auto, unfolding(crate::specs::ConfigurationText::one_letter, forms::specs::Reading::read_then))]
+fn read_one_letter(
+    section: &Section,
+    source: &Source<'_>,
+    at: &mut usize,
+) -> Result<Sequence<u32>, SyntaxFault>
+    ensures { IsRead (one_letter section.now) (source_of source.now.text.now source.now.tokens.now) at.old at.new result }
+{
+    let letter = Letter(section).read(source, at)?;
+    with_first(letter, Vec::new(source.alloc))
+}
+
+/// The list of a section.
+#[tactic(auto, unfolding(crate::specs::ConfigurationText::list_of, forms::specs::Reading::read_or, forms::specs::Reading::read_then))]
+fn read_list(
+    section: &Section,
+    source: &Source<'_>,
+    at: &mut usize,
+) -> Result<Sequence<u32>, SyntaxFault>
+    ensures { IsRead (list_of (has_any_length section.now.kind) section.now)
+        (source_of source.now.text.now source.now.tokens.now) at.old at.new result }
+{
+    if !section.has_any_length() {
+        return read_one_letter(section, source, at);
+    }
+    if EMPTY.opens(source, *at) {
+        EMPTY.read(source, at)?;
+        return Ok(Sequence::from_vec(Vec::new(source.alloc)));
+    }
+    read_letters(section, source, at)
+}
+
+/// The part of a section.
+#[tactic(auto, unfolding(crate::specs::ConfigurationText::part, forms::specs::Reading::read_then))]
+fn read_part(
+    section: &Section,
+    source: &Source<'_>,
+    at: &mut usize,
+) -> Result<Sequence<u32>, SyntaxFault>
+    ensures { IsRead (part section.now) (source_of source.now.text.now source.now.tokens.now) at.old at.new result }
+{
+    OneOf(from_ref(&section.name)).read(source, at)?;
+    COLON.read(source, at)?;
+    read_list(section, source, at)
+}
+
+/// The parts behind the first.
 #[derive(Clone, Copy)]
-enum Effect {
-    /// It leads to this stage.
-    To(Stage),
-    /// It is the letter of this number, and leads to this stage.
-    Letter(u32, Stage),
-    /// It ends the part.
-    End,
-}
+struct LaterPart;
 
-/// What was read: the sections that are left, how much of the first one's part, its letters so far, and the lists of the sections before.
-#[derive(Drop)]
-struct Reader<'a> {
-    left: &'a [Section],
-    stage: Stage,
-    list: Vec<u32>,
-    lists: Vec<Sequence<u32>>,
-}
+impl FormOf for LaterPart {
+    type Value = Section;
 
-impl<'a> Model for Reader<'a> {
-    ghost use Rattle.configuration_words.specs.ConfigurationReader.{ReaderData, reader_of};
+    type Meaning = Sequence<u32>;
 
-    ghost Value = { ReaderData };
+    ghost grammar = { λ _ section. later_part section };
 
-    ghost view = { λ r. reader_of r.left.now r.stage r.list.items r.lists.items };
-}
-
-impl<'a> Reader<'a> {
-    /// Nothing was read. It takes no memory.
-    fn new(alloc: Global, sections: &'a [Section]) -> Reader<'a>
-        ensures { result ≡ reader_of sections.now Stages.Name [] [] }
-    {
-        Reader {
-            left: sections,
-            stage: Stage::Name,
-            list: Vec::new(alloc),
-            lists: Vec::new(alloc),
-        }
-    }
-
-    /// Reads the token, if it may stand here, and says whether it may.
-    fn accept(&mut self, alloc: Global, token: &[u8]) -> Result<bool, AllocError>
-        requires { HasFewLetters self.old.left }
-        ensures { IfOk result (λ accepted. advance self.old token.now ≡ (if accepted then Some self.new else None)) }
-    {
-        let [section, others @ ..] = self.left else {
-            return Ok(false);
-        };
-        match effect_of(section, self.stage, token) {
-            Some(Effect::To(stage)) => {
-                self.stage = stage;
-                Ok(true)
-            }
-            Some(Effect::Letter(letter, stage)) => {
-                self.list.push(letter)?;
-                self.stage = stage;
-                Ok(true)
-            }
-            Some(Effect::End) => self.end_part(alloc, others),
-            None => Ok(false),
-        }
-    }
-
-    /// Goes on to the next of the other sections, if there is one, and says whether there is.
-    fn end_part(&mut self, alloc: Global, others: &'a [Section]) -> Result<bool, AllocError>
-        ensures { IfOk result (λ ended. take_effect self.old others.now (Some Effect.End) ≡ (if ended then Some self.new else None)) }
-    {
-        if others.is_empty() {
-            return Ok(false);
-        }
-        self.keep_list(alloc)?;
-        self.left = others;
-        self.stage = Stage::Name;
-        Ok(true)
-    }
-
-    /// Appends the letters so far to the lists, and begins another list.
-    fn keep_list(&mut self, alloc: Global) -> Result<(), AllocError>
-        ensures { OnOk result (self.new ≡ reader_of self.old.left self.old.stage [] (self.old.lists ++ self.old.list ∷ [])) }
-    {
-        let list = replace(&mut self.list, Vec::new(alloc));
-        self.lists.push(Sequence::from_vec(list))?;
-        Ok(())
-    }
-
-    /// The lists of all sections, if the text may end here.
-    fn finish(mut self, alloc: Global) -> Result<Option<Vec<Sequence<u32>>>, AllocError>
-        ensures { IfOk result (λ found. option_map (λ lists. lists.items) found ≡ whole_lists self.entry) }
-    {
-        let [_] = self.left else {
-            return Ok(None);
-        };
-        match self.stage {
-            Stage::Letters | Stage::Behind => {
-                self.keep_list(alloc)?;
-                Ok(Some(self.lists))
-            }
-            _ => Ok(None),
-        }
+    #[tactic(auto, unfolding(crate::specs::ConfigurationText::later_part, forms::specs::Reading::read_then))]
+    fn read_for(
+        &self,
+        section: &Section,
+        source: &Source<'_>,
+        at: &mut usize,
+    ) -> Result<Sequence<u32>, SyntaxFault> {
+        SEMICOLON.read(source, at)?;
+        read_part(section, source, at)
     }
 }
 
-/// What the token does at this stage of the section's part, if it may stand there.
-fn effect_of(section: &Section, stage: Stage, token: &[u8]) -> Option<Effect>
-    requires { letter_count section.now ≤ 256 }
-    ensures { result ≡ effect_of section.now stage token.now }
+/// The parts of all sections.
+#[tactic(auto, unfolding(crate::specs::ConfigurationText::parts, forms::specs::Reading::read_then))]
+fn read_parts(
+    sections: &[Section],
+    source: &Source<'_>,
+    at: &mut usize,
+) -> Result<Sequence<Sequence<u32>>, SyntaxFault>
+    ensures { IsRead (parts sections.now) (source_of source.now.text.now source.now.tokens.now) at.old at.new result }
 {
-    match stage {
-        Stage::Name => {
-            if is(token, section.name.as_str().as_bytes()) {
-                Some(Effect::To(Stage::Colon))
-            } else {
-                None
-            }
-        }
-        Stage::Colon => {
-            if is(token, b":") {
-                Some(Effect::To(Stage::First))
-            } else {
-                None
-            }
-        }
-        Stage::First => first_effect(section, token),
-        Stage::Letters => {
-            if is(token, b";") {
-                Some(Effect::End)
-            } else {
-                letter_effect(section, Stage::Letters, token)
-            }
-        }
-        Stage::Behind => {
-            if is(token, b";") {
-                Some(Effect::End)
-            } else {
-                None
-            }
+    let Some((section, others)) = sections.split_first() else {
+        return Ok(Sequence::from_vec(Vec::new(source.alloc)));
+    };
+    let list = read_part(section, source, at)?;
+    let lists = read_each(&LaterPart, others, source, at)?;
+    with_first(list, lists.into_vec())
+}
+
+/// A configuration of the system.
+#[derive(Clone, Copy)]
+struct AnyConfiguration<'a>(&'a System);
+
+impl<'a> Form for AnyConfiguration<'a> {
+    type Meaning = Configuration;
+
+    ghost grammar = { λ x. configuration x.0.now.sections };
+
+    #[tactic(auto, unfolding(crate::specs::ConfigurationText::configuration, crate::specs::ConfigurationText::parts, crate::specs::ConfigurationText::part))]
+    fn opens(&self, source: &Source<'_>, at: usize) -> bool {
+        match sections(self.0).first() {
+            Some(section) => OneOf(from_ref(&section.name)).opens(source, at),
+            None => false,
         }
     }
-}
 
-/// What the token does behind the colon, if it may stand there.
-fn first_effect(section: &Section, token: &[u8]) -> Option<Effect>
-    requires { letter_count section.now ≤ 256 }
-    ensures { result ≡ effect_of section.now Stages.First token.now }
-{
-    let any = section.has_any_length();
-    if is(token, b"empty") {
-        return if any {
-            Some(Effect::To(Stage::Behind))
-        } else {
-            None
-        };
-    }
-    let stage = if any { Stage::Letters } else { Stage::Behind };
-    letter_effect(section, stage, token)
-}
-
-/// What the letter of this name does where it leads to this stage, if there is such a letter.
-fn letter_effect(section: &Section, stage: Stage, token: &[u8]) -> Option<Effect>
-    requires { letter_count section.now ≤ 256 }
-    ensures { result ≡ letter_effect section.now stage token.now }
-{
-    match letter_number(section, token) {
-        Some(number) => Some(Effect::Letter(number as u32, stage)),
-        None => None,
-    }
-}
-
-/// The number of the letter of this name, if there is one.
-fn letter_number(section: &Section, token: &[u8]) -> Option<usize>
-    ensures number { result ≡ letter_number section.now token.now }
-    ensures within { IfSome result (λ number. number < letter_count section.now) }
-{
-    section
-        .letters
-        .as_slice()
-        .iter()
-        .position(|letter| is(token, letter.as_str().as_bytes()))
-}
-
-fn is(token: &[u8], text: &[u8]) -> bool
-    ensures { result ≡ bytes_eq token.now text.now }
-{
-    token == text
-}
-
-/// The bytes of the token.
-fn spelled(text: &[u8], token: Token) -> &[u8]
-    requires { LiesIn text.now token }
-    ensures { result.now ≡ spelled text.now token }
-{
-    &text[token.start..token.end]
-}
-
-/// The lists of the configuration that the tokens of the text are those of.
-fn read_lists(
-    alloc: Global,
-    system: &System,
-    text: &[u8],
-    tokens: &[Token],
-) -> Result<Vec<Sequence<u32>>, ConfigFault>
-    requires { AllByRecursion (LiesIn text.now) tokens.now }
-    ensures lists { IfOk result (λ lists. (c : Configuration)
-        → AreTokensOf system.now (spelled_tokens text.now tokens.now) c ↔ (lists.items ≡ c.lists)) }
-    ensures wrong { IfErr result (λ fault. fault ≢ ConfigFault.Memory → IsAtWrongToken system.now text.now tokens.now fault) }
-{
-    let mut reader = Reader::new(alloc, sections(system));
-    'tokens: for token in tokens {
-        if !reader.accept(alloc, spelled(text, *token))? {
-            return Err(ConfigFault::Unexpected { place: token.place });
-        }
-    }
-    match reader.finish(alloc)? {
-        Some(lists) => Ok(lists),
-        None => Err(ConfigFault::Unexpected {
-            place: Place::end_of(text),
-        }),
+    #[tactic(auto, unfolding(crate::specs::ConfigurationText::configuration, forms::specs::Reading::read_then))]
+    fn read(&self, source: &Source<'_>, at: &mut usize) -> Result<Configuration, SyntaxFault> {
+        let lists = read_parts(sections(self.0), source, at)?;
+        Ok(Configuration { lists })
     }
 }
 
@@ -278,16 +185,22 @@ pub fn read_configuration(
     ensures fault { IfErr result (λ fault. fault ≢ ConfigFault.Memory
         → (other : ConfigFault) → IsFirstFault system.now text.now other ↔ (fault ≡ other)) }
 {
-    one_reading();
-    let tokens = match tokens(alloc, text) {
-        Ok(tokens) => tokens,
-        Err(LexFault::BadByte { place }) => return Err(ConfigFault::BadByte { place }),
-        Err(LexFault::Memory) => return Err(ConfigFault::Memory),
-    };
-    let lists = read_lists(alloc, system, text, tokens.as_slice())?;
-    Ok(Configuration {
-        lists: Sequence::from_vec(lists),
-    })
+    match parse(alloc, &AnyConfiguration(system), text) {
+        Ok(found) => Ok(found),
+        Err(fault) => Err(config_fault(fault)),
+    }
+}
+
+/// The fault of a configuration that this fault is. No item of a configuration has a limit.
+fn config_fault(fault: SyntaxFault) -> ConfigFault
+    ensures { result ≡ config_fault fault }
+{
+    match fault {
+        SyntaxFault::BadByte { place } => ConfigFault::BadByte { place },
+        SyntaxFault::Unexpected { place } => ConfigFault::Unexpected { place },
+        SyntaxFault::TooMany { place, .. } => ConfigFault::Unexpected { place },
+        SyntaxFault::Memory => ConfigFault::Memory,
+    }
 }
 
 /// The sections of the system, which is valid.

@@ -1,11 +1,4 @@
 pub mod Lexing
-pub mod Openings
-pub mod Ensured
-pub mod Readings
-pub mod Said
-pub mod LayoutTokens
-pub mod Symbols
-pub mod PartsAgain
-pub mod SectionsAgain
-pub mod MovesAgain
+pub mod PartsWritten
+pub mod MovesWritten
 pub mod ReadBack

@@ -1,7 +1,7 @@
 -- The canonical layout of a protocol: its words, and how they stand on lines.
 use Rattle.std.specs.Prelude.{ℕ, List, [], ◌∷◌, ◌++◌, Option, Some, None, codes, map, if◌then◌else◌}
 use Rattle.std.specs.List.{flat_map}
-use Rattle.protocol_syntax.specs.declared.protocol.Name.{Name}
+use Rattle.forms.specs.declared.name.Name.{Name}
 use Rattle.protocol_syntax.specs.declared.protocol.Protocol.{Protocol}
 use Rattle.protocol_syntax.specs.declared.protocol.SectionText.{SectionText}
 use Rattle.protocol_syntax.specs.declared.protocol.RowText.{RowText}

@@ -6,7 +6,7 @@ use Rattle.std.specs.Str.{bytes_eq}
 use Rattle.std.proofs.lemmas.Option.{slice_get-map}
 use Rattle.protocol_syntax.specs.declared.protocol.Kind.{Kind}
 use Rattle.protocol_syntax.specs.declared.protocol.Kind.TheVariants.{Cell, Array, Channel, Stack as StackKind}
-use Rattle.protocol_syntax.specs.declared.protocol.Name.{Name}
+use Rattle.forms.specs.declared.name.Name.{Name}
 use Rattle.protocol_syntax.specs.declared.protocol.Protocol.{Protocol}
 use Rattle.protocol_syntax.specs.declared.protocol.SectionText.{SectionText}
 use Rattle.protocol_syntax.specs.declared.protocol.RowText.{RowText}

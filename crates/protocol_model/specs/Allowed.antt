@@ -2,7 +2,7 @@
 use Rattle.std.specs.Prelude.{◌<◌, ◌≤◌, List, Option, None, Some, length, sum_by}
 use Rattle.std.specs.List.{AllByRecursion}
 use Rattle.protocol_model.specs.Names.{IsName}
-use Rattle.protocol_syntax.specs.declared.protocol.Name.{Name}
+use Rattle.forms.specs.declared.name.Name.{Name}
 use Rattle.protocol_syntax.specs.declared.protocol.Protocol.{Protocol}
 use Rattle.protocol_syntax.specs.declared.protocol.SectionText.{SectionText}
 use Rattle.protocol_syntax.specs.declared.protocol.RowText.{RowText}

@@ -2,7 +2,7 @@
 use Rattle.std.specs.Prelude.{◌&&◌, ℕ, Bool, List, length, nat_lt, nat_le, is_none, IsTrue}
 use Rattle.std.specs.List.{list_all}
 use Rattle.protocol_lexer.specs.Piece.{is_word_byte}
-use Rattle.protocol_syntax.specs.Symbol.{keyword_of}
+use Rattle.forms.specs.Symbol.{keyword_of}
 
 -- whether the text is a word of 1 to 32 bytes, each a letter of ASCII, a digit or an underscore
 abbrev pub is_word : List ℕ → Bool

@@ -2,7 +2,7 @@
 use Rattle.std.specs.Prelude.{◌≡◌, ◌⊎◌, ℕ, true, List, Option, None, Some, Result, Ok, Err}
 use Rattle.std.specs.Option.{option_map}
 use Rattle.protocol_syntax.specs.declared.protocol.Kind.{Kind}
-use Rattle.protocol_syntax.specs.declared.protocol.Name.{Name}
+use Rattle.forms.specs.declared.name.Name.{Name}
 use Rattle.protocol_syntax.specs.declared.protocol.SectionText.{SectionText}
 use Rattle.protocol_model.specs.declared.fault.ModelFault.{ModelFault}
 use Rattle.protocol_model.specs.declared.fault.ModelFault.TheVariants.{Memory}

@@ -1,13 +1,4 @@
-pub mod Sets
-pub mod Laws
-pub mod Loops
-pub mod Words
-pub mod TokenLaws
-pub mod Repeats
-pub mod Openings
-pub mod AllTokens
-pub mod GrammarLaws
-pub mod ParseLaws
-pub mod Letters
+mod Letters
+pub mod Told
 pub mod Lexing
-pub mod ReadingLaws
+pub mod Printed

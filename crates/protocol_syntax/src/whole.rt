@@ -1,38 +1,68 @@
 //! Reading a protocol.
-//! The tokens are made first, and then read once from the left, so that the first fault is that of the first wrong token.
+//! A form is read by recursive descent with one token of lookahead; time is linear in the tokens.
 
-ghost use Rattle.std.specs.Prelude.{◌≡◌, ◌≢◌, ◌≤◌, ◌<◌, ◌↔◌, IfErr, IfOk};
-ghost use Rattle.protocol_syntax.specs.Symbol.{source_of};
-ghost use Rattle.protocol_syntax.specs.Reading.{Gives};
-ghost use Rattle.protocol_syntax.specs.Grammar.{IsFirstFault, IsProtocol};
-ghost use Rattle.protocol_syntax.specs.GrammarReading.{read_protocol};
+ghost use Rattle.std.specs.Prelude.{◌≡◌, ◌≢◌, ◌↔◌, IfErr, IfOk};
+ghost use Rattle.protocol_syntax.specs.Grammar.{IsFirstFault, IsProtocol, protocol};
 
-use crate::fault::{SyntaxFault, What};
+use crate::limits::{MAX_ROWS, MAX_RULES};
+use crate::moves::Rule;
 use crate::protocol::Protocol;
-use crate::source::{Source, with_first};
-use crate::symbol::{Keyword, Symbol};
-use protocol_lexer::{LexFault, one_reading, tokens};
-use sequence::Sequence;
+use crate::rows::Row;
+use crate::sections::{MoreSections, Section};
+use forms::{
+    AnyName, Form, Keyword, Sign, Source, Symbol, SyntaxFault, UpTo, What, read_many, with_first,
+};
 use std::alloc::Global;
 
-impl Source<'_> {
-    #[tactic(auto, unfolding(crate::specs::GrammarReading::read_protocol, crate::specs::Reading::read_then))]
-    fn protocol(&self, at: &mut usize) -> Result<Protocol, SyntaxFault>
-        ensures gives { Gives (read_protocol (source_of self.now.text.now self.now.tokens.now) at.old) at.new result }
-    {
-        self.sign(at, Symbol::Reserved(Keyword::Protocol))?;
-        let name = self.name(at)?;
-        let first = self.section(at, 0)?;
-        let more = self.more_sections(at, &first)?;
-        let init = self.rows(at, Keyword::Init, What::InitRows)?;
-        let rules = self.rules(at)?;
-        let bad = self.rows(at, Keyword::Bad, What::BadRows)?;
+const PROTOCOL: Sign = Sign(Symbol::Reserved(Keyword::Protocol));
+
+const INIT: UpTo<Row> = UpTo {
+    limit: MAX_ROWS,
+    what: What::InitRows,
+    form: Row(Keyword::Init),
+};
+
+const RULES: UpTo<Rule> = UpTo {
+    limit: MAX_RULES,
+    what: What::Rules,
+    form: Rule,
+};
+
+const BAD: UpTo<Row> = UpTo {
+    limit: MAX_ROWS,
+    what: What::BadRows,
+    form: Row(Keyword::Bad),
+};
+
+/// A whole protocol.
+#[derive(Clone, Copy)]
+struct WholeProtocol;
+
+impl Form for WholeProtocol {
+    type Meaning = Protocol;
+
+    ghost grammar = { λ _. protocol };
+
+    #[tactic(auto, unfolding(crate::specs::Grammar::protocol))]
+    fn opens(&self, source: &Source<'_>, at: usize) -> bool {
+        PROTOCOL.opens(source, at)
+    }
+
+    #[tactic(auto, unfolding(crate::specs::Grammar::protocol, crate::specs::Grammar::more_sections, forms::specs::Reading::read_then))]
+    fn read(&self, source: &Source<'_>, at: &mut usize) -> Result<Protocol, SyntaxFault> {
+        PROTOCOL.read(source, at)?;
+        let name = AnyName.read(source, at)?;
+        let first = Section { used: 0 }.read(source, at)?;
+        let more = read_many(&MoreSections { first: &first }, source, at)?;
+        let init = INIT.read(source, at)?;
+        let rules = RULES.read(source, at)?;
+        let bad = BAD.read(source, at)?;
         Ok(Protocol {
             name,
-            sections: with_first(first, more)?,
-            init: Sequence::from_vec(init),
-            rules: Sequence::from_vec(rules),
-            bad: Sequence::from_vec(bad),
+            sections: with_first(first, more.into_vec())?,
+            init,
+            rules,
+            bad,
         })
     }
 }
@@ -49,22 +79,5 @@ pub fn parse(alloc: Global, text: &[u8]) -> Result<Protocol, SyntaxFault>
     ensures fault { IfErr result (λ fault. fault ≢ SyntaxFault.Memory
         → (other : SyntaxFault) → IsFirstFault text.now other ↔ (fault ≡ other)) }
 {
-    one_reading();
-    let tokens = match tokens(alloc, text) {
-        Ok(tokens) => tokens,
-        Err(LexFault::BadByte { place }) => return Err(SyntaxFault::BadByte { place }),
-        Err(LexFault::Memory) => return Err(SyntaxFault::Memory),
-    };
-    let source = Source {
-        alloc,
-        text,
-        tokens: tokens.as_slice(),
-    };
-    let mut at = 0;
-    let protocol = source.protocol(&mut at)?;
-    if at == tokens.len() {
-        Ok(protocol)
-    } else {
-        Err(source.unexpected(at))
-    }
+    forms::parse(alloc, &WholeProtocol, text)
 }

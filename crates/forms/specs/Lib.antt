@@ -1,0 +1,5 @@
+pub mod Symbol
+pub mod Grammar
+pub mod FirstFault
+pub mod Shape
+pub mod Reading

@@ -1,0 +1,97 @@
+-- In protocol texts the next symbol always tells how to go on.
+use Rattle.std.proofs.Common.{◌≡◌, ℕ, true, refl}
+use Rattle.protocol_syntax.specs.declared.protocol.SectionText.{SectionText}
+use Rattle.forms.specs.declared.symbol.Keyword.{Keyword}
+use Rattle.forms.specs.declared.symbol.Keyword.TheVariants as Words
+use Rattle.forms.specs.Grammar.{up_to}
+use Rattle.forms.specs.Shape.{IsUniform, shape, is_told, code, code_of_keyword, code_of_sign}
+use Rattle.protocol_syntax.specs.Grammar.{kind, section, more_sections, set, letter_base, set_base, base, count, atom, atoms, pattern, part, row, quantifier, region, guard, entry, table, at_move, four_names, pair_move, ring_move, two_move, set_move, send_move, recv_move, pushed, pop_move, push_move, channel_or_stack_move, any_move, step, rule, protocol}
+
+pub protocol_is_told : is_told (shape protocol) ≡ true
+unfolding kind section more_sections set letter_base set_base base count atom atoms pattern part row quantifier region guard entry table
+    at_move four_names pair_move ring_move two_move set_move send_move recv_move pushed pop_move push_move channel_or_stack_move
+    any_move step rule protocol up_to code code_of_keyword code_of_sign
+protocol_is_told = refl
+
+kind_is_uniform : IsUniform kind
+unfolding kind
+kind_is_uniform = search depth 40 parts 40
+
+section_is_uniform : (used : ℕ) → IsUniform (section used)
+unfolding section up_to
+section_is_uniform used = search kind_is_uniform depth 40 parts 40
+
+more_sections_is_uniform : (first : SectionText) → IsUniform (more_sections first)
+unfolding more_sections section up_to
+more_sections_is_uniform first = search kind_is_uniform depth 40 parts 40
+
+set_is_uniform : IsUniform set
+unfolding set
+set_is_uniform = search depth 40 parts 40
+
+base_is_uniform : IsUniform base
+unfolding base letter_base set_base
+base_is_uniform = search set_is_uniform depth 40 parts 40
+
+count_is_uniform : IsUniform count
+unfolding count
+count_is_uniform = search depth 40 parts 40
+
+atom_is_uniform : IsUniform atom
+unfolding atom
+atom_is_uniform = search (base_is_uniform, count_is_uniform) depth 40 parts 40
+
+pattern_is_uniform : IsUniform pattern
+unfolding pattern atoms up_to
+pattern_is_uniform = search atom_is_uniform depth 40 parts 40
+
+row_is_uniform : (word : Keyword) → IsUniform (row word)
+unfolding row part
+row_is_uniform word = search pattern_is_uniform depth 40 parts 40
+
+guard_is_uniform : IsUniform guard
+unfolding guard quantifier region
+guard_is_uniform = search set_is_uniform depth 40 parts 40
+
+table_is_uniform : IsUniform table
+unfolding table entry
+table_is_uniform = search depth 40 parts 40
+
+at_move_is_uniform : IsUniform at_move
+unfolding at_move up_to
+at_move_is_uniform = search (guard_is_uniform, table_is_uniform) depth 40 parts 40
+
+four_names_is_uniform : (word : Keyword) → IsUniform (four_names word)
+unfolding four_names
+four_names_is_uniform word = search depth 40 parts 40
+
+pushed_is_uniform : IsUniform pushed
+unfolding pushed up_to
+pushed_is_uniform = search depth 40 parts 40
+
+any_move_is_uniform : IsUniform any_move
+unfolding any_move pair_move ring_move two_move set_move channel_or_stack_move send_move recv_move pop_move push_move
+any_move_is_uniform = search (at_move_is_uniform, four_names_is_uniform, pushed_is_uniform) depth 40 parts 40
+
+rule_is_uniform : IsUniform rule
+unfolding rule step
+rule_is_uniform = search any_move_is_uniform depth 40 parts 40
+
+pub protocol_is_uniform : IsUniform protocol
+unfolding protocol more_sections section up_to
+protocol_is_uniform = (
+  refl,
+  λ _. (
+    tt,
+    λ _. (
+      section_is_uniform 0,
+      λ first. (
+        more_sections_is_uniform first,
+        λ _. (
+          λ _. row_is_uniform Words.Init,
+          λ _. (λ _. rule_is_uniform, λ _. (λ _. row_is_uniform Words.Bad, λ _. tt)),
+        ),
+      ),
+    ),
+  ),
+)

@@ -1,0 +1,115 @@
+//! Reading sections.
+//! The letters of the earlier sections are counted anew for each section, of which there are few.
+
+ghost use Rattle.std.specs.Prelude.{◌≡◌, ◌-◌, ◌∷◌, length, min, nat_le};
+ghost use Rattle.forms.specs.declared.fault.What.TheVariants as Limits;
+ghost use Rattle.forms.specs.Grammar.{item};
+ghost use Rattle.protocol_syntax.specs.declared.limits.TheConstants.{MAX_SECTIONS, MAX_LETTERS};
+ghost use Rattle.protocol_syntax.specs.Grammar.{letters_of, section};
+
+use crate::limits::{MAX_LETTERS, MAX_SECTIONS};
+use crate::protocol::{Kind, SectionText};
+use forms::{
+    AnyName, BRACE_LEFT, BRACE_RIGHT, Form, Item, Items, Keyword, Means, Or, Source, Symbol,
+    SyntaxFault, UpTo, What, with_first,
+};
+
+const KIND: Or<Means<Kind>, Or<Means<Kind>, Or<Means<Kind>, Means<Kind>>>> = Or(
+    Means(Symbol::Reserved(Keyword::Cell), Kind::Cell),
+    Or(
+        Means(Symbol::Reserved(Keyword::Array), Kind::Array),
+        Or(
+            Means(Symbol::Reserved(Keyword::Channel), Kind::Channel),
+            Means(Symbol::Reserved(Keyword::Stack), Kind::Stack),
+        ),
+    ),
+);
+
+/// A section, where the earlier sections have so many letters together.
+#[derive(Clone, Copy)]
+pub struct Section {
+    pub used: usize,
+}
+
+impl Form for Section {
+    type Meaning = SectionText;
+
+    ghost grammar = { λ x. section x.used };
+
+    #[tactic(auto, unfolding(crate::specs::Grammar::section, crate::specs::Grammar::kind))]
+    fn opens(&self, source: &Source<'_>, at: usize) -> bool {
+        KIND.opens(source, at)
+    }
+
+    #[tactic(auto, unfolding(crate::specs::Grammar::section, crate::specs::Grammar::kind, forms::specs::Reading::read_then))]
+    fn read(&self, source: &Source<'_>, at: &mut usize) -> Result<SectionText, SyntaxFault> {
+        let kind = KIND.read(source, at)?;
+        let name = AnyName.read(source, at)?;
+        BRACE_LEFT.read(source, at)?;
+        let one = Item {
+            full: MAX_LETTERS <= self.used,
+            what: What::Letters,
+            form: AnyName,
+        };
+        let letter = one.read(source, at)?;
+        let others = UpTo {
+            limit: (MAX_LETTERS - 1).saturating_sub(self.used),
+            what: What::Letters,
+            form: AnyName,
+        };
+        let more = others.read(source, at)?;
+        BRACE_RIGHT.read(source, at)?;
+        Ok(SectionText {
+            kind,
+            name,
+            letters: with_first(letter, more.into_vec())?,
+        })
+    }
+}
+
+/// The sections behind the first.
+#[derive(Clone, Copy)]
+pub struct MoreSections<'a> {
+    pub first: &'a SectionText,
+}
+
+impl<'a> Items for MoreSections<'a> {
+    type Item = SectionText;
+
+    ghost next = { λ x before. item (nat_le (MAX_SECTIONS - 1) (length before)) Limits.Sections
+        (section (letters_of (x.first.now ∷ before))) };
+
+    #[tactic(auto, unfolding(crate::specs::Grammar::section, crate::specs::Grammar::kind))]
+    fn opens_next(&self, _before: &[SectionText], source: &Source<'_>, at: usize) -> bool {
+        KIND.opens(source, at)
+    }
+
+    fn read_next(
+        &self,
+        before: &[SectionText],
+        source: &Source<'_>,
+        at: &mut usize,
+    ) -> Result<SectionText, SyntaxFault> {
+        let used = used_letters(before)
+            .saturating_add(self.first.letters.len())
+            .min(MAX_LETTERS);
+        let next = Item {
+            full: MAX_SECTIONS - 1 <= before.len(),
+            what: What::Sections,
+            form: Section { used },
+        };
+        next.read(source, at)
+    }
+}
+
+/// How many letters the sections have together, as far as the limit cares.
+fn used_letters(sections: &[SectionText]) -> usize
+    ensures { result ≡ min (letters_of sections.now) MAX_LETTERS }
+{
+    match sections {
+        [] => 0,
+        [section, others @ ..] => used_letters(others)
+            .saturating_add(section.letters.len())
+            .min(MAX_LETTERS),
+    }
+}
