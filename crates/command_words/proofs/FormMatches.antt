@@ -5,14 +5,16 @@ use Rattle.std.specs.Prelude.{find, fold, slice_get, option_and_then}
 use Rattle.std.specs.Str.{IsUtf8, bytes_eq, chars, encode_utf8_all}
 use Rattle.std.proofs.lemmas.Slice.Eq.{bytes_eq-Decides}
 use Rattle.std.proofs.lemmas.Str.{IsUtf8-string_bytes, IsUtf8-from_ascii, IsUtf8-past_char, encodes-chars}
-use Rattle.clap.specs.Faults.{check_fault, defaults_fault, fault_of, level_fault, settle_fault, walk_fault, built_fault}
+use Rattle.clap.specs.Faults.{check_fault, defaults_fault, fault_of, level_fault, settle_fault, walk_fault, built_fault, is_simple_and_free}
 use Rattle.clap.specs.Kinds.{Kinds, check_kinds, or_else}
 use Rattle.clap.specs.Simple.{App, built, matches_of, names_of}
 use Rattle.clap.specs.Walk.{Row, Text, finished, first_of, has_row, more_values, nothing_held, settled, walk, walk_from, with_default, reading_by}
 use Rattle.clap.specs.declared.parser.matches.ValueSource.TheVariants.{DefaultValue}
 use Rattle.clap.proofs.FaultLemmas.{leaf_fault}
 use Rattle.command_words.specs.Parsing.{Fails, HasBindings, first_or_default, parser_of}
-use Rattle.command_words.specs.Words.{Binding, Form, bindings, bindings_of, bound_once, is_among, is_once, value_of, check_form, verify_form, show_form, steps_form, generate_form}
+use Rattle.command_words.specs.Words.{Binding, Form, bindings, bindings_of, bound_once, is_among, is_once, form_of, value_of}
+use Rattle.command_words.specs.declared.forms.Name.{Name}
+use Rattle.command_words.specs.declared.forms.Name.TheVariants as names
 use Rattle.command_words.proofs.FormRules.{IsLeft, built_flag, built_rules, defaults_of_positionals, defaults_of_valued, form_rules, form_shape, no_default_fault, none_required}
 use Rattle.command_words.proofs.FormWalk.{Adds, AllHaveHeads, HasHead, Judged, accepted, rejected, at_row_missing, judges, faults, rows_after}
 
@@ -54,10 +56,10 @@ or_else_nil : (a : Kinds) → or_else a [] ≡ a
 or_else_nil [] = refl
 or_else_nil (k ∷ a) = refl
 
-level_is : (title : Text) (form : Form) (words : List Text)
-    → level_fault (form_shape title form) [] nothing_held words false [] ≡ faults title form (walk_from nothing_held) words
-level_is title form words =
-    let s = form_shape title form in
+level_is : (form : Form) (words : List Text)
+    → level_fault (form_shape form) [] nothing_held words false [] ≡ faults form (walk_from nothing_held) words
+level_is form words =
+    let s = form_shape form in
     let w = walk_fault s [] (walk_from nothing_held) words in
     let end = (walk s.rules [] nothing_held words).held in
     let rest : or_else (defaults_fault (settled s.rules end).rows s.rules) (check_fault s (finished s.rules end) false) ≡ [] =
@@ -65,13 +67,13 @@ level_is title form words =
     (ap (check_kinds false false) (none_required (finished s.rules end) form.valued form.flags 1 form.positionals)) in
     ap (λ k. or_else w (or_else (settle_fault s.rules false end) k)) rest ∙ ap (or_else w) (or_else_nil (settle_fault s.rules false end))
 
-abbrev form_app : Text → Form → App
-form_app title form = record { top = form_shape title form; subs = [] }
+abbrev form_app : Form → App
+form_app form = record { top = form_shape form; subs = [] }
 
-fault_is : (title : Text) (form : Form) (words : List Text) → built (parser_of title form) ≡ form_app title form
-    → fault_of (parser_of title form) words ≡ faults title form (walk_from nothing_held) (drop 1 words)
-fault_is title form words is =
-    ap (λ a. built_fault a nothing_held (drop 1 words)) is ∙ leaf_fault (form_app title form) nothing_held (drop 1 words) refl ∙ level_is title form (drop 1 words)
+fault_is : (form : Form) (words : List Text) → built (parser_of form) ≡ form_app form
+    → fault_of (parser_of form) words ≡ faults form (walk_from nothing_held) (drop 1 words)
+fault_is form words is =
+    ap (λ a. built_fault a nothing_held (drop 1 words)) is ∙ leaf_fault (form_app form) nothing_held (drop 1 words) refl ∙ level_is form (drop 1 words)
 
 -- ---- the values in the matches
 
@@ -184,42 +186,43 @@ values_in form rs bs (one_flag f one) pairs n = ap (first_of n) (one_flag_rows f
 -- ---- the whole
 
 -- what is known of a form
-pub record IsFormed (title : Text) (form : Form) : Type 0 where
-  pub built_is : built (parser_of title form) ≡ form_app title form
+pub record IsFormed (form : Form) : Type 0 where
+  pub built_is : built (parser_of form) ≡ form_app form
+  pub is_simple : is_simple_and_free (parser_of form) ≡ true
   pub places : IsLeft (form_rules form) 1 form.positionals
   pub flags_are : FlagsOf form
 
-abbrev judged : (title : Text) (form : Form) (words : List Text) → IsFormed title form → AllHaveHeads words
-    → Judged [] (bindings_of form form.positionals None words) (faults title form (walk_from nothing_held) words) [] (rows_after title form (walk_from nothing_held) words)
-judged title form words formed heads = judges title form words None nothing_held 1 form.positionals [] [] heads (refl, refl, refl) (λ name. refl) formed.places
+abbrev judged : (form : Form) (words : List Text) → IsFormed form → AllHaveHeads words
+    → Judged [] (bindings_of form form.positionals None words) (faults form (walk_from nothing_held) words) [] (rows_after form (walk_from nothing_held) words)
+judged form words formed heads = judges form words None nothing_held 1 form.positionals [] [] heads (refl, refl, refl) (λ name. refl) formed.places
 
 -- the words are refused: they bind nothing
-pub refused_is : (title : Text) (form : Form) (words : List Text) → IsFormed title form → AllHaveHeads (drop 1 words) → Fails (fault_of (parser_of title form) words)
+pub refused_is : (form : Form) (words : List Text) → IsFormed form → AllHaveHeads (drop 1 words) → Fails (fault_of (parser_of form) words)
     → bindings form (drop 1 words) ≡ None
-refused_is title form words formed heads fails =
-    go _ (judged title form (drop 1 words) formed heads) (subst Fails (fault_is title form words formed.built_is) fails)
+refused_is form words formed heads fails =
+    go _ (judged form (drop 1 words) formed heads) (subst Fails (fault_is form words formed.built_is) fails)
   where
     once : (o : Option (List Binding)) → ((bs : List Binding) → o ≡ Some bs → is_once [] bs ≡ false) → bound_once o ≡ None
     once None never = refl
     once (Some bs) never = rw (never bs refl) refl
 
-    go : (f : Kinds) → Judged [] (bindings_of form form.positionals None (drop 1 words)) f [] (rows_after title form (walk_from nothing_held) (drop 1 words)) → Fails f
+    go : (f : Kinds) → Judged [] (bindings_of form form.positionals None (drop 1 words)) f [] (rows_after form (walk_from nothing_held) (drop 1 words)) → Fails f
         → bindings form (drop 1 words) ≡ None
     go f (accepted bs e is_one none adds) fails = absurd (subst Fails none fails)
     go f (rejected never also) fails = once (bindings_of form form.positionals None (drop 1 words)) never
 
 -- the words are taken: the matches have what they bind
-pub taken_is : (title : Text) (form : Form) (words : List Text) → IsFormed title form → AllHaveHeads (drop 1 words) → fault_of (parser_of title form) words ≡ []
-    → (bs : List Binding) × (bindings form (drop 1 words) ≡ Some bs) × HasBindings form bs (matches_of (parser_of title form) words)
-taken_is title form words formed heads none =
-    go _ _ (judged title form (drop 1 words) formed heads) (sym (fault_is title form words formed.built_is) ∙ none) refl
+pub taken_is : (form : Form) (words : List Text) → IsFormed form → AllHaveHeads (drop 1 words) → fault_of (parser_of form) words ≡ []
+    → (bs : List Binding) × (bindings form (drop 1 words) ≡ Some bs) × HasBindings form bs (matches_of (parser_of form) words)
+taken_is form words formed heads none =
+    go _ _ (judged form (drop 1 words) formed heads) (sym (fault_is form words formed.built_is) ∙ none) refl
   where
-    matches_are : matches_of (parser_of title form) words ≡ fold with_default (rows_after title form (walk_from nothing_held) (drop 1 words)) (form_rules form)
+    matches_are : matches_of (parser_of form) words ≡ fold with_default (rows_after form (walk_from nothing_held) (drop 1 words)) (form_rules form)
     matches_are = ap (λ (a : App). finished a.top.rules (walk a.top.rules (names_of a) nothing_held (drop 1 words)).held) formed.built_is
 
     go : (f : Kinds) (end : List Row) → Judged [] (bindings_of form form.positionals None (drop 1 words)) f [] end → f ≡ []
-        → rows_after title form (walk_from nothing_held) (drop 1 words) ≡ end
-        → (bs : List Binding) × (bindings form (drop 1 words) ≡ Some bs) × HasBindings form bs (matches_of (parser_of title form) words)
+        → rows_after form (walk_from nothing_held) (drop 1 words) ≡ end
+        → (bs : List Binding) × (bindings form (drop 1 words) ≡ Some bs) × HasBindings form bs (matches_of (parser_of form) words)
     go f end (rejected never fails) none is = absurd (subst Fails none fails)
     go f end (accepted bs e is_one also adds) none is =
         let pairs = paired [] bs end adds in (
@@ -229,17 +232,9 @@ taken_is title form words formed heads none =
               (values_in form pairs.0 bs formed.flags_are pairs.2),
         )
 
-pub check_formed : (title : Text) → IsFormed title check_form
-check_formed title = record { built_is = refl; places = (refl, refl, refl); flags_are = one_flag (codes "report") refl }
-
-pub verify_formed : (title : Text) → IsFormed title verify_form
-verify_formed title = record { built_is = refl; places = (refl, refl, (refl, refl, refl)); flags_are = no_flag refl }
-
-pub show_formed : (title : Text) → IsFormed title show_form
-show_formed title = record { built_is = refl; places = (refl, refl, refl); flags_are = no_flag refl }
-
-pub steps_formed : (title : Text) → IsFormed title steps_form
-steps_formed title = record { built_is = refl; places = (refl, refl, (refl, refl, refl)); flags_are = no_flag refl }
-
-pub generate_formed : (title : Text) → IsFormed title generate_form
-generate_formed title = record { built_is = refl; places = (refl, refl, refl); flags_are = no_flag refl }
+pub formed : (name : Name) → IsFormed (form_of name)
+formed names.Check = record { built_is = refl; is_simple = refl; places = (refl, refl, refl); flags_are = one_flag (codes "report") refl }
+formed names.Verify = record { built_is = refl; is_simple = refl; places = (refl, refl, (refl, refl, refl)); flags_are = no_flag refl }
+formed names.Show = record { built_is = refl; is_simple = refl; places = (refl, refl, refl); flags_are = no_flag refl }
+formed names.Steps = record { built_is = refl; is_simple = refl; places = (refl, refl, (refl, refl, refl)); flags_are = no_flag refl }
+formed names.Generate = record { built_is = refl; is_simple = refl; places = (refl, refl, refl); flags_are = no_flag refl }

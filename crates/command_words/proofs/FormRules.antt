@@ -1,17 +1,18 @@
 -- The arguments of a form, as a command of `clap` has them once it is built, and which of them a name finds.
-use Rattle.std.proofs.Common.{◌≡◌, ◌∙◌, ◌+◌, ◌||◌, ◌&&◌, not, ℕ, Bool, true, false, true≢false, List, [], ◌∷◌, Option, Some, None, codes, refl, sym, ap, ap₂, if◌then◌else◌, cond, min}
+use Rattle.std.proofs.Common.{◌≡◌, ◌∙◌, ◌+◌, ◌<◌, ◌||◌, ◌&&◌, not, ℕ, suc, Bool, true, false, true≢false, List, [], ◌∷◌, ◌++◌, length, map, drop, get_or, drop-cons, append-nil, append_assoc, arith, Option, Some, None, codes, refl, sym, ap, ap₂, if◌then◌else◌, cond, min}
 use Rattle.std.specs.List.{list_any}
 use Rattle.std.specs.Prelude.{fold}
 use Rattle.std.specs.Str.{bytes_eq}
 use Rattle.std.proofs.lemmas.Slice.Eq.{bytes_eq-Decides}
 use Rattle.clap.specs.Lexer.{usize_max}
 use Rattle.clap.specs.Walk.{Rule, Row, Text, arg_by_id, arg_by_index, arg_by_long, arg_by_short, with_default, has_row}
-use Rattle.clap.specs.Simple.{Shape, new_rule, new_shape}
+use Rattle.clap.specs.Simple.{App, Shape, new_rule, new_shape, with_rule}
 use Rattle.clap.specs.Kinds.{Kinds, or_else}
 use Rattle.clap.specs.Faults.{defaults_fault}
 use Rattle.clap.specs.Takes.{is_given}
 use Rattle.clap.specs.declared.builder.action.ArgAction.TheVariants.{Set, SetTrue}
 use Rattle.clap.specs.declared.builder.value_parser.ValueParser.TheVariants as parser
+use Rattle.command_words.specs.Parsing.{flag_rule, parser_of, positional_rule, valued_rule}
 use Rattle.command_words.specs.Words.{Form, is_among}
 
 -- an argument that takes one value, as text
@@ -49,9 +50,9 @@ built_rules [] [] i [] = []
 abbrev pub form_rules : Form → List Rule
 form_rules form = built_rules form.valued form.flags 1 form.positionals
 
--- the built command of this name and form
-abbrev pub form_shape : Text → Form → Shape
-form_shape name form = record (new_shape name) {
+-- the built command of this form
+abbrev pub form_shape : Form → Shape
+form_shape form = record (new_shape (codes "armc")) {
   rules = form_rules form;
   disable_help_flag = true;
   disable_help_subcommand = true;
@@ -144,3 +145,33 @@ none_required rows (v ∷ vs) fs i ps = none_required rows vs fs i ps
 none_required rows [] (f ∷ fs) i ps = none_required rows [] fs i ps
 none_required rows [] [] i (p ∷ ps) = none_required rows [] [] (min (i + 1) usize_max) ps
 none_required rows [] [] i [] = refl
+
+-- ---- the command of a form, made name by name
+
+-- one more name is read
+pub one_name : {X T : Type 0} (rule : T → Rule) (text : X → T) (a next : App) (d : X) (xs : List X) (i : ℕ) → i < length xs
+    → next ≡ with_rule a (rule (text (get_or xs i d)))
+    → fold with_rule next (map rule (map text (drop (i + 1) xs))) ≡ fold with_rule a (map rule (map text (drop i xs)))
+one_name rule text a next d xs i lt is =
+    let more : suc i ≡ i + 1 = omega arith in
+    ap (λ b. fold with_rule b (map rule (map text (drop (i + 1) xs)))) is
+    ∙ sym (ap (λ ys. fold with_rule a (map rule (map text ys))) (drop-cons xs i d lt ∙ ap (λ k. get_or xs i d ∷ drop k xs) more))
+
+abbrev pub with_rules : Shape → List Rule → App
+with_rules s rules = record { top = record s { rules = rules }; subs = [] }
+
+rules_added : (s : Shape) (rules more : List Rule) → fold with_rule (with_rules s rules) more ≡ with_rules s (rules ++ more)
+rules_added s rules [] = ap (with_rules s) (sym (append-nil rules))
+rules_added s rules (r ∷ more) = rules_added s (rules ++ r ∷ []) more ∙ ap (with_rules s) (append_assoc rules (r ∷ []) more)
+
+pub made : (form : Form) (a v f p : App) → a ≡ with_rules (record (new_shape (codes "armc")) { disable_help_flag = true }) []
+    → v ≡ fold with_rule a (map valued_rule form.valued) → f ≡ fold with_rule v (map flag_rule form.flags)
+    → p ≡ fold with_rule f (map positional_rule form.positionals) → p ≡ parser_of form
+made form a v f p ea ev ef ep =
+    let s = record (new_shape (codes "armc")) { disable_help_flag = true } in
+    let vs = map valued_rule form.valued in
+    let fs = map flag_rule form.flags in
+    let ps = map positional_rule form.positionals in
+    let valued : v ≡ with_rules s vs = ev ∙ ap (λ x. fold with_rule x vs) ea ∙ rules_added s [] vs in
+    let flags : f ≡ with_rules s (vs ++ fs) = ef ∙ ap (λ x. fold with_rule x fs) valued ∙ rules_added s vs fs in
+    ep ∙ ap (λ x. fold with_rule x ps) flags ∙ rules_added s (vs ++ fs) ps ∙ ap (with_rules s) (append_assoc vs fs ps)

@@ -180,12 +180,12 @@ holds_more : (bound : List Text) (rows : List Row) (r : Row) (n : Text) → r.id
 holds_more bound rows r n id holds name =
     has_row-append name rows r ∙ ap₂ (λ x b. bytes_eq x name || b) id (holds name)
 
-module _ (title : Text) (form : Form) where
+module _ (form : Form) where
   abbrev c : List Rule
   c = form_rules form
 
   abbrev s : Shape
-  s = form_shape title form
+  s = form_shape form
 
   abbrev pub at : Held → Waiting → ℕ → Bool → Walk
   at h waiting p trailing = record { held = h; waiting = waiting; position = p; is_trailing = trailing; stopped = None }

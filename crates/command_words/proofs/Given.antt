@@ -7,25 +7,25 @@ use Rattle.clap.specs.Walk.{rows_of}
 use Rattle.clap.specs.declared.builder.command.Command.{Command as Parser}
 use Rattle.clap.specs.declared.parser.matches.ArgMatches.{ArgMatches}
 use Rattle.clap.proofs.WalkLemmas.{first_value-rows, list_any-map}
-use Rattle.std.specs.Prelude.{option_and_then}
 use Rattle.std.specs.List.{list_any, slice_index_or}
 use Rattle.command_words.specs.declared.Command.{Command as CommandWords}
 use Rattle.command_words.specs.Parsing.{Fails, Gives, HasBindings, IsParsed, first_or_default, parser_of}
 use Rattle.command_words.specs.declared.Method.{Method}
 use Rattle.command_words.specs.declared.Start.{Start}
-use Rattle.command_words.specs.Words.{Binding, Command, Form, bindings, bound_given, budget_given, check_form, command_from, command_named, command_of, is_among, is_empty, is_true, method_given, settings_from, settings_of, start_given, value_of, workers_given}
+use Rattle.command_words.specs.declared.forms.Name.TheVariants as names
+use Rattle.command_words.specs.Words.{Binding, Command, Form, bindings, bound_given, budget_given, command_named, command_of, form_of, is_among, is_empty, is_true, limits_from, limits_given, method_given, settings_from, settings_given, start_given, value_of, workers_given}
 use Rattle.command_words.proofs.FormMatches.{IsFormed, later_have_heads, refused_is, taken_is}
 
 -- the matches of a parser of a form have what the words bind
-pub from_matches : {Z : Type 0} (title : List ℕ) (form : Form) (p : Parser) (words : List (String Z)) (found : Option ArgMatches)
-    → app_of p ≡ parser_of title form → IsFormed title form
+pub from_matches : {Z : Type 0} (form : Form) (p : Parser) (words : List (String Z)) (found : Option ArgMatches)
+    → app_of p ≡ parser_of form → IsFormed form
     → MatchOption found (Fails (fault_of (app_of p) (map string_bytes words)))
     (λ m. (fault_of (app_of p) (map string_bytes words) ≡ []) × (rows_of (found_of m) ≡ matches_of (app_of p) (map string_bytes words)))
     → MatchOption found (bindings form (drop 1 (map string_bytes words)) ≡ None) (IsParsed form (drop 1 (map string_bytes words)))
-from_matches title form p words None is formed fails =
-    refused_is title form (map string_bytes words) formed (later_have_heads words) (subst (λ a. Fails (fault_of a (map string_bytes words))) is fails)
-from_matches title form p words (Some m) is formed given =
-    let taken = taken_is title form (map string_bytes words) formed (later_have_heads words)
+from_matches form p words None is formed fails =
+    refused_is form (map string_bytes words) formed (later_have_heads words) (subst (λ a. Fails (fault_of a (map string_bytes words))) is fails)
+from_matches form p words (Some m) is formed given =
+    let taken = taken_is form (map string_bytes words) formed (later_have_heads words)
     (ap (λ (a : App). fault_of a (map string_bytes words)) (sym is) ∙ given.0) in
     record {
       bound = taken.0;
@@ -41,51 +41,36 @@ pub value_is : (m : ArgMatches) (form : Form) (bound : List Binding) (name : Lis
     → first_value (found_of m) name ≡ value_of name bound
 value_is m form bound name has plain = first_value-rows (found_of m) name ∙ has name ∙ plain_value form name (value_of name bound) plain
 
-true_or_default : (o : Option (List ℕ)) → is_true (first_or_default check_form (codes "report") o) ≡ is_true o
+true_or_default : (o : Option (List ℕ)) → is_true (first_or_default (form_of names.Check) (codes "report") o) ≡ is_true o
 true_or_default (Some value) = refl
 true_or_default None = refl
 
-pub report_is : (m : ArgMatches) (bound : List Binding) → HasBindings check_form bound (rows_of (found_of m))
+pub report_is : (m : ArgMatches) (bound : List Binding) → HasBindings (form_of names.Check) bound (rows_of (found_of m))
     → is_true (first_value (found_of m) (codes "report")) ≡ is_true (value_of (codes "report") bound)
 report_is m bound has = ap is_true (first_value-rows (found_of m) (codes "report") ∙ has (codes "report")) ∙ true_or_default (value_of (codes "report") bound)
 
--- the command of words that are refused, and of words that bind these
-pub from_none : (form : Form) (command : List Binding → Option Command) (words : List (List ℕ)) → bindings form words ≡ None
-    → Gives None (command_from form command words)
-from_none form command words none = ap (option_and_then command) none
+-- the limits and the settings, where one is not given well, and where each is
+pub no_budget : (b : List Binding) → budget_given b ≡ None → None ≡ limits_given b
+no_budget b eg = λ i. limits_from (sym eg i) (workers_given b)
 
-pub from_bound : (found : Option CommandWords) (form : Form) (command : List Binding → Option Command) (words : List (List ℕ)) (bound : List Binding)
-    → bindings form words ≡ Some bound → Gives found (command bound) → Gives found (command_from form command words)
-from_bound found form command words bound says gives = subst (λ o. Gives found (option_and_then command o)) (sym says) gives
+pub no_workers : (b : List Binding) (g : ℕ) → budget_given b ≡ Some g → workers_given b ≡ None → None ≡ limits_given b
+no_workers b g eg ew = λ i. limits_from (sym eg i) (sym ew i)
 
-pub matched : {X : Type 0} (N : Type 0) (P : X → Type 0) (found : Option X) (x : X) → found ≡ Some x → MatchOption found N P → P x
-matched N P found x is h = subst (λ o. MatchOption o N P) is h
+pub all_limits : (b : List Binding) (g w : ℕ) → budget_given b ≡ Some g → workers_given b ≡ Some w → Some (record { budget = g; workers = w }) ≡ limits_given b
+all_limits b g w eg ew = λ i. limits_from (sym eg i) (sym ew i)
 
-pub unmatched : {X : Type 0} (N : Type 0) (P : X → Type 0) (found : Option X) → found ≡ None → MatchOption found N P → N
-unmatched N P found is h = subst (λ o. MatchOption o N P) is h
+pub no_method : (b : List Binding) → method_given b ≡ None → None ≡ settings_given b
+no_method b em = λ i. settings_from (sym em i) (start_given b) (bound_given b) (is_true (value_of (codes "report") b))
 
--- the settings, where one is not given well, and where each is
-pub no_method : (b : List Binding) → method_given b ≡ None → None ≡ settings_of b
-no_method b em = λ i. settings_from (sym em i) (start_given b) (bound_given b) (budget_given b) (workers_given b) (is_true (value_of (codes "report") b))
+pub no_start : (b : List Binding) (m : Method) → method_given b ≡ Some m → start_given b ≡ None → None ≡ settings_given b
+no_start b m em es = λ i. settings_from (sym em i) (sym es i) (bound_given b) (is_true (value_of (codes "report") b))
 
-pub no_start : (b : List Binding) (m : Method) → method_given b ≡ Some m → start_given b ≡ None → None ≡ settings_of b
-no_start b m em es = λ i. settings_from (sym em i) (sym es i) (bound_given b) (budget_given b) (workers_given b) (is_true (value_of (codes "report") b))
+pub no_bound : (b : List Binding) (m : Method) (s : Start) → method_given b ≡ Some m → start_given b ≡ Some s → bound_given b ≡ None → None ≡ settings_given b
+no_bound b m s em es en = λ i. settings_from (sym em i) (sym es i) (sym en i) (is_true (value_of (codes "report") b))
 
-pub no_bound : (b : List Binding) (m : Method) (s : Start) → method_given b ≡ Some m → start_given b ≡ Some s → bound_given b ≡ None → None ≡ settings_of b
-no_bound b m s em es en = λ i. settings_from (sym em i) (sym es i) (sym en i) (budget_given b) (workers_given b) (is_true (value_of (codes "report") b))
-
-pub no_budget : (b : List Binding) (m : Method) (s : Start) (n : ℕ) → method_given b ≡ Some m → start_given b ≡ Some s → bound_given b ≡ Some n
-    → budget_given b ≡ None → None ≡ settings_of b
-no_budget b m s n em es en eg = λ i. settings_from (sym em i) (sym es i) (sym en i) (sym eg i) (workers_given b) (is_true (value_of (codes "report") b))
-
-pub no_workers : (b : List Binding) (m : Method) (s : Start) (n g : ℕ) → method_given b ≡ Some m → start_given b ≡ Some s → bound_given b ≡ Some n
-    → budget_given b ≡ Some g → workers_given b ≡ None → None ≡ settings_of b
-no_workers b m s n g em es en eg ew = λ i. settings_from (sym em i) (sym es i) (sym en i) (sym eg i) (sym ew i) (is_true (value_of (codes "report") b))
-
-pub all_settings : (b : List Binding) (m : Method) (s : Start) (n g w : ℕ) (r : Bool) → method_given b ≡ Some m → start_given b ≡ Some s → bound_given b ≡ Some n
-    → budget_given b ≡ Some g → workers_given b ≡ Some w → r ≡ is_true (value_of (codes "report") b)
-    → Some (record { method = m; start = s; bound = n; budget = g; workers = w; report = r }) ≡ settings_of b
-all_settings b m s n g w r em es en eg ew er = λ i. settings_from (sym em i) (sym es i) (sym en i) (sym eg i) (sym ew i) (er i)
+pub all_settings : (b : List Binding) (m : Method) (s : Start) (n : ℕ) (r : Bool) → method_given b ≡ Some m → start_given b ≡ Some s → bound_given b ≡ Some n
+    → r ≡ is_true (value_of (codes "report") b) → Some (record { method = m; start = s; bound = n; report = r }) ≡ settings_given b
+all_settings b m s n r em es en er = λ i. settings_from (sym em i) (sym es i) (sym en i) (er i)
 
 pub gives_none : (found : Option CommandWords) (command : Option Command) → found ≡ None → command ≡ None → Gives found command
 gives_none found command none is = subst (λ o. Gives o command) (sym none) is

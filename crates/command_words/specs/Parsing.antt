@@ -1,4 +1,4 @@
--- Only private functions cite this file: the command of `clap` for a form, and what its parse gives.
+-- Only private functions cite this file: the command of `clap` for a form, what its parse gives, and what its matches are read as.
 use Rattle.std.specs.Prelude.{◌≡◌, ◌++◌, ℕ, true, List, [], ◌∷◌, map, codes, Option, Some, None, MatchOption, IfSome, if◌then◌else◌}
 use Rattle.clap.specs.Kinds.{Kinds}
 use Rattle.clap.specs.Simple.{App, new_rule, new_shape}
@@ -7,7 +7,18 @@ use Rattle.clap.specs.declared.builder.action.ArgAction.TheVariants.{Set, SetTru
 use Rattle.clap.specs.declared.parser.matches.ArgMatches.{ArgMatches}
 use Rattle.clap.specs.Matches.{found_of}
 use Rattle.command_words.specs.declared.Command.{Command as CommandWords}
+use Rattle.command_words.specs.declared.forms.Form.{Form as FormWords}
+use Rattle.command_words.specs.declared.parsers.Role.{Role}
+use Rattle.command_words.specs.declared.parsers.Role.TheVariants.{Valued, Flag, Positional}
 use Rattle.command_words.specs.Words.{Binding, Command, Form, IsInRange, bindings, is_among, said, value_of}
+
+-- the form that a value of the program stands for
+abbrev pub form_as_words : FormWords → Form
+form_as_words form = record {
+  valued = map (λ name. name.now) form.valued.now;
+  flags = map (λ name. name.now) form.flags.now;
+  positionals = map (λ name. name.now) form.positionals.now;
+}
 
 abbrev pub valued_rule : List ℕ → Rule
 valued_rule name = record (new_rule name) { long = Some name; action = Some Set }
@@ -18,19 +29,20 @@ flag_rule name = record (new_rule name) { long = Some name; action = Some SetTru
 abbrev pub positional_rule : List ℕ → Rule
 positional_rule name = record (new_rule name) { action = Some Set }
 
--- the command of this name and form, without help
-abbrev pub parser_of : List ℕ → Form → App
-parser_of name form = record {
-  top = record (new_shape name) {
+abbrev pub rule_for : Role → List ℕ → Rule
+rule_for Valued name = valued_rule name
+rule_for Flag name = flag_rule name
+rule_for Positional name = positional_rule name
+
+-- the command of this form, without help; its name is never shown
+abbrev pub parser_of : Form → App
+parser_of form = record {
+  top = record (new_shape (codes "armc")) {
     rules = map valued_rule form.valued ++ (map flag_rule form.flags ++ map positional_rule form.positionals);
     disable_help_flag = true;
   };
   subs = [];
 }
-
--- the form of a command with two texts
-abbrev pub two_form : List ℕ → List ℕ → Form
-two_form first second = record { valued = []; flags = []; positionals = first ∷ (second ∷ []) }
 
 -- the list of faults is not empty
 abbrev pub Fails : Kinds → Type 0

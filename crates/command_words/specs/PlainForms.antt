@@ -1,9 +1,11 @@
 -- The plain forms of each command mean what one expects.
 use Rattle.std.specs.Prelude.{◌≡◌, ℕ, false, List, [], ◌∷◌, codes, Some}
+use Rattle.command_words.specs.declared.Limits.{Limits}
 use Rattle.command_words.specs.declared.Method.TheVariants.{Predicates}
+use Rattle.command_words.specs.declared.Query.TheVariants.{Check}
 use Rattle.command_words.specs.declared.Settings.{Settings}
 use Rattle.command_words.specs.declared.Start.TheVariants.{Bad}
-use Rattle.command_words.specs.Words.{check, command_of, default_budget, is_empty, kind_of, most_budget, number_in, plain, show, steps, verify}
+use Rattle.command_words.specs.Words.{command_of, default_budget, is_empty, kind_of, most_budget, number_in, plain, searching, show, steps, verify}
 
 -- a word that is not empty and is no option
 pub record IsPlain (word : List ℕ) : Type 0 where
@@ -11,14 +13,19 @@ pub record IsPlain (word : List ℕ) : Type 0 where
   pub is_plain : kind_of word ≡ plain
 
 abbrev pub default_settings : Settings
-default_settings = record { method = Predicates; start = Bad; bound = 0; budget = default_budget; workers = 1; report = false }
+default_settings = record { method = Predicates; start = Bad; bound = 0; report = false }
+
+abbrev pub default_limits : Limits
+default_limits = record { budget = default_budget; workers = 1 }
 
 pub record PlainFormsMean : Type 0 where
   pub shown : (file : List ℕ) → IsPlain file → command_of (codes "show" ∷ (file ∷ [])) ≡ Some (show file)
-  pub checked : (file : List ℕ) → IsPlain file → command_of (codes "check" ∷ (file ∷ [])) ≡ Some (check file default_settings)
+  pub checked : (file : List ℕ) → IsPlain file
+      → command_of (codes "check" ∷ (file ∷ [])) ≡ Some (searching file (Check default_settings) default_limits)
   pub verified : (file certificate : List ℕ) → IsPlain file → IsPlain certificate
       → command_of (codes "verify" ∷ (file ∷ (certificate ∷ []))) ≡ Some (verify file certificate)
   pub stepped : (file configuration : List ℕ) → IsPlain file → IsPlain configuration
       → command_of (codes "steps" ∷ (file ∷ (configuration ∷ []))) ≡ Some (steps file configuration)
   pub bounded : (file number : List ℕ) (budget : ℕ) → IsPlain file → IsPlain number → number_in 1 most_budget number ≡ Some budget
-      → command_of (codes "check" ∷ (file ∷ (codes "--budget" ∷ (number ∷ [])))) ≡ Some (check file (record default_settings { budget = budget }))
+      → command_of (codes "check" ∷ (file ∷ (codes "--budget" ∷ (number ∷ []))))
+      ≡ Some (searching file (Check default_settings) (record default_limits { budget = budget }))

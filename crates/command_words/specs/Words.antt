@@ -4,18 +4,23 @@ use Rattle.std.specs.List.{list_any, before_first, after_first}
 use Rattle.std.specs.Str.{all_ascii_digits}
 use Rattle.command_words.specs.declared.Command.{Command as CommandWords}
 use Rattle.command_words.specs.declared.Command.TheVariants as words
+use Rattle.command_words.specs.declared.Limits.{Limits}
 use Rattle.command_words.specs.declared.Method.{Method}
 use Rattle.command_words.specs.declared.Method.TheVariants.{Predicates, Length}
+use Rattle.command_words.specs.declared.Query.{Query}
+use Rattle.command_words.specs.declared.Query.TheVariants.{Check}
 use Rattle.command_words.specs.declared.Settings.{Settings}
 use Rattle.command_words.specs.declared.Start.{Start}
 use Rattle.command_words.specs.declared.Start.TheVariants.{Bad, Nothing}
+use Rattle.command_words.specs.declared.forms.Name.{Name}
+use Rattle.command_words.specs.declared.forms.Name.TheVariants as names
 
 -- a command with the names of its texts
 pub data Command : Type 0 where
   verify : List ℕ → List ℕ → Command
   steps : List ℕ → List ℕ → Command
   show : List ℕ → Command
-  check : List ℕ → Settings → Command
+  searching : List ℕ → Query → Limits → Command
   generate : ℕ → ℕ → Command
 
 -- ---- the ranges of numbers
@@ -39,11 +44,20 @@ pub record IsWorkers (workers : ℕ) : Type 0 where
   pub workers_low : 0 < workers
   pub workers_high : workers ≤ most_workers
 
+pub record IsLimits (limits : Limits) : Type 0 where
+  pub budget_low : 0 < limits.budget
+  pub budget_high : limits.budget ≤ most_budget
+  pub workers_in : IsWorkers limits.workers
+
 pub record IsSettings (settings : Settings) : Type 0 where
   pub bound_high : settings.bound ≤ most_bound
-  pub budget_low : 0 < settings.budget
-  pub budget_high : settings.budget ≤ most_budget
-  pub workers_in : IsWorkers settings.workers
+
+abbrev pub IsQuery : Query → Type 0
+IsQuery (Check settings) = IsSettings settings
+
+pub record IsSearching (query : Query) (limits : Limits) : Type 0 where
+  pub query_in : IsQuery query
+  pub limits_in : IsLimits limits
 
 pub record IsGenerate (number workers : ℕ) : Type 0 where
   pub number_low : 0 < number
@@ -55,7 +69,7 @@ abbrev pub IsInRange : Command → Type 0
 IsInRange (verify file certificate) = Unit {0}
 IsInRange (steps file configuration) = Unit {0}
 IsInRange (show file) = Unit {0}
-IsInRange (check file settings) = IsSettings settings
+IsInRange (searching file query limits) = IsSearching query limits
 IsInRange (generate number workers) = IsGenerate number workers
 
 -- ---- what one word is
@@ -179,26 +193,7 @@ method_of word = if bytes_eq word (codes "predicates") then Some Predicates else
 abbrev pub start_of : List ℕ → Option Start
 start_of word = if bytes_eq word (codes "bad") then Some Bad else (if bytes_eq word (codes "none") then Some Nothing else None)
 
--- ---- commands
-
-abbrev pub check_form : Form
-check_form = record {
-  valued = codes "method" ∷ (codes "start" ∷ (codes "bound" ∷ (codes "budget" ∷ (codes "workers" ∷ []))));
-  flags = codes "report" ∷ [];
-  positionals = codes "FILE" ∷ [];
-}
-
-abbrev pub verify_form : Form
-verify_form = record { valued = []; flags = []; positionals = codes "FILE" ∷ (codes "CERT" ∷ []) }
-
-abbrev pub show_form : Form
-show_form = record { valued = []; flags = []; positionals = codes "FILE" ∷ [] }
-
-abbrev pub steps_form : Form
-steps_form = record { valued = []; flags = []; positionals = codes "FILE" ∷ (codes "CONFIGURATION" ∷ []) }
-
-abbrev pub generate_form : Form
-generate_form = record { valued = codes "workers" ∷ []; flags = []; positionals = codes "N" ∷ [] }
+-- ---- what the names of options give
 
 abbrev pub method_given : List Binding → Option Method
 method_given bindings = given Predicates method_of (value_of (codes "method") bindings)
@@ -220,19 +215,54 @@ abbrev pub is_true : Option (List ℕ) → Bool
 is_true None = false
 is_true (Some value) = bytes_eq value (codes "true")
 
-abbrev pub settings_from : Option Method → Option Start → Option ℕ → Option ℕ → Option ℕ → Bool → Option Settings
-settings_from (Some method) (Some start) (Some bound) (Some budget) (Some workers) report =
-    Some (record { method = method; start = start; bound = bound; budget = budget; workers = workers; report = report })
-settings_from _ _ _ _ _ report = None
+abbrev pub limits_from : Option ℕ → Option ℕ → Option Limits
+limits_from (Some budget) (Some workers) = Some (record { budget = budget; workers = workers })
+limits_from _ _ = None
 
--- the settings, each of which must be given well
-abbrev pub settings_of : List Binding → Option Settings
-settings_of bindings = settings_from (method_given bindings) (start_given bindings) (bound_given bindings) (budget_given bindings) (workers_given bindings)
+abbrev pub limits_given : List Binding → Option Limits
+limits_given bindings = limits_from (budget_given bindings) (workers_given bindings)
+
+abbrev pub settings_from : Option Method → Option Start → Option ℕ → Bool → Option Settings
+settings_from (Some method) (Some start) (Some bound) report =
+    Some (record { method = method; start = start; bound = bound; report = report })
+settings_from _ _ _ report = None
+
+-- the settings of `check`, each of which must be given well
+abbrev pub settings_given : List Binding → Option Settings
+settings_given bindings = settings_from (method_given bindings) (start_given bindings) (bound_given bindings)
     (is_true (value_of (codes "report") bindings))
 
-abbrev pub check_of : Option (List ℕ) → Option Settings → Option Command
-check_of (Some file) (Some settings) = Some (check file settings)
-check_of _ _ = None
+-- ---- commands
+
+-- the command that the word names
+abbrev pub name_of : List ℕ → Option Name
+name_of word =
+    if bytes_eq word (codes "check") then Some names.Check
+    else (if bytes_eq word (codes "verify") then Some names.Verify
+    else (if bytes_eq word (codes "show") then Some names.Show
+    else (if bytes_eq word (codes "steps") then Some names.Steps
+    else (if bytes_eq word (codes "gen") then Some names.Generate
+    else None))))
+
+-- the form of the words after each name
+abbrev pub form_of : Name → Form
+form_of names.Check = record {
+  valued = codes "method" ∷ (codes "start" ∷ (codes "bound" ∷ (codes "budget" ∷ (codes "workers" ∷ []))));
+  flags = codes "report" ∷ [];
+  positionals = codes "FILE" ∷ [];
+}
+form_of names.Verify = record { valued = []; flags = []; positionals = codes "FILE" ∷ (codes "CERT" ∷ []) }
+form_of names.Show = record { valued = []; flags = []; positionals = codes "FILE" ∷ [] }
+form_of names.Steps = record { valued = []; flags = []; positionals = codes "FILE" ∷ (codes "CONFIGURATION" ∷ []) }
+form_of names.Generate = record { valued = codes "workers" ∷ []; flags = []; positionals = codes "N" ∷ [] }
+
+-- a searching command, where its text, its query and its limits are given well
+abbrev pub searching_of : Option (List ℕ) → Option Query → Option Limits → Option Command
+searching_of (Some file) (Some query) (Some limits) = Some (searching file query limits)
+searching_of _ _ _ = None
+
+abbrev pub searching_given : List Binding → Option Query → Option Command
+searching_given bound query = searching_of (value_of (codes "FILE") bound) query (limits_given bound)
 
 abbrev pub two_of : (List ℕ → List ℕ → Command) → Option (List ℕ) → Option (List ℕ) → Option Command
 two_of command (Some file) (Some other) = Some (command file other)
@@ -242,34 +272,21 @@ abbrev pub generate_of : Option ℕ → Option ℕ → Option Command
 generate_of (Some number) (Some workers) = Some (generate number workers)
 generate_of _ _ = None
 
--- the command from what the words after its name bind
-abbrev pub check_bound : List Binding → Option Command
-check_bound bound = check_of (value_of (codes "FILE") bound) (settings_of bound)
-
-abbrev pub verify_bound : List Binding → Option Command
-verify_bound bound = two_of verify (value_of (codes "FILE") bound) (value_of (codes "CERT") bound)
-
-abbrev pub show_bound : List Binding → Option Command
-show_bound bound = option_map show (value_of (codes "FILE") bound)
-
-abbrev pub steps_bound : List Binding → Option Command
-steps_bound bound = two_of steps (value_of (codes "FILE") bound) (value_of (codes "CONFIGURATION") bound)
-
-abbrev pub generate_bound : List Binding → Option Command
-generate_bound bound = generate_of (option_and_then (number_in 1 most_generated) (value_of (codes "N") bound)) (workers_given bound)
-
-abbrev pub command_from : Form → (List Binding → Option Command) → List (List ℕ) → Option Command
-command_from form command words = option_and_then command (bindings form words)
+-- the command of this name, from what the words after it bind
+abbrev pub command_given : Name → List Binding → Option Command
+command_given names.Check bound = searching_given bound (option_map Check (settings_given bound))
+command_given names.Verify bound = two_of verify (value_of (codes "FILE") bound) (value_of (codes "CERT") bound)
+command_given names.Show bound = option_map show (value_of (codes "FILE") bound)
+command_given names.Steps bound = two_of steps (value_of (codes "FILE") bound) (value_of (codes "CONFIGURATION") bound)
+command_given names.Generate bound =
+    generate_of (option_and_then (number_in 1 most_generated) (value_of (codes "N") bound)) (workers_given bound)
 
 -- the command of this name, from the words after it
+abbrev pub command_after : List (List ℕ) → Name → Option Command
+command_after words name = option_and_then (command_given name) (bindings (form_of name) words)
+
 abbrev pub command_named : List ℕ → List (List ℕ) → Option Command
-command_named name words =
-    if bytes_eq name (codes "check") then command_from check_form check_bound words
-    else (if bytes_eq name (codes "verify") then command_from verify_form verify_bound words
-    else (if bytes_eq name (codes "show") then command_from show_form show_bound words
-    else (if bytes_eq name (codes "steps") then command_from steps_form steps_bound words
-    else (if bytes_eq name (codes "gen") then command_from generate_form generate_bound words
-    else None))))
+command_named word words = option_and_then (command_after words) (name_of word)
 
 abbrev pub is_empty : List ℕ → Bool
 is_empty word = length word == 0
@@ -277,12 +294,12 @@ is_empty word = length word == 0
 -- the command that the words mean: the first word names it; no word is empty
 abbrev pub command_of : List (List ℕ) → Option Command
 command_of [] = None
-command_of (name ∷ words) = if list_any is_empty (name ∷ words) then None else command_named name words
+command_of (word ∷ words) = if list_any is_empty (word ∷ words) then None else command_named word words
 
 -- the command that a value of the program stands for
 abbrev pub said : CommandWords → Command
 said (words.Verify file certificate) = verify file.now certificate.now
 said (words.Steps file configuration) = steps file.now configuration.now
 said (words.Show file) = show file.now
-said (words.Check file settings) = check file.now settings
+said (words.Search file query limits) = searching file.now query limits
 said (words.Generate number workers) = generate number workers

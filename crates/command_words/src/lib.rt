@@ -1,26 +1,27 @@
-//! Which words mean which command. One simple command of `clap` for each command of armc reads the words after its name (`parsers`), and
-//! its values are read here (`values`); the words that `clap` refuses are no command. Linear in the bytes of the words.
+//! Which words mean which command. One simple command of `clap`, made of the form of the command that the first word names (`forms`,
+//! `parsers`), reads the words after it, and their values are read here (`values`, `commands`); the words that `clap` refuses are no
+//! command. Linear in the bytes of the words.
 #![tactic(auto)]
 
+mod commands;
+mod forms;
 mod law;
 mod parsers;
 mod values;
 
-ghost use Rattle.std.specs.Prelude.{List, ◌≡◌, drop, map, string_bytes, MatchOption, IfSome, IfOk, None, Some};
+ghost use Rattle.std.specs.Prelude.{◌≡◌, drop, map, string_bytes, MatchOption, IfSome, IfOk, None, Some};
 ghost use Rattle.std.specs.List.{list_any};
-ghost use Rattle.command_words.specs.Parsing.{Gives, GivesInRange, GivesValues};
-ghost use Rattle.command_words.specs.Words.{check_bound, check_form, command_from, command_named};
-ghost use Rattle.command_words.specs.Words.{command_of as command_of_words, generate_bound, generate_form, is_empty};
-ghost use Rattle.command_words.specs.Words.{show_bound, show_form, steps_bound, steps_form, verify_bound, verify_form};
-ghost use Rattle.command_words.specs.Words.{Binding, IsInRange, said};
+ghost use Rattle.command_words.specs.Parsing.{Gives, GivesInRange};
+ghost use Rattle.command_words.specs.Words.{command_named, command_of as command_of_words, is_empty, IsInRange, said};
 
+use crate::commands::command_in;
+use crate::forms::name_of;
 pub use crate::law::plain_forms_mean;
-use crate::parsers::{
-    check_matches, generate_matches, show_matches, steps_matches, verify_matches,
-};
-use crate::values::{generated_in, settings_in, value_in, workers_in};
-use clap::ArgMatches;
+use crate::parsers::matches_of;
 use std::alloc::{AllocError, Global};
+
+/// The budget of a search where the words give none.
+pub const DEFAULT_BUDGET: u32 = 100_000;
 
 /// How the states of an automaton are related in the abstraction.
 #[derive(Clone, Copy, Debug, Drop)]
@@ -40,7 +41,7 @@ pub enum Start {
     Nothing,
 }
 
-/// The settings of a search.
+/// The settings of `check`.
 #[derive(Clone, Copy, Debug, Drop)]
 pub struct Settings {
     /// The abstraction.
@@ -49,12 +50,24 @@ pub struct Settings {
     pub start: Start,
     /// The first bound on the length of words, from 0 to 64; it has no effect under `Method::Predicates`.
     pub bound: u64,
+    /// Whether the report of the search is printed.
+    pub report: bool,
+}
+
+/// What a search may take.
+#[derive(Clone, Copy, Debug, Drop)]
+pub struct Limits {
     /// How many states are counted at most, from 1 to 1,000,000.
     pub budget: u64,
     /// How many threads make images, from 1 to 16.
     pub workers: u32,
-    /// Whether the report of the search is printed.
-    pub report: bool,
+}
+
+/// What is searched for, a variant for each searching command.
+#[derive(Clone, Copy, Debug, Drop)]
+pub enum Query {
+    /// A proof or a bad run.
+    Check(Settings),
 }
 
 /// What is asked for, with the names of its texts.
@@ -79,133 +92,22 @@ pub enum Command<'a> {
         /// The name of the protocol's text.
         file: &'a str,
     },
-    /// Search for a proof or a bad run.
-    Check {
+    /// Search the protocol's system.
+    Search {
         /// The name of the protocol's text.
         file: &'a str,
-        /// The settings of the search.
-        settings: Settings,
+        /// What is searched for.
+        query: Query,
+        /// What the search may take.
+        limits: Limits,
     },
-    /// Make a protocol from a number, and search it.
+    /// Make a protocol from a number, and search its system as `check` does by default.
     Generate {
         /// The number, from 1 to 255.
         number: u32,
         /// How many threads make images, from 1 to 16.
         workers: u32,
     },
-}
-
-// The command that the matches of `check` mean.
-fn check_in<'a>(matches: &ArgMatches<'a>) -> Option<Command<'a>>
-    ensures command { (bound : List Binding) → GivesValues check_form bound matches.now → Gives result (check_bound bound) }
-    ensures in_range { GivesInRange result }
-{
-    let file = value_in(matches, "FILE")?;
-    let settings = settings_in(matches)?;
-    Some(Command::Check { file, settings })
-}
-
-// The command that the words of `check` mean.
-fn check_command<'a>(alloc: Global, words: &'a [String]) -> Result<Option<Command<'a>>, AllocError>
-    ensures command { IfOk result (λ found. Gives found (command_from check_form check_bound (drop 1 (map string_bytes words.entry.now)))) }
-    ensures in_range { IfOk result GivesInRange }
-{
-    match check_matches(alloc, words)? {
-        Some(matches) => Ok(check_in(&matches)),
-        None => Ok(None),
-    }
-}
-
-// The command that the matches of `verify` mean.
-fn verify_in<'a>(matches: &ArgMatches<'a>) -> Option<Command<'a>>
-    ensures command { (bound : List Binding) → GivesValues verify_form bound matches.now → Gives result (verify_bound bound) }
-    ensures in_range { GivesInRange result }
-{
-    let file = value_in(matches, "FILE")?;
-    let certificate = value_in(matches, "CERT")?;
-    Some(Command::Verify { file, certificate })
-}
-
-// The command that the words of `verify` mean.
-fn verify_command<'a>(alloc: Global, words: &'a [String]) -> Result<Option<Command<'a>>, AllocError>
-    ensures command { IfOk result (λ found. Gives found (command_from verify_form verify_bound
-        (drop 1 (map string_bytes words.entry.now)))) }
-    ensures in_range { IfOk result GivesInRange }
-{
-    match verify_matches(alloc, words)? {
-        Some(matches) => Ok(verify_in(&matches)),
-        None => Ok(None),
-    }
-}
-
-// The command that the matches of `show` mean.
-fn show_in<'a>(matches: &ArgMatches<'a>) -> Option<Command<'a>>
-    ensures command { (bound : List Binding) → GivesValues show_form bound matches.now → Gives result (show_bound bound) }
-    ensures in_range { GivesInRange result }
-{
-    let file = value_in(matches, "FILE")?;
-    Some(Command::Show { file })
-}
-
-// The command that the words of `show` mean.
-fn show_command<'a>(alloc: Global, words: &'a [String]) -> Result<Option<Command<'a>>, AllocError>
-    ensures command { IfOk result (λ found. Gives found (command_from show_form show_bound (drop 1 (map string_bytes words.entry.now)))) }
-    ensures in_range { IfOk result GivesInRange }
-{
-    match show_matches(alloc, words)? {
-        Some(matches) => Ok(show_in(&matches)),
-        None => Ok(None),
-    }
-}
-
-// The command that the matches of `steps` mean.
-fn steps_in<'a>(matches: &ArgMatches<'a>) -> Option<Command<'a>>
-    ensures command { (bound : List Binding) → GivesValues steps_form bound matches.now → Gives result (steps_bound bound) }
-    ensures in_range { GivesInRange result }
-{
-    let file = value_in(matches, "FILE")?;
-    let configuration = value_in(matches, "CONFIGURATION")?;
-    Some(Command::Steps {
-        file,
-        configuration,
-    })
-}
-
-// The command that the words of `steps` mean.
-fn steps_command<'a>(alloc: Global, words: &'a [String]) -> Result<Option<Command<'a>>, AllocError>
-    ensures command { IfOk result (λ found. Gives found (command_from steps_form steps_bound
-        (drop 1 (map string_bytes words.entry.now)))) }
-    ensures in_range { IfOk result GivesInRange }
-{
-    match steps_matches(alloc, words)? {
-        Some(matches) => Ok(steps_in(&matches)),
-        None => Ok(None),
-    }
-}
-
-// The command that the matches of `gen` mean.
-fn generate_in<'a>(matches: &ArgMatches<'a>) -> Option<Command<'a>>
-    ensures command { (bound : List Binding) → GivesValues generate_form bound matches.now → Gives result (generate_bound bound) }
-    ensures in_range { GivesInRange result }
-{
-    let number = generated_in(matches)?;
-    let workers = workers_in(matches)?;
-    Some(Command::Generate { number, workers })
-}
-
-// The command that the words of `gen` mean.
-fn generate_command<'a>(
-    alloc: Global,
-    words: &'a [String],
-) -> Result<Option<Command<'a>>, AllocError>
-    ensures command { IfOk result (λ found. Gives found (command_from generate_form generate_bound
-        (drop 1 (map string_bytes words.entry.now)))) }
-    ensures in_range { IfOk result GivesInRange }
-{
-    match generate_matches(alloc, words)? {
-        Some(matches) => Ok(generate_in(&matches)),
-        None => Ok(None),
-    }
 }
 
 // Whether some word is empty.
@@ -224,18 +126,12 @@ fn command_called<'a>(
     ensures command { IfOk result (λ found. Gives found (command_named name.now (drop 1 (map string_bytes words.entry.now)))) }
     ensures in_range { IfOk result GivesInRange }
 {
-    if name == "check" {
-        Ok(check_command(alloc, words)?)
-    } else if name == "verify" {
-        Ok(verify_command(alloc, words)?)
-    } else if name == "show" {
-        Ok(show_command(alloc, words)?)
-    } else if name == "steps" {
-        Ok(steps_command(alloc, words)?)
-    } else if name == "gen" {
-        Ok(generate_command(alloc, words)?)
-    } else {
-        Ok(None)
+    let Some(name) = name_of(name) else {
+        return Ok(None);
+    };
+    match matches_of(alloc, name, words)? {
+        Some(matches) => Ok(command_in(name, &matches)),
+        None => Ok(None),
     }
 }
 

@@ -1,17 +1,29 @@
-//! The simple command of `clap` for each command of armc, and what its parse of the words gives. A parse is linear in the bytes of the
+//! The simple command of `clap` for the form of a command, and what its parse of the words gives. A parse is linear in the bytes of the
 //! words, times the few options.
 
-ghost use Rattle.std.specs.Prelude.{◌≡◌, true, [], codes, drop, map, string_bytes, MatchOption, IfOk, None};
+ghost use Rattle.std.specs.Prelude.{◌≡◌, true, [], drop, fold, map, string_bytes, MatchOption, IfOk, None};
 ghost use Rattle.clap.specs.Faults.{fault_of, is_simple_and_free};
 ghost use Rattle.clap.specs.Matches.{found_of};
-ghost use Rattle.clap.specs.Simple.{app_of, matches_of, with_rule};
+ghost use Rattle.clap.specs.Simple.{app_of, matches_of as rows_of_app, with_rule};
 ghost use Rattle.clap.specs.Walk.{rows_of};
-ghost use Rattle.command_words.specs.Parsing.{Fails, IsParsed, flag_rule, parser_of, positional_rule, two_form, valued_rule};
-ghost use Rattle.command_words.specs.Words.{check_form, generate_form, show_form, steps_form, verify_form, bindings};
+ghost use Rattle.command_words.specs.Parsing.{Fails, IsParsed, flag_rule, form_as_words, parser_of, positional_rule, rule_for, valued_rule};
+ghost use Rattle.command_words.specs.Words.{bindings, form_of as form_of_words};
 
+use crate::forms::{Form, Name, form_of};
 use clap::error::ErrorKind;
 use clap::{Arg, ArgAction, ArgMatches, Command as Parser};
 use std::alloc::{AllocError, Global};
+
+/// How a name of a form gets its value.
+#[derive(Clone, Copy, Debug, Drop)]
+enum Role {
+    /// By an option with a value.
+    Valued,
+    /// By an option without a value.
+    Flag,
+    /// By a positional word.
+    Positional,
+}
 
 // The command of clap with one more option, which takes a value.
 fn with_valued<'a>(
@@ -45,49 +57,47 @@ fn with_positional<'a>(
     Ok(parser.arg(word)?)
 }
 
-// The command of clap for `check`.
-fn check_parser<'a>(alloc: Global) -> Result<Parser<'a>, AllocError>
-    ensures { IfOk result (λ p. app_of p ≡ parser_of (codes "check") check_form) }
-{
-    let parser = Parser::new(alloc, "check").disable_help_flag(true);
-    let parser = with_valued(alloc, parser, "method")?;
-    let parser = with_valued(alloc, parser, "start")?;
-    let parser = with_valued(alloc, parser, "bound")?;
-    let parser = with_valued(alloc, parser, "budget")?;
-    let parser = with_valued(alloc, parser, "workers")?;
-    let parser = with_flag(alloc, parser, "report")?;
-    Ok(with_positional(alloc, parser, "FILE")?)
-}
-
-// The command of clap of this name for two texts.
-fn two_parser<'a>(
+// The command of clap with one more name of this role.
+fn with_name<'a>(
     alloc: Global,
+    parser: Parser<'a>,
+    role: Role,
     name: &'a str,
-    first: &'a str,
-    second: &'a str,
 ) -> Result<Parser<'a>, AllocError>
-    ensures { IfOk result (λ p. app_of p ≡ parser_of name.entry.now (two_form first.entry.now second.entry.now)) }
+    ensures { IfOk result (λ p. app_of p ≡ with_rule (app_of parser.entry) (rule_for role name.entry.now)) }
 {
-    let parser = Parser::new(alloc, name).disable_help_flag(true);
-    let parser = with_positional(alloc, parser, first)?;
-    Ok(with_positional(alloc, parser, second)?)
+    match role {
+        Role::Valued => with_valued(alloc, parser, name),
+        Role::Flag => with_flag(alloc, parser, name),
+        Role::Positional => with_positional(alloc, parser, name),
+    }
 }
 
-// The command of clap for `show`.
-fn show_parser<'a>(alloc: Global) -> Result<Parser<'a>, AllocError>
-    ensures { IfOk result (λ p. app_of p ≡ parser_of (codes "show") show_form) }
+// The command of clap with these names of one role more.
+fn with_names<'a>(
+    alloc: Global,
+    parser: Parser<'a>,
+    role: Role,
+    names: &'a [&'a str],
+) -> Result<Parser<'a>, AllocError>
+    ensures { IfOk result (λ p. app_of p ≡ fold with_rule (app_of parser.entry)
+        (map (rule_for role) (map (λ name. name.now) names.entry.now))) }
 {
-    let parser = Parser::new(alloc, "show").disable_help_flag(true);
-    Ok(with_positional(alloc, parser, "FILE")?)
+    let mut parser = parser;
+    for name in names {
+        parser = with_name(alloc, parser, role, name)?;
+    }
+    Ok(parser)
 }
 
-// The command of clap for `gen`.
-fn generate_parser<'a>(alloc: Global) -> Result<Parser<'a>, AllocError>
-    ensures { IfOk result (λ p. app_of p ≡ parser_of (codes "gen") generate_form) }
+// The command of clap for the form.
+fn parser_for<'a>(alloc: Global, form: Form<'a>) -> Result<Parser<'a>, AllocError>
+    ensures { IfOk result (λ p. app_of p ≡ parser_of (form_as_words form.entry)) }
 {
-    let parser = Parser::new(alloc, "gen").disable_help_flag(true);
-    let parser = with_valued(alloc, parser, "workers")?;
-    Ok(with_positional(alloc, parser, "N")?)
+    let parser = Parser::new(alloc, "armc").disable_help_flag(true);
+    let parser = with_names(alloc, parser, Role::Valued, form.valued)?;
+    let parser = with_names(alloc, parser, Role::Flag, form.flags)?;
+    Ok(with_names(alloc, parser, Role::Positional, form.positionals)?)
 }
 
 // The matches of the command of clap on the words, of which the first is its name, or none where it refuses them.
@@ -98,7 +108,7 @@ fn matches_on<'a>(
     requires { is_simple_and_free (app_of parser) ≡ true }
     ensures refused { IfOk result (λ found. MatchOption found (Fails (fault_of (app_of parser.entry) (map string_bytes words.entry.now)))
         (λ m. (fault_of (app_of parser.entry) (map string_bytes words.entry.now) ≡ [])
-        × (rows_of (found_of m) ≡ matches_of (app_of parser.entry) (map string_bytes words.entry.now)))) }
+        × (rows_of (found_of m) ≡ rows_of_app (app_of parser.entry) (map string_bytes words.entry.now)))) }
 {
     match parser.try_get_matches_from(words) {
         Ok(matches) => Ok(Some(matches)),
@@ -109,62 +119,15 @@ fn matches_on<'a>(
     }
 }
 
-// What the words of `check` bind.
-pub(crate) fn check_matches<'a>(
+/// What the words bind, of which the first names this command; none where they do not have its form.
+pub(crate) fn matches_of<'a>(
     alloc: Global,
+    name: Name,
     words: &'a [String],
 ) -> Result<Option<ArgMatches<'a>>, AllocError>
-    ensures { IfOk result (λ found. MatchOption found (bindings check_form (drop 1 (map string_bytes words.entry.now)) ≡ None)
-        (IsParsed check_form (drop 1 (map string_bytes words.entry.now)))) }
+    ensures { IfOk result (λ found. MatchOption found (bindings (form_of_words name) (drop 1 (map string_bytes words.entry.now)) ≡ None)
+        (IsParsed (form_of_words name) (drop 1 (map string_bytes words.entry.now)))) }
 {
-    let parser = check_parser(alloc)?;
-    Ok(matches_on(parser, words)?)
-}
-
-// What the words of `verify` bind.
-pub(crate) fn verify_matches<'a>(
-    alloc: Global,
-    words: &'a [String],
-) -> Result<Option<ArgMatches<'a>>, AllocError>
-    ensures { IfOk result (λ found. MatchOption found (bindings verify_form (drop 1 (map string_bytes words.entry.now)) ≡ None)
-        (IsParsed verify_form (drop 1 (map string_bytes words.entry.now)))) }
-{
-    let parser = two_parser(alloc, "verify", "FILE", "CERT")?;
-    Ok(matches_on(parser, words)?)
-}
-
-// What the words of `steps` bind.
-pub(crate) fn steps_matches<'a>(
-    alloc: Global,
-    words: &'a [String],
-) -> Result<Option<ArgMatches<'a>>, AllocError>
-    ensures { IfOk result (λ found. MatchOption found (bindings steps_form (drop 1 (map string_bytes words.entry.now)) ≡ None)
-        (IsParsed steps_form (drop 1 (map string_bytes words.entry.now)))) }
-{
-    let parser = two_parser(alloc, "steps", "FILE", "CONFIGURATION")?;
-    Ok(matches_on(parser, words)?)
-}
-
-// What the words of `show` bind.
-pub(crate) fn show_matches<'a>(
-    alloc: Global,
-    words: &'a [String],
-) -> Result<Option<ArgMatches<'a>>, AllocError>
-    ensures { IfOk result (λ found. MatchOption found (bindings show_form (drop 1 (map string_bytes words.entry.now)) ≡ None)
-        (IsParsed show_form (drop 1 (map string_bytes words.entry.now)))) }
-{
-    let parser = show_parser(alloc)?;
-    Ok(matches_on(parser, words)?)
-}
-
-// What the words of `gen` bind.
-pub(crate) fn generate_matches<'a>(
-    alloc: Global,
-    words: &'a [String],
-) -> Result<Option<ArgMatches<'a>>, AllocError>
-    ensures { IfOk result (λ found. MatchOption found (bindings generate_form (drop 1 (map string_bytes words.entry.now)) ≡ None)
-        (IsParsed generate_form (drop 1 (map string_bytes words.entry.now)))) }
-{
-    let parser = generate_parser(alloc)?;
+    let parser = parser_for(alloc, form_of(name))?;
     Ok(matches_on(parser, words)?)
 }

@@ -1,20 +1,18 @@
-//! The values of names in what `clap` found: numbers of few digits in a range, choices, and the settings of a search. Each value is looked
-//! at once.
+//! The values of names in what `clap` found: numbers of few digits in a range, choices, the limits of a search, and the settings of
+//! `check`. Each value is looked at once.
 
 ghost use Rattle.std.specs.Prelude.{List, ◌≡◌, ◌≤◌, true, false, codes, option_map, option_and_then, IfSome};
 ghost use Rattle.std.specs.Char.{is_ascii_digit};
 ghost use Rattle.std.specs.List.{list_all};
 ghost use Rattle.command_words.specs.Parsing.{GivesValues};
-ghost use Rattle.command_words.specs.Words.{check_form, generate_form, given, is_number as is_number_word, method_of};
-ghost use Rattle.command_words.specs.Words.{number_after, number_in, start_of, value_of, workers_given, Binding, is_among};
-ghost use Rattle.command_words.specs.Words.{is_true, most_workers, Form as FormData, settings_of, most_generated};
-ghost use Rattle.command_words.specs.Words.{IsSettings};
+ghost use Rattle.command_words.specs.Words.{Binding, Form as FormData, IsLimits, IsSettings, form_of, is_among, is_true};
+ghost use Rattle.command_words.specs.Words.{bound_given, budget_given, limits_given, settings_given, workers_given, value_of, given};
+ghost use Rattle.command_words.specs.Words.{is_number as is_number_word, method_of, number_after, number_in, start_of};
+ghost use Rattle.command_words.specs.Words.{most_bound, most_budget, most_generated, most_workers};
+ghost use Rattle.command_words.specs.declared.forms.Name.TheVariants as names;
 
-use crate::{Method, Settings, Start};
+use crate::{DEFAULT_BUDGET, Limits, Method, Settings, Start};
 use clap::ArgMatches;
-
-/// The budget where the words give none.
-const DEFAULT_BUDGET: u32 = 100_000;
 
 /// The most digits of a number.
 const MOST_DIGITS: usize = 7;
@@ -51,7 +49,8 @@ fn is_given(word: Option<&str>) -> bool
 
 // Whether the report is asked for.
 fn report_in(matches: &ArgMatches<'_>) -> bool
-    ensures { (bound : List Binding) → GivesValues check_form bound matches.now → result ≡ is_true (value_of (codes "report") bound) }
+    ensures { (bound : List Binding) → GivesValues (form_of names.Check) bound matches.now
+        → result ≡ is_true (value_of (codes "report") bound) }
 {
     is_given(matches.get_str("report"))
 }
@@ -155,6 +154,24 @@ fn start_or(word: Option<&str>) -> Option<Start>
     }
 }
 
+// The bound that the matches give.
+pub(crate) fn bound_in(matches: &ArgMatches<'_>) -> Option<u32>
+    ensures number { (form : FormData) (bound : List Binding) → GivesValues form bound matches.now
+        → is_among (codes "bound") form.flags ≡ false → result ≡ bound_given bound }
+    ensures in_range { IfSome result (λ n. n ≤ most_bound) }
+{
+    number_or(value_in(matches, "bound"), 0, 0, MOST_BOUND)
+}
+
+// The budget that the matches give.
+pub(crate) fn budget_in(matches: &ArgMatches<'_>) -> Option<u32>
+    ensures number { (form : FormData) (bound : List Binding) → GivesValues form bound matches.now
+        → is_among (codes "budget") form.flags ≡ false → result ≡ budget_given bound }
+    ensures in_range { IfSome result (λ n. (1 ≤ n) × (n ≤ most_budget)) }
+{
+    number_or(value_in(matches, "budget"), DEFAULT_BUDGET, 1, MOST_BUDGET)
+}
+
 // The number of workers that the matches give.
 pub(crate) fn workers_in(matches: &ArgMatches<'_>) -> Option<u32>
     ensures number { (form : FormData) (bound : List Binding) → GivesValues form bound matches.now
@@ -164,30 +181,40 @@ pub(crate) fn workers_in(matches: &ArgMatches<'_>) -> Option<u32>
     number_or(value_in(matches, "workers"), 1, 1, MOST_WORKERS)
 }
 
-// The settings that the matches give.
+// The limits that the matches give.
+pub(crate) fn limits_in(matches: &ArgMatches<'_>) -> Option<Limits>
+    ensures limits { (form : FormData) (bound : List Binding) → GivesValues form bound matches.now
+        → is_among (codes "budget") form.flags ≡ false → is_among (codes "workers") form.flags ≡ false → result ≡ limits_given bound }
+    ensures in_range { IfSome result IsLimits }
+{
+    let budget = budget_in(matches)?;
+    let workers = workers_in(matches)?;
+    Some(Limits {
+        budget: u64::from(budget),
+        workers,
+    })
+}
+
+// The settings that the matches of `check` give.
 pub(crate) fn settings_in(matches: &ArgMatches<'_>) -> Option<Settings>
-    ensures settings { (bound : List Binding) → GivesValues check_form bound matches.now → result ≡ settings_of bound }
+    ensures settings { (bound : List Binding) → GivesValues (form_of names.Check) bound matches.now → result ≡ settings_given bound }
     ensures in_range { IfSome result IsSettings }
 {
     let method = method_or(value_in(matches, "method"))?;
     let start = start_or(value_in(matches, "start"))?;
-    let bound = number_or(value_in(matches, "bound"), 0, 0, MOST_BOUND)?;
-    let budget = number_or(value_in(matches, "budget"), DEFAULT_BUDGET, 1, MOST_BUDGET)?;
-    let workers = workers_in(matches)?;
+    let bound = bound_in(matches)?;
     let report = report_in(matches);
     Some(Settings {
         method,
         start,
         bound: u64::from(bound),
-        budget: u64::from(budget),
-        workers,
         report,
     })
 }
 
 // The number that the matches of `gen` give.
 pub(crate) fn generated_in(matches: &ArgMatches<'_>) -> Option<u32>
-    ensures number { (bound : List Binding) → GivesValues generate_form bound matches.now
+    ensures number { (bound : List Binding) → GivesValues (form_of names.Generate) bound matches.now
         → result ≡ option_and_then (number_in 1 most_generated) (value_of (codes "N") bound) }
     ensures in_range { IfSome result (λ n. (1 ≤ n) × (n ≤ most_generated)) }
 {

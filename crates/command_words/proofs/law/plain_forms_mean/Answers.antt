@@ -1,13 +1,13 @@
-use Rattle.std.proofs.Common.{◌≡◌, ℕ, List, Option, Some, false, refl, ap}
-use Rattle.command_words.specs.declared.Method.TheVariants.{Predicates}
-use Rattle.command_words.specs.declared.Start.TheVariants.{Bad}
-use Rattle.command_words.specs.PlainForms.{default_settings}
-use Rattle.command_words.specs.Words.{check, check_of, most_budget, number_in, settings_from}
+use Rattle.std.proofs.Common.{◌≡◌, ℕ, List, Option, Some, refl, ap}
+use Rattle.command_words.specs.declared.Query.TheVariants.{Check}
+use Rattle.command_words.specs.PlainForms.{default_limits, default_settings}
+use Rattle.command_words.specs.Words.{limits_from, most_budget, number_in, searching, searching_of}
 use Rattle.command_words.proofs.law.plain_forms_mean.Goals as goal
 
 budgeted : (file : List ℕ) (o : Option ℕ) (budget : ℕ) → o ≡ Some budget
-    → check_of (Some file) (settings_from (Some Predicates) (Some Bad) (Some 0) o (Some 1) false) ≡ Some (check file (record default_settings { budget = budget }))
-budgeted file o budget e = ap (λ x. check_of (Some file) (settings_from (Some Predicates) (Some Bad) (Some 0) x (Some 1) false)) e
+    → searching_of (Some file) (Some (Check default_settings)) (limits_from o (Some 1))
+    ≡ Some (searching file (Check default_settings) (record default_limits { budget = budget }))
+budgeted file o budget e = ap (λ x. searching_of (Some file) (Some (Check default_settings)) (limits_from x (Some 1))) e
 
 pub returns : goal.returns
 returns c = record {

@@ -1,0 +1,12 @@
+use Rattle.std.proofs.Common.{refl, subst, sym}
+use Rattle.command_words.specs.Parsing.{Gives, GivesValues}
+use Rattle.command_words.specs.Words.{command_given, form_of, searching_given}
+use Rattle.command_words.specs.declared.forms.Name.TheVariants as names
+use Rattle.command_words.proofs.commands.command_in.Goals as goal
+
+pub returns-in-Check-clause-command : goal.returns-in-Check-clause-command
+returns-in-Check-clause-command c bound has =
+    let here = subst (λ name. GivesValues (form_of name) bound c.args.matches.now) c.in-Check.is has in
+    subst (λ name. Gives c.search_in.result (command_given name bound)) (sym c.in-Check.is)
+    (subst (λ query. Gives c.search_in.result (searching_given bound query)) (c.check_query_in.ensures.query bound here)
+    (c.search_in.ensures.command (form_of names.Check) bound here refl refl refl))

@@ -1,0 +1,101 @@
+//! The command that the matches of `clap` mean, by the command's name. Every searching command has its query, and the file and the limits
+//! are read once for all of them. Each value is looked at once.
+
+ghost use Rattle.std.specs.Prelude.{List, ◌≡◌, false, codes, option_map, IfSome};
+ghost use Rattle.command_words.specs.declared.Query.TheVariants.{Check};
+ghost use Rattle.command_words.specs.declared.forms.Name.TheVariants as names;
+ghost use Rattle.command_words.specs.Parsing.{Gives, GivesInRange, GivesValues};
+ghost use Rattle.command_words.specs.Words.{Binding, Form as FormData, IsQuery, command_given, form_of, is_among, searching_given, settings_given};
+
+use crate::forms::Name;
+use crate::values::{generated_in, limits_in, settings_in, value_in, workers_in};
+use crate::{Command, Query};
+use clap::ArgMatches;
+
+// The query of `check`.
+fn check_query_in(matches: &ArgMatches<'_>) -> Option<Query>
+    ensures query { (bound : List Binding) → GivesValues (form_of names.Check) bound matches.now
+        → result ≡ option_map Check (settings_given bound) }
+    ensures in_range { IfSome result IsQuery }
+{
+    let settings = settings_in(matches)?;
+    Some(Query::Check(settings))
+}
+
+// The searching command of this query, if there is one.
+fn search_in<'a>(matches: &ArgMatches<'a>, query: Option<Query>) -> Option<Command<'a>>
+    requires { IfSome query IsQuery }
+    ensures command { (form : FormData) (bound : List Binding) → GivesValues form bound matches.now
+        → is_among (codes "FILE") form.flags ≡ false → is_among (codes "budget") form.flags ≡ false
+        → is_among (codes "workers") form.flags ≡ false → Gives result (searching_given bound query) }
+    ensures in_range { GivesInRange result }
+{
+    let file = value_in(matches, "FILE")?;
+    let query = query?;
+    let limits = limits_in(matches)?;
+    Some(Command::Search {
+        file,
+        query,
+        limits,
+    })
+}
+
+// The command of `verify`.
+fn verify_in<'a>(matches: &ArgMatches<'a>) -> Option<Command<'a>>
+    ensures command { (bound : List Binding) → GivesValues (form_of names.Verify) bound matches.now
+        → Gives result (command_given names.Verify bound) }
+    ensures in_range { GivesInRange result }
+{
+    let file = value_in(matches, "FILE")?;
+    let certificate = value_in(matches, "CERT")?;
+    Some(Command::Verify { file, certificate })
+}
+
+// The command of `show`.
+fn show_in<'a>(matches: &ArgMatches<'a>) -> Option<Command<'a>>
+    ensures command { (bound : List Binding) → GivesValues (form_of names.Show) bound matches.now
+        → Gives result (command_given names.Show bound) }
+    ensures in_range { GivesInRange result }
+{
+    let file = value_in(matches, "FILE")?;
+    Some(Command::Show { file })
+}
+
+// The command of `steps`.
+fn steps_in<'a>(matches: &ArgMatches<'a>) -> Option<Command<'a>>
+    ensures command { (bound : List Binding) → GivesValues (form_of names.Steps) bound matches.now
+        → Gives result (command_given names.Steps bound) }
+    ensures in_range { GivesInRange result }
+{
+    let file = value_in(matches, "FILE")?;
+    let configuration = value_in(matches, "CONFIGURATION")?;
+    Some(Command::Steps {
+        file,
+        configuration,
+    })
+}
+
+// The command of `gen`.
+fn generate_in<'a>(matches: &ArgMatches<'a>) -> Option<Command<'a>>
+    ensures command { (bound : List Binding) → GivesValues (form_of names.Generate) bound matches.now
+        → Gives result (command_given names.Generate bound) }
+    ensures in_range { GivesInRange result }
+{
+    let number = generated_in(matches)?;
+    let workers = workers_in(matches)?;
+    Some(Command::Generate { number, workers })
+}
+
+/// The command of this name that the matches mean, if there is one.
+pub(crate) fn command_in<'a>(name: Name, matches: &ArgMatches<'a>) -> Option<Command<'a>>
+    ensures command { (bound : List Binding) → GivesValues (form_of name) bound matches.now → Gives result (command_given name bound) }
+    ensures in_range { GivesInRange result }
+{
+    match name {
+        Name::Check => search_in(matches, check_query_in(matches)),
+        Name::Verify => verify_in(matches),
+        Name::Show => show_in(matches),
+        Name::Steps => steps_in(matches),
+        Name::Generate => generate_in(matches),
+    }
+}

@@ -1,0 +1,99 @@
+//! The names of the commands, and the form of the words after each: which options there are, and which positional words. A name is found
+//! by comparing it with each.
+
+ghost use Rattle.std.specs.Prelude.{◌≡◌};
+ghost use Rattle.command_words.specs.Parsing.{form_as_words};
+ghost use Rattle.command_words.specs.Words.{form_of as form_of_words, name_of as name_of_words};
+
+/// A command by its name.
+#[derive(Clone, Copy, Debug, Drop)]
+pub(crate) enum Name {
+    /// `check`
+    Check,
+    /// `verify`
+    Verify,
+    /// `show`
+    Show,
+    /// `steps`
+    Steps,
+    /// `gen`
+    Generate,
+}
+
+/// The form of the words after a command's name.
+#[derive(Clone, Copy, Debug, Drop)]
+pub(crate) struct Form<'a> {
+    /// The full names of the options with a value.
+    pub(crate) valued: &'a [&'a str],
+    /// The full names of the options without a value.
+    pub(crate) flags: &'a [&'a str],
+    /// The names of the positional words in order.
+    pub(crate) positionals: &'a [&'a str],
+}
+
+/// The form of `check`.
+const CHECK: Form<'static> = Form {
+    valued: &["method", "start", "bound", "budget", "workers"],
+    flags: &["report"],
+    positionals: &["FILE"],
+};
+
+/// The form of `verify`.
+const VERIFY: Form<'static> = Form {
+    valued: &[],
+    flags: &[],
+    positionals: &["FILE", "CERT"],
+};
+
+/// The form of `show`.
+const SHOW: Form<'static> = Form {
+    valued: &[],
+    flags: &[],
+    positionals: &["FILE"],
+};
+
+/// The form of `steps`.
+const STEPS: Form<'static> = Form {
+    valued: &[],
+    flags: &[],
+    positionals: &["FILE", "CONFIGURATION"],
+};
+
+/// The form of `gen`.
+const GENERATE: Form<'static> = Form {
+    valued: &["workers"],
+    flags: &[],
+    positionals: &["N"],
+};
+
+/// The command that the word names, if there is one.
+pub(crate) fn name_of(word: &str) -> Option<Name>
+    ensures { result ≡ name_of_words word.now }
+{
+    if word == "check" {
+        Some(Name::Check)
+    } else if word == "verify" {
+        Some(Name::Verify)
+    } else if word == "show" {
+        Some(Name::Show)
+    } else if word == "steps" {
+        Some(Name::Steps)
+    } else if word == "gen" {
+        Some(Name::Generate)
+    } else {
+        None
+    }
+}
+
+/// The form of the command of this name.
+pub(crate) fn form_of(name: Name) -> Form<'static>
+    ensures { form_as_words result ≡ form_of_words name }
+{
+    match name {
+        Name::Check => CHECK,
+        Name::Verify => VERIFY,
+        Name::Show => SHOW,
+        Name::Steps => STEPS,
+        Name::Generate => GENERATE,
+    }
+}
