@@ -1,3 +1,4 @@
+pub mod Blocks
 pub mod BoundedWordLemmas
 pub mod ClassMoves
 pub mod ClassWords

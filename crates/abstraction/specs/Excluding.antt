@@ -1,7 +1,6 @@
 -- Sets of words that merging keeps out.
 use Rattle.std.specs.Prelude.{ℕ, List, [], ◌∷◌, IsTrue}
 use Rattle.word_automata.specs.Automaton.{Automaton, accepts}
-use Rattle.minimise.specs.Canonical.{IsCanonical}
 use Rattle.abstraction.specs.Merging.{Key, IsMerged}
 
 -- no word is accepted by both
@@ -20,5 +19,5 @@ refined_by next key (x ∷ xs) = refined_by next (next key x) xs
 -- after a refinement by a set, and by any others later, each automaton that misses the set misses it when it is merged
 abbrev pub Excludes : (Key → Automaton → ℕ → ℕ → Type 0) → (Key → Automaton → Key) → Type 0
 Excludes related next =
-    (key : Key) (x : Automaton) (later : List Automaton) (a : Automaton) → IsCanonical x → IsCanonical a → Misses a x
+    (key : Key) (x : Automaton) (later : List Automaton) (a : Automaton) → Misses a x
     → MergedMisses (related (refined_by next (next key x) later) a) a x

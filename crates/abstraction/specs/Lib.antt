@@ -1,6 +1,9 @@
+pub mod BoundLaws
 pub mod BoundedWords
+pub mod Bounds
 pub mod ClassAutomata
 pub mod Excluding
 pub mod FirstStates
 pub mod Merging
+pub mod Partitions
 pub mod Signatures

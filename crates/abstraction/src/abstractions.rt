@@ -1,6 +1,7 @@
-//! What the search asks of an abstraction.
+//! What the search asks of an abstraction: classes of the states of an automaton, and how it is refined by a set that no bad run goes
+//! through. The traits have no code of their own; what a call costs is the implementation's.
 
-ghost use Rattle.std.specs.Prelude.{◌≡◌, ℕ, List, IfOk, OnOk, OnErr, length};
+ghost use Rattle.std.specs.Prelude.{◌≡◌, ℕ, List, [], ◌∷◌, ◌++◌, IfOk, OnOk, OnErr, length};
 ghost use Rattle.word_automata.specs.Automaton.{Automaton};
 ghost use Rattle.abstraction.specs.Merging.{Key, IsOver, IsEquivalence, AreClasses};
 ghost use Rattle.abstraction.specs.Excluding.{refined_by, Excludes};
@@ -25,14 +26,19 @@ pub trait Abstraction {
 }
 
 /// An abstraction that a refuted set refines: the next key, which the old one and the set determine, relates no more states.
+///
+/// Contracts see what a refinement makes of the abstraction as `after`.
 pub trait Refinable: Abstraction {
     ghost next: { Key → Automaton → Key };
+
+    ghost after: { Self → Automaton → Self };
 
     /// Refines the abstraction by a refuted set, which has the letters of the key's automata. When out of memory it is as before.
     fn refine(&mut self, alloc: Global, refuted: &Canon) -> Result<(), AllocError>
         requires { IsOver refuted.now.letters (Self.key self.old) }
         ensures ok { OnOk result (Self.key self.new ≡ next (Self.key self.old) refuted.now) }
-        ensures err { OnErr result (Self.key self.new ≡ Self.key self.old) };
+        ensures value { OnOk result (self.new ≡ after self.old refuted.now) }
+        ensures err { OnErr result (self.new ≡ self.old) };
 
     // What the next key relates, the key relates too.
     ghost finer: { (k : Key) (x a : Automaton) (p q : ℕ) → Self.related (next k x) a p q → Self.related k a p q };
@@ -55,6 +61,12 @@ pub trait Excluding: Refinable {
 
     // The key is the first one, refined by the refuted sets.
     ghost refined: { (s : Self) → Self.key s ≡ refined_by Self.next (first s) (refuted s) };
+
+    // A refinement leaves the first key.
+    ghost first_stays: { (s : Self) (x : Automaton) → first (Self.after s x) ≡ first s };
+
+    // The refuted sets are those by which it was refined: each refinement adds its set.
+    ghost adds: { (s : Self) (x : Automaton) → refuted (Self.after s x) ≡ refuted s ++ x ∷ [] };
 
     // Merged automata miss the refuted sets that the automata miss.
     ghost excludes: { Excludes Self.related Self.next };

@@ -7,8 +7,10 @@ mod class_automaton;
 mod class_numbers;
 mod laws;
 mod merging;
+mod partition;
 
 pub use abstractions::{Abstraction, Excluding, Refinable};
 pub use class_numbers::first_states;
 pub use laws::one_merged_language;
 pub use merging::{merge, merge_related};
+pub use partition::Partition;

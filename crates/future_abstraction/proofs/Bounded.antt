@@ -11,7 +11,8 @@ use Rattle.minimise.specs.Refinement.{live_class, live_edge, signature_of, IsSpl
 use Rattle.minimise.proofs.Edges.{edges_differ, next_state, accepts_from-next, look_up-live_edges, live_edges-increasing, live_class-same}
 use Rattle.minimise.proofs.Refining.{index-zeros}
 use Rattle.abstraction.specs.Merging.{AreClasses}
-use Rattle.future_abstraction.specs.Futures.{is_related, up_to}
+use Rattle.abstraction.specs.Bounds.{up_to}
+use Rattle.future_abstraction.specs.Futures.{is_related}
 
 -- each word of less than k letters is accepted from both states or from neither
 abbrev pub AgreeBelow : Automaton → ℕ → ℕ → ℕ → Type 0

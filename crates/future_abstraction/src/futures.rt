@@ -1,9 +1,11 @@
 //! The abstraction by words of bounded length. Classes are split in rounds, each of which tells states apart by words of one letter
 //! more, until a round changes nothing: each takes time linear in the states and edges, and there are at most as many as states.
 
-ghost use Rattle.std.specs.Prelude.{◌≡◌, IsOk, OnOk};
-ghost use Rattle.future_abstraction.specs.Futures.{up_to, is_related, next_key};
-ghost use Rattle.future_abstraction.specs.FutureLaws.{related-equivalence, related-finer, next_key-over};
+ghost use Rattle.std.specs.Prelude.{◌≡◌, IsOk};
+ghost use Rattle.abstraction.specs.Bounds.{up_to, next_bound, next_key};
+ghost use Rattle.abstraction.specs.BoundLaws.{next_key-over};
+ghost use Rattle.future_abstraction.specs.Futures.{is_related};
+ghost use Rattle.future_abstraction.specs.FutureLaws.{related-equivalence, related-finer};
 
 use abstraction::{Abstraction, Refinable};
 use minimise::{Canon, split};
@@ -42,10 +44,12 @@ impl Abstraction for Futures {
 impl Refinable for Futures {
     ghost next = { next_key };
 
+    ghost after = { λ f x. record { bound = next_bound f.bound } };
+
     /// Makes the bound one more, unless it is the greatest number of 64 bits. It takes no memory.
     fn refine(&mut self, _alloc: Global, _refuted: &Canon) -> Result<(), AllocError>
         ensures done { IsOk result }
-        ensures key { OnOk result (up_to self.new.bound ≡ next_key (up_to self.old.bound) _refuted.now) }
+        ensures bound { self.new.bound ≡ next_bound self.old.bound }
     {
         self.bound = self.bound.saturating_add(1);
         Ok(())

@@ -6,7 +6,7 @@ use Rattle.word_automata.specs.Path.{Node, edges_of, is_accepting}
 use Rattle.word_automata.specs.Automaton.{Automaton}
 use Rattle.predicate_abstraction.specs.Pairs.{Pairs, AddsPairs}
 use Rattle.predicate_abstraction.specs.SharedWords.{IsAcceptingIn, AreAccepting, IsSource, AreSources}
-use Rattle.predicate_abstraction.proofs.Edges.{take_cases, take_keeps, take_last}
+use Rattle.abstraction.proofs.ListMembers.{take_cases, take_keeps, take_last}
 use Rattle.predicate_abstraction.proofs.Marks.{adds_both, adds_same}
 
 -- two pairs with equal parts

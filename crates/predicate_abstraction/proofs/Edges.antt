@@ -1,8 +1,6 @@
 -- Edges of automata, and the words that are accepted along them.
-use Rattle.std.proofs.Common.{◌≡◌, ◌<◌, ◌+◌, ℕ, List, [], ◌∷◌, Some, Contains, IsTrue, length, take, get_or, sym, subst, inl, inr, ◌⊎◌}
+use Rattle.std.proofs.Common.{◌≡◌, ◌<◌, ℕ, List, ◌∷◌, Some, Contains, IsTrue, length, subst, inl, inr}
 use Rattle.std.proofs.lemmas.Bool.{cases_lt}
-use Rattle.std.proofs.lemmas.List.{take_more}
-use Rattle.std.proofs.lemmas.List.Elements.{Contains-append_left, Contains-push, Contains-push_cases}
 use Rattle.word_automata.specs.Path.{edges_of}
 use Rattle.word_automata.specs.Automaton.{Automaton, target, accepts_from, IsValid}
 use Rattle.word_automata.proofs.Edges.{edges_of-past, found_edge, edge_found}
@@ -23,16 +21,6 @@ pub accepts_first : (a : Automaton) (p letter : ℕ) (w : List ℕ) → IsTrue (
 accepts_first a p letter w accepts =
     let (r, leads, rest) = first_target a p letter w accepts in
     (r, found_edge (edges_of a.states p) letter r leads, rest)
-
--- one more of the first elements
-pub take_cases : {X : Type 0} (xs : List X) (i : ℕ) (d x : X) → i < length xs → Contains (take (i + 1) xs) x → Contains (take i xs) x ⊎ (get_or xs i d ≡ x)
-take_cases xs i d x within there = Contains-push_cases (take i xs) (get_or xs i d) x (subst (λ ys. Contains ys x) (take_more xs i d within) there)
-
-pub take_keeps : {X : Type 0} (xs : List X) (i : ℕ) (d x : X) → i < length xs → Contains (take i xs) x → Contains (take (i + 1) xs) x
-take_keeps xs i d x within there = subst (λ ys. Contains ys x) (sym (take_more xs i d within)) (Contains-append_left (take i xs) (get_or xs i d ∷ []) x there)
-
-pub take_last : {X : Type 0} (xs : List X) (i : ℕ) (d : X) → i < length xs → Contains (take (i + 1) xs) (get_or xs i d)
-take_last xs i d within = subst (λ ys. Contains ys (get_or xs i d)) (sym (take_more xs i d within)) (Contains-push (take i xs) (get_or xs i d))
 
 -- a state with an edge is there
 pub edge_within : (a : Automaton) (p letter r : ℕ) → Contains (edges_of a.states p) (letter, r) → p < length a.states

@@ -1,5 +1,4 @@
 pub mod Adding
-pub mod Blocks
 pub mod ClassPairs
 pub mod Edges
 pub mod Links

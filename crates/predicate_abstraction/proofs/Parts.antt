@@ -10,21 +10,20 @@ use Rattle.abstraction.specs.Merging.{AreClasses}
 use Rattle.predicate_abstraction.specs.Predicates.{SharesWord, MeetSame}
 use Rattle.predicate_abstraction.specs.Pairs.{Pairs, AreRowsOf}
 use Rattle.predicate_abstraction.specs.SharedWords.{AreShared}
-use Rattle.predicate_abstraction.specs.Splitting.{AreNumbers, AreClassesBy, AreBlocks, IsRefined, IsNumbering, IsSplitBefore}
-use Rattle.predicate_abstraction.proofs.Edges.{take_cases}
+use Rattle.abstraction.specs.Partitions.{AreNumbers, IsRefined, IsNumbering}
+use Rattle.abstraction.proofs.ListMembers.{take_cases}
+use Rattle.predicate_abstraction.specs.Splitting.{AreClassesBy, IsSplitBefore}
 
 -- states are in one block where they were in one class, and share words with the same states of b before i
-pub record HasSplit (a b : Automaton) (i : ℕ) (classes blocks moved : List ℕ) : Type 0 where
+pub record HasSplit (a b : Automaton) (i : ℕ) (classes blocks : List ℕ) : Type 0 where
   pub count : length blocks ≡ length a.states
-  pub are : AreBlocks blocks moved
   pub apart : (p q : ℕ) → p < length a.states → q < length a.states
       → (get_or blocks p 0 ≡ get_or blocks q 0) ↔ ((get_or classes p 0 ≡ get_or classes q 0) × ((s : ℕ) → s < i → SharesWord a p b s ↔ SharesWord a q b s))
 
 -- no column
-pub split_none : (a b : Automaton) (classes blocks moved : List ℕ) → blocks ≡ classes → AreNumbers (length a.states) classes → AreBlocks blocks moved → HasSplit a b 0 classes blocks moved
-split_none a b classes blocks moved same numbers are = record {
+pub split_none : (a b : Automaton) (classes blocks : List ℕ) → blocks ≡ classes → AreNumbers (length a.states) classes → HasSplit a b 0 classes blocks
+split_none a b classes blocks same numbers = record {
   count = ap length same ∙ numbers.count;
-  are = are;
   apart = λ p q lp lq. (
     λ e. (sym (ap (λ xs. get_or xs p 0) same) ∙ e ∙ ap (λ xs. get_or xs q 0) same, λ s below. absurd (omega arith)),
     λ both. ap (λ xs. get_or xs p 0) same ∙ both.0 ∙ sym (ap (λ xs. get_or xs q 0) same),
@@ -32,11 +31,10 @@ split_none a b classes blocks moved same numbers are = record {
 }
 
 -- one more column
-pub split_more : (a b : Automaton) (set : Pairs) → AreShared a b set → (classes blocks moved finer more rows : List ℕ) (i : ℕ) → AreRowsOf set i rows → HasSplit a b i classes blocks moved
-    → AreBlocks finer more → IsRefined rows blocks finer → HasSplit a b (i + 1) classes finer more
-split_more a b set shared classes blocks moved finer more rows i of before are refined = record {
+pub split_more : (a b : Automaton) (set : Pairs) → AreShared a b set → (classes blocks finer rows : List ℕ) (i : ℕ) → AreRowsOf set i rows → HasSplit a b i classes blocks
+    → IsRefined rows blocks finer → HasSplit a b (i + 1) classes finer
+split_more a b set shared classes blocks finer rows i of before refined = record {
   count = refined.count ∙ before.count;
-  are = are;
   apart = λ p q lp lq.
       let count = before.count in
       let now = refined.apart p q (omega arith) (omega arith) in
@@ -64,8 +62,8 @@ split_more a b set shared classes blocks moved finer more rows i of before are r
     shares p = (λ h. (shared.shared p i).0 ((of.same p).0 h), λ h. (of.same p).1 ((shared.shared p i).1 h))
 
 -- the numbers of the blocks
-pub split_numbered : (a b : Automaton) (i : ℕ) (classes blocks moved finer : List ℕ) → HasSplit a b i classes blocks moved → IsNumbering blocks finer → IsSplitBefore a b i classes finer
-split_numbered a b i classes blocks moved finer split numbering = record {
+pub split_numbered : (a b : Automaton) (i : ℕ) (classes blocks finer : List ℕ) → HasSplit a b i classes blocks → IsNumbering blocks finer → IsSplitBefore a b i classes finer
+split_numbered a b i classes blocks finer split numbering = record {
   numbers = subst (λ n. AreNumbers n finer) split.count numbering.numbers;
   apart = λ p q lp lq.
       let count = split.count in

@@ -8,7 +8,7 @@ use Rattle.word_automata.specs.Automaton.{Automaton, IsValid}
 use Rattle.word_automata.specs.Nondeterministic.{NondeterministicAutomaton, AddsMove}
 use Rattle.word_automata.proofs.Members.{Contains-none}
 use Rattle.predicate_abstraction.specs.Reversal.{IsReverse, HasReversed}
-use Rattle.predicate_abstraction.proofs.Edges.{take_cases}
+use Rattle.abstraction.proofs.ListMembers.{take_cases}
 
 -- a state without edges has none, and the others keep theirs
 pub edges_of-bare : (states : List (Node (Option ℕ))) (b : Bool) (q : ℕ) → edges_of (states ++ record { accepting = b; edges = [] } ∷ []) q ≡ edges_of states q

@@ -8,8 +8,9 @@ use Rattle.word_automata.specs.Automaton.{Automaton, IsValid}
 use Rattle.word_automata.specs.Nondeterministic.{NondeterministicAutomaton, AddsMove}
 use Rattle.word_automata.proofs.Members.{Contains-none, All-from_contains}
 use Rattle.word_automata.proofs.Rows.{All-edges_of}
+use Rattle.abstraction.proofs.ListMembers.{take_cases}
 use Rattle.predicate_abstraction.specs.Sources.{AreSourcesByLetter, HasSources}
-use Rattle.predicate_abstraction.proofs.Edges.{edge_within, take_cases}
+use Rattle.predicate_abstraction.proofs.Edges.{edge_within}
 use Rattle.predicate_abstraction.proofs.Marks.{place-row, place-column}
 
 -- the letter of an edge is one of the automaton's

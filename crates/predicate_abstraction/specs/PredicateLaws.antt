@@ -2,14 +2,14 @@
 use Rattle.std.specs.Prelude.{◌≡◌, ◌<◌, ◌++◌, ℕ, Bool, false, List, [], ◌∷◌, Option, None, Some, IsTrue, Contains, length}
 use Rattle.std.proofs.Common.{refl, sym, ap, subst, ◌∙◌, inl, inr}
 use Rattle.std.proofs.lemmas.Bool.{false≢true, cases_lt}
-use Rattle.std.proofs.lemmas.List.{append-nil, append_assoc, take-append-drop}
+use Rattle.std.proofs.lemmas.List.{append-nil, append_assoc}
 use Rattle.std.proofs.lemmas.List.Elements.{All-append, All-cons, All-nil, Contains-append_left, Contains-push}
 use Rattle.std.proofs.lemmas.Option.{slice_get_past}
 use Rattle.word_automata.specs.Path.{Node, is_accepting}
 use Rattle.word_automata.specs.Automaton.{Automaton, find_target, target, accepts_from}
 use Rattle.abstraction.specs.Merging.{Key, IsOver, IsEquivalence, IsMergedFrom}
 use Rattle.abstraction.specs.Excluding.{Excludes, refined_by}
-use Rattle.predicate_abstraction.specs.Predicates.{SharesWord, MeetSame, StartedKey, first_key, later_automata, is_related, next_key}
+use Rattle.predicate_abstraction.specs.Predicates.{SharesWord, MeetSame, RefinedKey, key_of, refined_with, is_related, next_key}
 
 pub related-equivalence : (k : Key) (a : Automaton) → IsEquivalence (is_related k a)
 related-equivalence k a = record {
@@ -36,10 +36,14 @@ refined_by-is k (x ∷ xs) =
     refined_by-is (next_key k x) xs
     ∙ ap (λ (automata : List Automaton). let key : Key = record { automata = automata; bound = k.bound } in key) (append_assoc k.automata (x ∷ []) xs)
 
-pub started-refined : (k : StartedKey) → k.key ≡ refined_by next_key (first_key k) (later_automata k)
-started-refined k =
-    sym (refined_by-is (first_key k) (later_automata k)
-    ∙ ap (λ (automata : List Automaton). let key : Key = record { automata = automata; bound = k.key.bound } in key) (take-append-drop k.started k.key.automata))
+pub refined-key : (k : RefinedKey) → key_of k ≡ refined_by next_key k.first k.refuted
+refined-key k = sym (refined_by-is k.first k.refuted)
+
+pub first-stays : (k : RefinedKey) (x : Automaton) → (refined_with k x).first ≡ k.first
+first-stays k x = refl
+
+pub refuted-added : (k : RefinedKey) (x : Automaton) → (refined_with k x).refuted ≡ k.refuted ++ x ∷ []
+refuted-added k x = refl
 
 -- a state that accepts, or that a letter leaves, is there
 accepting_within : (states : List (Node ℕ)) (p : ℕ) → IsTrue (is_accepting states p) → p < length states
@@ -78,7 +82,7 @@ shares_with_merged predicates x there a (letter ∷ w) q s (p, related, r, leads
     (letter ∷ later.0, accepts_along a p letter r later.0 leads later.1, accepts_along x s letter to.0 later.0 to.1 later.2)
 
 pub related-excludes : Excludes is_related next_key
-related-excludes key x later a canonical_x canonical_a misses w merged accepts =
+related-excludes key x later a misses w merged accepts =
     let refined = refined_by next_key (next_key key x) later in
     let there : Contains refined.automata x =
     subst (λ (k : Key). Contains k.automata x) (sym (refined_by-is (next_key key x) later))

@@ -1,5 +1,5 @@
 -- The relation of predicates: states whose languages meet the same languages of states of some automata.
-use Rattle.std.specs.Prelude.{◌↔◌, ◌<◌, ℕ, List, [], ◌∷◌, ◌++◌, IsTrue, Contains, length, take, drop}
+use Rattle.std.specs.Prelude.{◌↔◌, ◌<◌, ℕ, List, [], ◌∷◌, ◌++◌, IsTrue, Contains, length}
 use Rattle.word_automata.specs.Automaton.{Automaton, accepts_from}
 use Rattle.abstraction.specs.Merging.{Key}
 
@@ -18,18 +18,19 @@ is_related key a p q = MeetSame key.automata a p q
 abbrev pub predicates : List Automaton → Key
 predicates automata = record { automata = automata; bound = 0 }
 
--- a key, and how many of its automata it had at first
-pub record StartedKey : Type 0 where
-  pub key : Key
-  pub started : ℕ
-
--- the key that it had at first, and the automata that came later
-abbrev pub first_key : StartedKey → Key
-first_key k = record { automata = take k.started k.key.automata; bound = k.key.bound }
-
-abbrev pub later_automata : StartedKey → List Automaton
-later_automata k = drop k.started k.key.automata
-
 -- the refuted set is one more predicate automaton
 abbrev pub next_key : Key → Automaton → Key
 next_key key x = record { automata = key.automata ++ x ∷ []; bound = key.bound }
+
+-- the key that there was at first, and the sets by which it was refined, in order
+pub record RefinedKey : Type 0 where
+  pub first : Key
+  pub refuted : List Automaton
+
+-- the predicate automata are those of the first key and the refuted sets
+abbrev pub key_of : RefinedKey → Key
+key_of k = record { automata = k.first.automata ++ k.refuted; bound = k.first.bound }
+
+-- one more set
+abbrev pub refined_with : RefinedKey → Automaton → RefinedKey
+refined_with k x = record { first = k.first; refuted = k.refuted ++ x ∷ [] }

@@ -19,7 +19,7 @@ use Rattle.abstraction.proofs.ListMembers.{distinct_more, some_passes}
 use Rattle.word_automata.proofs.Edges.{accepting_within, leads_within}
 use Rattle.abstraction.proofs.BoundedWordLemmas.{contains_accepted}
 use Rattle.predicate_abstraction.specs.Predicates.{SharesWord}
-use Rattle.predicate_abstraction.specs.Signatures.{shares_word, RelatedBySignature}
+use Rattle.predicate_abstraction.specs.Signatures.{shares_word, TestsSharedWords, RelatedBySignature}
 use Rattle.predicate_abstraction.specs.PredicateLaws.{accepts_first, accepts_along}
 
 module _ (a b : Automaton) where
@@ -108,7 +108,7 @@ module _ (a b : Automaton) where
   short_word (suc n) w p s bound both = short_or_shorter w p s both (λ u shorter accepted. short_word n u p s (omega arith) accepted)
 
 -- the test of a shared word is right
-pub shares_word_tells : (a : Automaton) → IsValid a → (p : ℕ) (b : Automaton) (s : ℕ) → (shares_word a p b s ≡ true) ↔ SharesWord a p b s
+pub shares_word_tells : TestsSharedWords
 shares_word_tells a valid p b s = (
   λ is. let found = some_passes (λ w. accepts_from a p w && accepts_from b s w) words is in
       let both = and_parts (accepts_from a p found.0) (accepts_from b s found.0) found.1 in (found.0, both.0, both.1),

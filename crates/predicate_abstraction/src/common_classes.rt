@@ -1,7 +1,8 @@
 //! The classes that two lists of classes have in common, in time linear in the states, on average.
 
 ghost use Rattle.std.specs.Prelude.{◌≡◌, IfOk, length};
-ghost use Rattle.predicate_abstraction.specs.Splitting.{AreNumbers, AreCommon};
+ghost use Rattle.abstraction.specs.Partitions.{AreNumbers};
+ghost use Rattle.predicate_abstraction.specs.Splitting.{AreCommon};
 
 use crate::place::place;
 use abstraction::first_states;

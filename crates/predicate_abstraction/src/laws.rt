@@ -1,8 +1,9 @@
 //! A law of the relation of predicates. It has no code: it is the contract of a function that does nothing.
 
-ghost use Rattle.predicate_abstraction.specs.Signatures.{RelatedBySignature};
+ghost use Rattle.predicate_abstraction.specs.Signatures.{RelatedBySignature, TestsSharedWords};
 
-/// States are related exactly where their signatures are equal.
+/// States are related exactly where their signatures are equal, and the values of a signature say with which states a word is shared.
 pub fn related_by_signature()
-    ensures { RelatedBySignature }
+    ensures related { RelatedBySignature }
+    ensures shared { TestsSharedWords }
 {}

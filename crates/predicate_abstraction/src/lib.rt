@@ -6,7 +6,6 @@ mod columns;
 mod common_classes;
 mod laws;
 mod pair_set;
-mod partition;
 mod place;
 mod predicates;
 mod reversal;

@@ -1,4 +1,5 @@
 //! Sets of pairs of small numbers: a mark for each possible pair, and the pairs in the order in which they were added.
+//! A pair is looked up and added in constant time; a set takes a byte for each possible pair.
 
 ghost use Rattle.std.specs.Prelude.{◌≡◌, ◌<◌, [], Some, IfOk, OnOk, length, slice_get};
 ghost use Rattle.predicate_abstraction.specs.Pairs.{AddsPairs};

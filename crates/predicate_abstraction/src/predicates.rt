@@ -1,9 +1,10 @@
 //! The abstraction by predicate automata. Classes are split automaton by automaton, each in time linear in its pairs of states and of
 //! edges with the same letter; many automata are shared out to threads.
 
-ghost use Rattle.std.specs.Prelude.{◌≡◌, ◌≤◌, [], ◌∷◌, IfOk, OnOk, OnErr};
-ghost use Rattle.predicate_abstraction.specs.Predicates.{predicates, first_key, later_automata, is_related, next_key};
-ghost use Rattle.predicate_abstraction.specs.PredicateLaws.{related-equivalence, related-finer, next_key-over, started-refined, related-excludes};
+ghost use Rattle.std.specs.Prelude.{◌≡◌, ◌≤◌, [], ◌∷◌, IfOk};
+ghost use Rattle.predicate_abstraction.specs.Predicates.{predicates, key_of, refined_with, is_related, next_key};
+ghost use Rattle.predicate_abstraction.specs.PredicateLaws.{related-equivalence, related-finer, next_key-over};
+ghost use Rattle.predicate_abstraction.specs.PredicateLaws.{refined-key, first-stays, refuted-added, related-excludes};
 
 use crate::shares::classes_in_threads;
 use abstraction::{Abstraction, Excluding, Refinable};
@@ -23,11 +24,14 @@ pub struct Predicates<'a, R: Threads + Sync> {
 }
 
 impl<'a, R: Threads + Sync> Model for Predicates<'a, R> {
-    ghost use Rattle.predicate_abstraction.specs.Predicates.{StartedKey, predicates};
+    ghost use Rattle.std.specs.Prelude.{◌≤◌, length, take, drop};
+    ghost use Rattle.predicate_abstraction.specs.Predicates.{RefinedKey, predicates};
 
-    ghost Value = { StartedKey };
+    ghost Value = { RefinedKey };
 
-    ghost view = { λ p. record { key = predicates p.automata.items; started = p.started } };
+    ghost view = { λ p. record { first = predicates (take p.started p.automata.items); refuted = drop p.started p.automata.items } };
+
+    ghost invariant = { λ p. p.started ≤ length p.automata.items };
 }
 
 impl<'a, R: Threads + Sync> Predicates<'a, R> {
@@ -35,7 +39,7 @@ impl<'a, R: Threads + Sync> Predicates<'a, R> {
     /// 16. It takes no memory.
     pub fn none(alloc: Global, runtime: &'a R, workers: u32) -> Predicates<'a, R>
         requires { (1 ≤ workers) × (workers ≤ 16) }
-        ensures { result ≡ record { key = predicates []; started = 0 } }
+        ensures { result ≡ record { first = predicates []; refuted = [] } }
     {
         Predicates {
             runtime,
@@ -53,7 +57,7 @@ impl<'a, R: Threads + Sync> Predicates<'a, R> {
         workers: u32,
     ) -> Result<Predicates<'a, R>, AllocError>
         requires { (1 ≤ workers) × (workers ≤ 16) }
-        ensures { IfOk result (λ made. made ≡ record { key = predicates (bad.now ∷ []); started = 1 }) }
+        ensures { IfOk result (λ made. made ≡ record { first = predicates (bad.now ∷ []); refuted = [] }) }
     {
         let mut automata = Vec::new(alloc);
         automata.push(bad.copy(alloc)?)?;
@@ -67,7 +71,7 @@ impl<'a, R: Threads + Sync> Predicates<'a, R> {
 }
 
 impl<'a, R: Threads + Sync> Abstraction for Predicates<'a, R> {
-    ghost key = { λ p. p.key };
+    ghost key = { key_of };
 
     ghost related = { is_related };
 
@@ -81,10 +85,9 @@ impl<'a, R: Threads + Sync> Abstraction for Predicates<'a, R> {
 impl<'a, R: Threads + Sync> Refinable for Predicates<'a, R> {
     ghost next = { next_key };
 
-    fn refine(&mut self, alloc: Global, refuted: &Canon) -> Result<(), AllocError>
-        ensures ok { OnOk result (self.new ≡ record { key = next_key self.old.key refuted.now; started = self.old.started }) }
-        ensures err { OnErr result (self.new ≡ self.old) }
-    {
+    ghost after = { refined_with };
+
+    fn refine(&mut self, alloc: Global, refuted: &Canon) -> Result<(), AllocError> {
         let copy = refuted.copy(alloc)?;
         self.automata.push(copy)?;
         Ok(())
@@ -96,15 +99,19 @@ impl<'a, R: Threads + Sync> Refinable for Predicates<'a, R> {
 }
 
 impl<'a, R: Threads + Sync> Excluding for Predicates<'a, R> {
-    ghost first = { first_key };
+    ghost first = { λ k. k.first };
 
-    ghost refuted = { later_automata };
+    ghost refuted = { λ k. k.refuted };
 
     fn refuted_count(&self) -> usize {
-        self.automata.len().saturating_sub(self.started)
+        self.automata.len() - self.started
     }
 
-    ghost refined = { started-refined };
+    ghost refined = { refined-key };
+
+    ghost first_stays = { first-stays };
+
+    ghost adds = { refuted-added };
 
     ghost excludes = { related-excludes };
 }

@@ -1,4 +1,5 @@
-//! The edges of an automaton, turned round.
+//! The edges of an automaton, turned round, for walks backward.
+//! It costs one pass over the edges.
 
 ghost use Rattle.std.specs.Prelude.{◌<◌, ◌+◌, [], IfOk, OnOk, length};
 ghost use Rattle.predicate_abstraction.specs.Reversal.{IsReverse, HasReversed};

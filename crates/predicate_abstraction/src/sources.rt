@@ -1,4 +1,5 @@
-//! The edges of an automaton by the state that they lead into and by their letter.
+//! The edges of an automaton by the state that they lead into and by their letter, for the walk backward over pairs of states.
+//! They take a place for each state and letter, and time linear in these and in the edges.
 
 ghost use Rattle.std.specs.Prelude.{◌<◌, ◌+◌, [], IfOk, OnOk, length};
 ghost use Rattle.predicate_abstraction.specs.Sources.{AreSourcesByLetter, HasSources};

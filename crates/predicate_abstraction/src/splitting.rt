@@ -2,11 +2,12 @@
 //! states that share a word, and in the states.
 
 ghost use Rattle.std.specs.Prelude.{◌≡◌, IfOk, length};
-ghost use Rattle.predicate_abstraction.specs.Splitting.{AreNumbers, IsSplitBefore};
+ghost use Rattle.abstraction.specs.Partitions.{AreNumbers};
+ghost use Rattle.predicate_abstraction.specs.Splitting.{IsSplitBefore};
 
 use crate::columns::Columns;
-use crate::partition::Partition;
 use crate::shared_words::shared_words;
+use abstraction::Partition;
 use std::alloc::{AllocError, Global};
 use word_automata::Dfa;
 

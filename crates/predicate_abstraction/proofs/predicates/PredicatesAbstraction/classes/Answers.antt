@@ -1,17 +1,31 @@
-use Rattle.std.proofs.Common.{length, subst}
+use Rattle.std.proofs.Common.{◌≡◌, ◌++◌, ℕ, List, All, length, take, drop, sym, ap, subst, ◌∙◌}
+use Rattle.std.proofs.lemmas.List.{take-append-drop}
 use Rattle.std.proofs.lemmas.Result.{IfOk-weaker}
+use Rattle.word_automata.specs.Automaton.{Automaton}
 use Rattle.abstraction.specs.Merging.{AreClasses}
-use Rattle.predicate_abstraction.specs.Predicates.{StartedKey, is_related}
+use Rattle.predicate_abstraction.specs.Predicates.{RefinedKey, MeetSame, predicates, key_of}
 use Rattle.predicate_abstraction.specs.Splitting.{AreClassesBy}
 use Rattle.predicate_abstraction.proofs.Parts.{classes_by_all}
 use Rattle.predicate_abstraction.proofs.predicates.PredicatesAbstraction.classes.Goals as goal
 
+-- the automata of the key are those that are kept
+key_automata : (automata : List Automaton) (started : ℕ) (k : RefinedKey)
+    → (let kept : RefinedKey = record { first = predicates (take started automata); refuted = drop started automata } in kept) ≡ k → automata ≡ (key_of k).automata
+key_automata automata started k is = sym (take-append-drop started automata) ∙ ap (λ (x : RefinedKey). (key_of x).automata) is
+
+pub classes_in_threads-requires : goal.classes_in_threads-requires
+classes_in_threads-requires g c =
+    let inside = c.self.inside in
+    subst (All (λ (m : Automaton). m.letters ≡ c.args.a.now.letters))
+    (sym (c.deref.ensures.value ∙ key_automata inside.automata.items inside.started c.args.self.now c.self.view_is)) c.requires
+
 pub returns : goal.returns
 returns g c =
     let a = c.args.a.now in
-    let predicates = c.deref.result.now in
-    IfOk-weaker c.classes_in_threads.result (λ classes. AreClassesBy predicates a classes.items)
-    (λ classes. AreClasses (is_related c.args.self.now.key a) (length a.states) classes.items)
-    (λ classes is. subst (λ (k : StartedKey). AreClasses (is_related k.key a) (length a.states) classes.items) c.self.view_is
-    (classes_by_all c.self.inside.automata.items a classes.items (subst (λ ps. AreClassesBy ps a classes.items) c.deref.ensures.value is)))
+    let inside = c.self.inside in
+    IfOk-weaker c.classes_in_threads.result (λ classes. AreClassesBy c.deref.result.now a classes.items)
+    (λ classes. AreClasses (MeetSame (key_of c.args.self.now).automata a) (length a.states) classes.items)
+    (λ classes is. subst (λ ps. AreClasses (MeetSame ps a) (length a.states) classes.items)
+    (key_automata inside.automata.items inside.started c.args.self.now c.self.view_is)
+    (classes_by_all inside.automata.items a classes.items (subst (λ ps. AreClassesBy ps a classes.items) c.deref.ensures.value is)))
     c.classes_in_threads.ensures

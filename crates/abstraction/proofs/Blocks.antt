@@ -7,8 +7,8 @@ use Rattle.std.proofs.lemmas.Option.{slice_get-get_or, same_Some}
 use Rattle.word_automata.proofs.Members.{Contains-none}
 use Rattle.abstraction.specs.FirstStates.{AreFirsts}
 use Rattle.abstraction.proofs.Firsts.{first_within, first_same}
-use Rattle.predicate_abstraction.specs.Splitting.{AreNumbers, AreBlocks, IsRefined, IsKnownMove, IsNewMove, IsNumbering}
-use Rattle.predicate_abstraction.proofs.Edges.{take_cases, take_keeps, take_last}
+use Rattle.abstraction.specs.Partitions.{AreNumbers, AreBlocks, IsRefined, IsKnownMove, IsNewMove, IsNumbering}
+use Rattle.abstraction.proofs.ListMembers.{take_cases, take_keeps, take_last}
 
 -- numbers of classes are numbers of blocks
 pub blocks_of_classes : (classes blocks moved : List ℕ) → blocks ≡ classes → moved ≡ replicate (length classes) 0 → AreNumbers (length classes) classes → AreBlocks blocks moved

@@ -1,0 +1,4 @@
+pub mod Adding
+pub mod Classes
+pub mod ImageStates
+pub mod Rounds

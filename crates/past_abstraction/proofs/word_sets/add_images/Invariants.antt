@@ -1,0 +1,9 @@
+use Rattle.std.proofs.Common.{[], slice_index_or}
+use Rattle.past_abstraction.specs.WordSets.{AreBlocksOf, AddsImages}
+use Rattle.past_abstraction.proofs.word_sets.add_images.Given as goal
+
+abbrev pub invariant-letters : goal.invariant-letters
+invariant-letters l = record {
+  blocks : AreBlocksOf l.a l.sets.keys l.blocks;
+  images : AddsImages l.a (slice_index_or l.fn.sets.keys l.number []) l.letter l.fn.sets.keys l.sets.keys;
+}

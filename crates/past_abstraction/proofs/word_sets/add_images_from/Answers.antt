@@ -1,0 +1,13 @@
+use Rattle.std.proofs.Common.{◌<◌, length, arith}
+use Rattle.past_abstraction.proofs.Adding.{images_of_more}
+use Rattle.past_abstraction.proofs.word_sets.add_images_from.Goals as goal
+
+pub sets-preserved : goal.sets-preserved
+sets-preserved c =
+    let old = c.args.sets.now.keys in
+    let number = c.sets.number in
+    let within : number < length old = (let e = c.len-number-end.ensures.len in omega arith) in
+    record {
+      blocks = c.in_ok-add_images.ensures.blocks;
+      images = images_of_more c.args.a.now c.args.first number old c.sets.sets.keys c.add_images.new.sets.keys within c.sets.invariant.images c.in_ok-add_images.ensures.images;
+    }

@@ -1,0 +1,109 @@
+//! Classes of states by the sets of states into which words lead. A round adds the images of the sets that the round before it added, and
+//! splits the classes by those that are new. The rounds end where one adds no set, or each state is alone in its class. Each set is
+//! expanded once, and looked up by its hash.
+
+ghost use Rattle.std.specs.Prelude.{◌≡◌, ◌<◌, ◌≤◌, ◌+◌, ℕ, All, IsTrue, IfOk, OnOk, length, slice_index, slice_index_or, []};
+ghost use Rattle.abstraction.specs.Merging.{AreClasses};
+ghost use Rattle.abstraction.specs.Bounds.{up_to};
+ghost use Rattle.past_abstraction.specs.Pasts.{is_related};
+ghost use Rattle.past_abstraction.specs.WordSets.{AreBlocksOf, AddsSet, AddsImages, AddsImagesOf, AreWordSets};
+
+use crate::images::{all_states, image};
+use abstraction::Partition;
+use exploration::StateList;
+use indexmap::IndexSet;
+use std::alloc::{AllocError, Global};
+use word_automata::Dfa;
+
+/// The classes of states into which the same words of at most so many letters lead.
+pub fn classes_by_words(alloc: Global, a: &Dfa, bound: u64) -> Result<Vec<usize>, AllocError>
+    ensures { IfOk result (λ classes. AreClasses (is_related (up_to bound) a.now) (length a.now.states) classes.items) }
+{
+    let none = vec![in alloc; 0; a.states()]?;
+    let mut blocks = Partition::new(alloc, &none)?;
+    let mut sets = IndexSet::new(alloc);
+    add_set(a, &mut sets, &mut blocks, all_states(alloc, a.states())?)?;
+    let mut first = 0;
+    'rounds: for _ in 0..bound {
+        let end = sets.len();
+        let classes = blocks.classes(alloc)?;
+        if first == end {
+            return Ok(classes);
+        }
+        if are_single(&classes) {
+            return Ok(classes);
+        }
+        add_images_from(alloc, a, &mut sets, &mut blocks, first)?;
+        first = end;
+    }
+    blocks.classes(alloc)
+}
+
+/// Whether each state has its own number as that of its class.
+fn are_single(classes: &[usize]) -> bool
+    ensures { IsTrue result → (p : ℕ) → p < length classes.now → slice_index classes.now p ≡ p }
+{
+    'states: for state in 0..classes.len() {
+        if classes[state] != state {
+            return false;
+        }
+    }
+    true
+}
+
+/// Adds the images of the sets from the first one on.
+fn add_images_from(
+    alloc: Global,
+    a: &Dfa,
+    sets: &mut IndexSet<StateList>,
+    blocks: &mut Partition,
+    first: usize,
+) -> Result<(), AllocError>
+    requires { AreBlocksOf a.now sets.old.keys blocks.old }
+    ensures blocks { OnOk result (AreBlocksOf a.now sets.new.keys blocks.new) }
+    ensures images { OnOk result (AddsImagesOf a.now first (length sets.old.keys) sets.old.keys sets.new.keys) }
+{
+    'sets: for number in first..sets.len() {
+        add_images(alloc, a, sets, blocks, number)?;
+    }
+    Ok(())
+}
+
+/// Adds the images of the set with this number.
+fn add_images(
+    alloc: Global,
+    a: &Dfa,
+    sets: &mut IndexSet<StateList>,
+    blocks: &mut Partition,
+    number: usize,
+) -> Result<(), AllocError>
+    requires within { number < length sets.old.keys }
+    requires before { AreBlocksOf a.now sets.old.keys blocks.old }
+    ensures blocks { OnOk result (AreBlocksOf a.now sets.new.keys blocks.new) }
+    ensures images { OnOk result (AddsImages a.now (slice_index_or sets.old.keys number []) a.now.letters sets.old.keys sets.new.keys) }
+{
+    'letters: for letter in 0..a.letters() {
+        let image = image(alloc, a, sets.as_slice()[number].as_slice(), letter)?;
+        add_set(a, sets, blocks, image)?;
+    }
+    Ok(())
+}
+
+/// Adds the set, unless it is there, and splits the blocks by it where it is new.
+fn add_set(
+    a: &Dfa,
+    sets: &mut IndexSet<StateList>,
+    blocks: &mut Partition,
+    set: StateList,
+) -> Result<(), AllocError>
+    requires states { All (λ state. state < length a.now.states) set }
+    requires before { AreBlocksOf a.now sets.old.keys blocks.old }
+    ensures blocks { OnOk result (AreBlocksOf a.now sets.new.keys blocks.new) }
+    ensures set { OnOk result (AddsSet set sets.old.keys sets.new.keys) }
+{
+    let (number, is_new) = sets.insert_full(set)?;
+    if is_new {
+        blocks.refine(sets.as_slice()[number].as_slice())?;
+    }
+    Ok(())
+}
