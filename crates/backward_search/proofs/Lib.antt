@@ -1,0 +1,5 @@
+pub mod CompleteAutomata
+pub mod Refusals
+pub mod TurnedRuns
+pub mod Invariants
+pub mod ToldOnce

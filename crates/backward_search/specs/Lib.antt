@@ -1,0 +1,2 @@
+pub mod BackwardVerdicts
+pub mod Laws
