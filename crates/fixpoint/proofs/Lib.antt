@@ -1,2 +1,2 @@
 pub mod Growth
-pub mod TurnLemmas
+pub mod IndexLemmas

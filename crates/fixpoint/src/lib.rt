@@ -3,9 +3,9 @@
 //! (Bouajjani, Habermehl and Vojnar, Abstract Regular Model Checking, CAV 2004).
 #![tactic(auto)]
 
+mod index;
 mod laws;
 mod rounds;
-mod turn;
 
 pub use laws::rounds_are_bounded;
 pub use rounds::round;

@@ -30,7 +30,7 @@ module _ (t : Task) (budget larger : ℕ) (more : budget ≤ larger) where
   forward-larger : (R : Relation) {n : Automaton} {s z : ℕ} {ns ms : List Automaton} {e : RoundEnd} → e ≢ Spent
       → Forward t R budget n s ns ms e z → Forward t R larger n s ns ms e z
   forward-larger R is (spent_before_merging a h) = absurd (is refl)
-  forward-larger R is (stops {m = m} {z = z} {end = e} a h merged f end) = stops a (omega (arith, h, more)) merged f (end-larger m z e is end)
+  forward-larger R is (stops {m = m} {sum = z} {end = e} a h merged f end) = stops a (omega (arith, h, more)) merged f (end-larger m z e is end)
   forward-larger R is (goes_on {m = m} {z = z} a h merged f on next rest) =
       goes_on a (omega (arith, h, more)) merged f (on-larger m z on) next (forward-larger R is rest)
 
@@ -43,7 +43,7 @@ module _ (t : Task) (budget larger : ℕ) (more : budget ≤ larger) where
 
   backward-larger : {levels : List Level} {x : Automaton} {s z : ℕ} {xs : List Automaton} {e : LogEnd} → e ≢ log_end.Spent
       → Backward t budget levels x s xs e z → Backward t larger levels x s xs e z
-  backward-larger is (ends_back {level} {below} {x} {z = z} {end = e} a end) = ends_back a (back-end-larger x level.forward z below e is end)
+  backward-larger is (ends_back {level} {below} {x} {sum = z} {end = e} a end) = ends_back a (back-end-larger x level.n z below e is end)
   backward-larger is (goes_back a on next rest) =
       goes_back a (record { below = (let under = on.below in omega (arith, under, more)); meets = on.meets }) next (backward-larger is rest)
 
@@ -58,27 +58,27 @@ module _ (t : Task) (budget larger : ℕ) (more : budget ≤ larger) where
   by-forward-end : (R : Relation) (s y z : ℕ) (round : SearchRound) (e : RoundEnd) → round.end ≢ log_end.Spent
       → IsRound t R budget s round.n round.m e y → IsReplayed t budget y round e z → IsSearchRound t R larger s round z
   by-forward-end R s y z round Closed is forward h =
-      record { forward_end = Closed; sum = y; forward = round-larger R s y round.n round.m Closed (λ same. cc same) forward; replayed = h }
+      record { forward_end = Closed; z = y; forward = round-larger R s y round.n round.m Closed (λ same. cc same) forward; replayed = h }
   by-forward-end R s y z round Spent is forward h = absurd (is h.1)
   by-forward-end R s y z round MeetsBad is forward h = record {
     forward_end = MeetsBad;
-    sum = y;
+    z = y;
     forward = round-larger R s y round.n round.m MeetsBad (λ same. cc same) forward;
     replayed = replay-larger (reverse (levels round.n round.m)) y z round.x round.end is h;
   }
 
   search-round-larger : (R : Relation) (s z : ℕ) (round : SearchRound) → round.end ≢ log_end.Spent → IsSearchRound t R budget s round z → IsSearchRound t R larger s round z
-  search-round-larger R s z round is h = by-forward-end R s h.sum z round h.forward_end is h.forward h.replayed
+  search-round-larger R s z round is h = by-forward-end R s h.z z round h.forward_end is h.forward h.replayed
 
   pub history-larger : (method : Method) (o : Option SearchRound) (last : SearchRound) {key : Key} {s z : ℕ} {rounds : List SearchRound} → last.end ≢ log_end.Spent
       → last_or o rounds ≡ Some last → History t method budget key s rounds z → History t method larger key s rounds z
-  history-larger method o last is at (ends {key} {s} {z} {round} h not_refuted) =
+  history-larger method o last is at (ends {key} {s} {sum = z} {round} h not_refuted) =
       let same : round ≡ last = some-same round last at in
       ends (search-round-larger (method.related key) s z round (subst (λ r. r.end ≢ log_end.Spent) (sym same) is) h) not_refuted
     where
       some-same : (a b : SearchRound) → Some a ≡ Some b → a ≡ b
       some-same a b h = cc h
-  history-larger method o last is at (goes_round {key} {s} {y} {round = round} h refuted set rest) =
+  history-larger method o last is at (goes_round {key} {s} {z = y} {round = round} h refuted set rest) =
       goes_round (search-round-larger (method.related key) s y round (λ spent. cc (refuted, spent)) h) refuted set (history-larger method (Some round) last is at rest)
 
 module _ (t : Task) (R : Relation) (own : (a : Automaton) (p : ℕ) → R a p p) (budget : ℕ) where
@@ -113,6 +113,6 @@ module _ (t : Task) (R : Relation) (own : (a : Automaton) (p : ℕ) → R a p p)
 module _ (t : Task) (method : Method) (own : (key : Key) (a : Automaton) (p : ℕ) → method.related key a p p) (budget : ℕ) where
   pub history-bounded : (n : ℕ) (w : List ℕ) → t.is_initial w → LeadsToBad t n w → {key : Key} {s z : ℕ} {rounds : List SearchRound}
       → History t method budget key s rounds z → AllByRecursion (λ round. (length round.n ≤ n + 1) × (round.end ≢ log_end.Closed)) rounds
-  history-bounded n w initial bad (ends {key} {s} {z} {round} h last) = (round-bounded t (method.related key) (own key) budget n w initial bad s z round h, tt)
-  history-bounded n w initial bad (goes_round {key} {s} {y} {round = round} h refuted set rest) =
+  history-bounded n w initial bad (ends {key} {s} {sum = z} {round} h last) = (round-bounded t (method.related key) (own key) budget n w initial bad s z round h, tt)
+  history-bounded n w initial bad (goes_round {key} {s} {z = y} {round = round} h refuted set rest) =
       (round-bounded t (method.related key) (own key) budget n w initial bad s y round h, history-bounded n w initial bad rest)

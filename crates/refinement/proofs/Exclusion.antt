@@ -27,12 +27,12 @@ refined_by-last next key (x ∷ xs) y = refined_by-last next (next key x) xs y
 -- the automaton's words are reached from the first of these levels, if there is one
 abbrev IsReachedFrom : Task → List Level → Automaton → Type 0
 IsReachedFrom t [] n = Unit {0}
-IsReachedFrom t (level ∷ below) n = (w : List ℕ) → IsTrue (accepts n w) → IsReachedBy t level.merged w
+IsReachedFrom t (level ∷ below) n = (w : List ℕ) → IsTrue (accepts n w) → IsReachedBy t level.m w
 
 -- each level, the highest first, has the property, and its words are reached from the level below
 abbrev Descend : Task → (Level → Type 0) → List Level → Type 0
 Descend t P [] = Unit {0}
-Descend t P (level ∷ below) = P level × IsReachedFrom t below level.forward × Descend t P below
+Descend t P (level ∷ below) = P level × IsReachedFrom t below level.n × Descend t P below
 
 -- the set that a round refutes is canonical
 last_canonical : (t : Task) (budget : ℕ) (o : Option Automaton) (set : Automaton)
@@ -52,14 +52,14 @@ refuted_canonical : (t : Task) (R : Relation) (budget s z : ℕ) (round : Search
     → last_or None round.x ≡ Some set → IsCanonical set
 refuted_canonical t R budget s z round set h refuted last = by h.forward_end h.replayed
   where
-    by : (end : RoundEnd) → IsReplayed t budget h.sum round end z → IsCanonical set
+    by : (end : RoundEnd) → IsReplayed t budget h.z round end z → IsCanonical set
     by Closed replayed = cc (refuted, replayed.1)
     by Spent replayed = cc (refuted, replayed.1)
-    by MeetsBad replayed = replay_canonical t budget set (reverse_aux (levels round.n round.m) []) h.sum z round.x round.end replayed last
+    by MeetsBad replayed = replay_canonical t budget set (reverse_aux (levels round.n round.m) []) h.z z round.x round.end replayed last
 
 module _ (t : Task) (R : Relation) (budget : ℕ) (x : Automaton) (keeps_out : (a : Automaton) → IsCanonical a → Misses a x → MergedMisses (R a) a x) where
   abbrev MissesAlike : Level → Type 0
-  MissesAlike level = Misses level.forward x → Misses level.merged x
+  MissesAlike level = Misses level.n x → Misses level.m x
 
   misses_merged : (n m : Automaton) → IsCanonical n → IsAutomatonOf t.letters (IsMerged (R n) n) m → MissesAlike (level_of n m)
   misses_merged n m canonical merged misses w in_m in_x = keeps_out n canonical misses w ((merged.language w).0 in_m) in_x
@@ -81,18 +81,18 @@ module _ (t : Task) (R : Relation) (budget : ℕ) (x : Automaton) (keeps_out : (
 
   -- the set that a replay refutes has a word that the merged automaton of its level accepts, and misses the other automaton of the level
   abbrev IsRefutedAtLevel : Automaton → Type 0
-  IsRefutedAtLevel y = (level : Level) × MissesAlike level × AreDisjoint y level.forward × (w : List ℕ) × IsTrue (accepts y w) × IsTrue (accepts level.merged w)
+  IsRefutedAtLevel y = (level : Level) × MissesAlike level × AreDisjoint y level.n × (w : List ℕ) × IsTrue (accepts y w) × IsTrue (accepts level.m w)
 
   -- the set at the first of these levels has a word, and its words are those of the merged automaton there
   abbrev BeginsAt : List Level → Automaton → Type 0
   BeginsAt [] y = ⊥
-  BeginsAt (level ∷ below) y = (w : List ℕ) × IsTrue (accepts y w) × IsTrue (accepts level.merged w)
+  BeginsAt (level ∷ below) y = (w : List ℕ) × IsTrue (accepts y w) × IsTrue (accepts level.m w)
 
   refuted_at_level : (o : Option Automaton) (y : Automaton) {ls : List Level} {first : Automaton} {s z : ℕ} {xs : List Automaton} {end : LogEnd}
       → Backward t budget ls first s xs end z → end ≡ log_end.Refuted → Descend t MissesAlike ls → BeginsAt ls first
       → last_or o xs ≡ Some y → IsRefutedAtLevel y
-  refuted_at_level o y (ends_back {level = level} {below = below} {x = first} {z = z} {end = end} e at) is down begins last =
-      let disjoint = (subst (IsReplayEndAt t budget first level.forward z below) is at).1 in
+  refuted_at_level o y (ends_back {level = level} {below = below} {x = first} {sum = z} {end = end} e at) is down begins last =
+      let disjoint = (subst (IsReplayEndAt t budget first level.n z below) is at).1 in
       subst IsRefutedAtLevel (same_Some first y last) (level, down.0, disjoint, begins.0, begins.1, begins.2)
   refuted_at_level o y (goes_back {level = level} {lower = lower} {x = first} {next = next} e on traced rest) is down begins last =
       let (w, both) = on.meets in
@@ -105,12 +105,12 @@ module _ (t : Task) (R : Relation) (budget : ℕ) (x : Automaton) (keeps_out : (
   -- the highest of these levels has a bad word
   abbrev MeetsBadAtTop : List Level → Type 0
   MeetsBadAtTop [] = ⊥
-  MeetsBadAtTop (level ∷ below) = MeetsBadWords t level.merged
+  MeetsBadAtTop (level ∷ below) = MeetsBadWords t level.m
 
   forward_meets : {n : Automaton} {s z : ℕ} {ns ms : List Automaton} {end : RoundEnd} → Forward t R budget n s ns ms end z → end ≡ MeetsBad
       → (below : List Level) → MeetsBadAtTop (reverse_aux (levels ns ms) below)
   forward_meets (spent_before_merging e h) is below = cc is
-  forward_meets (stops {m = m} {z = z} e h merged f end) is below = (subst (IsEndAt t budget m z) is end).1
+  forward_meets (stops {m = m} {sum = z} e h merged f end) is below = (subst (IsEndAt t budget m z) is end).1
   forward_meets (goes_on {n = n} {m = m} e h merged f on reached rest) is below = forward_meets rest is (level_of n m ∷ below)
 
   replay_at_level : (y : Automaton) (ls : List Level) (s z : ℕ) (xs : List Automaton) (end : LogEnd)
@@ -135,21 +135,21 @@ module _ (t : Task) (R : Relation) (budget : ℕ) (x : Automaton) (keeps_out : (
       not_same set (replay_at_level set (reverse_aux (levels round.n round.m) []) y z round.x round.end replayed refuted.0 down meets refuted.1) same
 
   round_keeps_out : (s z : ℕ) (round : SearchRound) → IsSearchRound t R budget s round z → StaysOut x round × IsNotRefutedAgain x round
-  round_keeps_out s z round h = (forward_keeps_out h.forward.is_first.canonical h.forward.forward, by_end s h.sum z round h.forward_end h.forward h.replayed)
+  round_keeps_out s z round h = (forward_keeps_out h.forward.is_first.canonical h.forward.forward, by_end s h.z z round h.forward_end h.forward h.replayed)
 
 module _ (t : Task) (method : Method) (excludes : Excludes method.related method.next) (budget : ℕ) where
   kept_out : (key : Key) (x : Automaton) → IsCanonical x → (later : List Automaton) (now : Key) → now ≡ refined_by method.next (method.next key x) later
       → (a : Automaton) → IsCanonical a → Misses a x → MergedMisses (method.related now a) a x
   kept_out key x canonical later now is a canonical_a misses =
-      subst (λ k. MergedMisses (method.related k a) a x) (sym is) (excludes key x later a canonical canonical_a misses)
+      subst (λ k. MergedMisses (method.related k a) a x) (sym is) (excludes key x later a misses)
 
   -- the set stays out of every round whose key comes after it
   later_keep_out : (key : Key) (x : Automaton) → IsCanonical x → (later : List Automaton) {now : Key} {s z : ℕ} {rounds : List SearchRound}
       → now ≡ refined_by method.next (method.next key x) later → History t method budget now s rounds z
       → AllByRecursion (λ round. StaysOut x round × IsNotRefutedAgain x round) rounds
-  later_keep_out key x canonical later is (ends {key = now} {s = s} {z = z} {round = round} h not_refuted) =
+  later_keep_out key x canonical later is (ends {key = now} {s = s} {sum = z} {round = round} h not_refuted) =
       (round_keeps_out t (method.related now) budget x (kept_out key x canonical later now is) s z round h, tt)
-  later_keep_out key x canonical later is (goes_round {key = now} {s = s} {y = y} {round = round} {x = set} h refuted last rest) = (
+  later_keep_out key x canonical later is (goes_round {key = now} {s = s} {z = y} {round = round} {x = set} h refuted last rest) = (
     round_keeps_out t (method.related now) budget x (kept_out key x canonical later now is) s y round h,
     later_keep_out key x canonical (later ++ set ∷ [])
         (ap (λ k. method.next k set) is ∙ sym (refined_by-last method.next (method.next key x) later set)) rest,
@@ -157,7 +157,7 @@ module _ (t : Task) (method : Method) (excludes : Excludes method.related method
 
   pub refuted_once : {key : Key} {s z : ℕ} {rounds : List SearchRound} → History t method budget key s rounds z → AreRefutedOnce rounds
   refuted_once (ends h not_refuted) = (λ x refuted. tt, tt)
-  refuted_once (goes_round {key = key} {s = s} {y = y} {round = round} {x = set} {rounds = rounds} h refuted last rest) = (
+  refuted_once (goes_round {key = key} {s = s} {z = y} {round = round} {x = set} {rounds = rounds} h refuted last rest) = (
     λ x is.
         let same : set ≡ x = same_Some set x (sym last ∙ is.1) in
         subst (λ a. AllByRecursion (λ later. StaysOut a later × IsNotRefutedAgain a later) rounds) same

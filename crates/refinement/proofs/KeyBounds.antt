@@ -19,12 +19,12 @@ module _ (t : Task) (method : Method) (own : (key : Key) (a : Automaton) (p : �
   round_bounded : (key : Key) (s z : ℕ) (round : SearchRound) → IsSearchRound t (method.related key) budget s round z → IsBounded key round
   round_bounded key s z round h = (
     growing t (method.related key) (own key) budget h.forward.forward,
-    bounded t (method.related key) (own key) budget (tests key) (signature key) (are key) s h.sum round.n round.m h.forward_end h.forward,
+    bounded t (method.related key) (own key) budget (tests key) (signature key) (are key) s h.z round.n round.m h.forward_end h.forward,
   )
 
   pub rounds_bounded : {key : Key} {s z : ℕ} {rounds : List SearchRound} → History t method budget key s rounds z → HoldOfRounds method IsBounded key rounds
-  rounds_bounded (ends {key = key} {s = s} {z = z} {round = round} h not_refuted) = (round_bounded key s z round h, λ x last. tt)
-  rounds_bounded (goes_on {key = key} {s = s} {y = y} {round = round} {x = set} {rounds = rounds} h refuted last rest) = (
+  rounds_bounded (ends {key = key} {s = s} {sum = z} {round = round} h not_refuted) = (round_bounded key s z round h, λ x last. tt)
+  rounds_bounded (goes_on {key = key} {s = s} {z = y} {round = round} {x = set} {rounds = rounds} h refuted last rest) = (
     round_bounded key s y round h,
     λ x is. subst (λ a. HoldOfRounds method IsBounded (method.next key a) rounds) (same_Some set x (sym last ∙ is)) (rounds_bounded rest),
   )

@@ -33,4 +33,4 @@ module _ (t : Task) (R : Relation) (budget : ℕ) where
 
   pub round-run : (s z : ℕ) (round : SearchRound) → IsSearchRound t R budget s round z → round.end ≡ log_end.Real
       → (words : List (List ℕ)) → IsLeastRun t round.n round.x words → IsBadChain t words
-  round-run s z round h is words run = replayed-real s h.sum z round h.forward_end h.forward h.replayed is words run
+  round-run s z round h is words run = replayed-real s h.z z round h.forward_end h.forward h.replayed is words run

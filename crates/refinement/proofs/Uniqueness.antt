@@ -66,16 +66,16 @@ module _ (t : Task) (R : Relation) (budget : ℕ) where
   forward-unique (spent_before_merging a h) (goes_on b k merged f on next rest) = absurd (omega (arith, a, b, h, k))
   forward-unique (stops a h merged f end) (spent_before_merging b k) = absurd (omega (arith, a, b, h, k))
   forward-unique (goes_on a h merged f on next rest) (spent_before_merging b k) = absurd (omega (arith, a, b, h, k))
-  forward-unique (stops {n} {m} {y = y} {z} {end} a h merged f is_end) (stops {m = m'} {y = y'} {z = z'} {end = end'} b k merged' f' is_end') =
+  forward-unique (stops {n} {m} {y = y} {sum = z} {end} a h merged f is_end) (stops {m = m'} {y = y'} {sum = z'} {end = end'} b k merged' f' is_end') =
       let same = merged-unique n m m' merged merged' in
       let sums : z ≡ z' = f ∙ ap (λ x. y + size x) same ∙ ap (λ x. x + size m') (a ∙ sym b) ∙ sym f' in
       let there = subst (λ x. IsEndAt t budget x z' end) same (subst (λ x. IsEndAt t budget m x end) sums is_end) in
       ((λ i. n ∷ []), (λ i. same i ∷ []), end-unique t budget m' z' end end' there is_end', sums)
-  forward-unique (stops {n} {m} {y = y} {z} {end} a h merged f is_end) (goes_on {m = m'} {y = y'} {z = z'} b k merged' f' on next rest) =
+  forward-unique (stops {n} {m} {y = y} {sum = z} {end} a h merged f is_end) (goes_on {m = m'} {y = y'} {z = z'} b k merged' f' on next rest) =
       let same = merged-unique n m m' merged merged' in
       let sums : z ≡ z' = f ∙ ap (λ x. y + size x) same ∙ ap (λ x. x + size m') (a ∙ sym b) ∙ sym f' in
       absurd (not-ended t budget m' z' end (subst (λ x. IsEndAt t budget x z' end) same (subst (λ x. IsEndAt t budget m x end) sums is_end)) on)
-  forward-unique (goes_on {n} {m} {y = y} {z = z} a h merged f on next rest) (stops {m = m'} {y = y'} {z = z'} {end = end'} b k merged' f' is_end') =
+  forward-unique (goes_on {n} {m} {y = y} {z = z} a h merged f on next rest) (stops {m = m'} {y = y'} {sum = z'} {end = end'} b k merged' f' is_end') =
       let same = merged-unique n m m' merged merged' in
       let sums : z ≡ z' = f ∙ ap (λ x. y + size x) same ∙ ap (λ x. x + size m') (a ∙ sym b) ∙ sym f' in
       absurd (not-ended t budget m' z' end' is_end' (subst (λ x. GoesOnFrom t budget x z') same (subst (GoesOnFrom t budget m) sums on)))
@@ -126,15 +126,15 @@ module _ (t : Task) (budget : ℕ) where
 
   pub backward-unique : {levels : List Level} {x : Automaton} {s z z' : ℕ} {xs xs' : List Automaton} {e e' : LogEnd}
       → Backward t budget levels x s xs e z → Backward t budget levels x s xs' e' z' → SameBackward xs e z xs' e' z'
-  backward-unique (ends_back {level} {below} {x} {z = z} {end = e} a is_end) (ends_back {z = z'} {end = e'} b is_end') =
+  backward-unique (ends_back {level} {below} {x} {sum = z} {end = e} a is_end) (ends_back {sum = z'} {end = e'} b is_end') =
       let sums = a ∙ sym b in
-      ((λ i. x ∷ []), replay-end-unique x level.forward z' below e e' (subst (λ y. IsReplayEndAt t budget x level.forward y below e) sums is_end) is_end', sums)
-  backward-unique (ends_back {level} {x = x} {z = z} {end = e} a is_end) (goes_back {lower = lower} {below = below} {z = z'} b on is_next rest) =
-      absurd (not-at-end x level.forward z lower below e is_end (subst (GoesBackFrom budget x level.forward) (b ∙ sym a) on))
-  backward-unique (goes_back {level} {lower} {below} {x} {z = z} a on is_next rest) (ends_back {z = z'} {end = e'} b is_end') =
-      absurd (not-at-end x level.forward z' lower below e' is_end' (subst (GoesBackFrom budget x level.forward) (a ∙ sym b) on))
+      ((λ i. x ∷ []), replay-end-unique x level.n z' below e e' (subst (λ y. IsReplayEndAt t budget x level.n y below e) sums is_end) is_end', sums)
+  backward-unique (ends_back {level} {x = x} {sum = z} {end = e} a is_end) (goes_back {lower = lower} {below = below} {z = z'} b on is_next rest) =
+      absurd (not-at-end x level.n z lower below e is_end (subst (GoesBackFrom budget x level.n) (b ∙ sym a) on))
+  backward-unique (goes_back {level} {lower} {below} {x} {z = z} a on is_next rest) (ends_back {sum = z'} {end = e'} b is_end') =
+      absurd (not-at-end x level.n z' lower below e' is_end' (subst (GoesBackFrom budget x level.n) (a ∙ sym b) on))
   backward-unique (goes_back {level} {lower} {below} {x} {next} {z = z} a on is_next rest) (goes_back {next = next'} {z = z'} {sum = sum'} {xs = xs'} {end = e'} b on' is_next' rest') =
-      let after = automaton-unique t.letters (IsTracedBack t lower.merged x level.forward) next next' is_next is_next' in
+      let after = automaton-unique t.letters (IsTracedBack t lower.m x level.n) next next' is_next is_next' in
       let aligned = subst (λ y. Backward t budget (lower ∷ below) y z xs' e' sum') (sym after)
       (subst (λ y. Backward t budget (lower ∷ below) next' y xs' e' sum') (b ∙ sym a) rest') in
       let later = backward-unique rest aligned in
@@ -144,7 +144,7 @@ module _ (t : Task) (budget : ℕ) where
       → IsReplayFrom t budget s levels xs e z → IsReplayFrom t budget s levels xs' e' z' → SameBackward xs e z xs' e' z'
   replay-unique [] s z z' xs xs' e e' h k = absurd h
   replay-unique (level ∷ below) s z z' xs xs' e e' h k =
-      let first = automaton-unique t.letters (IsSuspected t level.merged) h.0 k.0 h.1 k.1 in
+      let first = automaton-unique t.letters (IsSuspected t level.m) h.0 k.0 h.1 k.1 in
       backward-unique h.2 (subst (λ x. Backward t budget (level ∷ below) x s xs' e' z') (sym first) k.2)
 
 -- whole rounds
@@ -162,24 +162,24 @@ module _ (t : Task) (budget : ℕ) where
   pub search-round-unique : (R : Relation) (s z z' : ℕ) (r r' : SearchRound)
       → IsSearchRound t R budget s r z → IsSearchRound t R budget s r' z' → SameRound r z r' z'
   search-round-unique R s z z' r r' h k =
-      let forward = round-unique t R budget s h.sum k.sum r.n r.m r'.n r'.m h.forward_end k.forward_end h.forward k.forward in
-      let ends_same = subst (λ e. IsReplayed t budget h.sum (record { n = r'.n; m = r'.m; x = r.x; end = r.end }) e z) forward.2
-      (subst (λ ms. IsReplayed t budget h.sum (record { n = r'.n; m = ms; x = r.x; end = r.end }) h.forward_end z) forward.1
-      (subst (λ ns. IsReplayed t budget h.sum (record { n = ns; m = r.m; x = r.x; end = r.end }) h.forward_end z) forward.0 h.replayed)) in
+      let forward = round-unique t R budget s h.z k.z r.n r.m r'.n r'.m h.forward_end k.forward_end h.forward k.forward in
+      let ends_same = subst (λ e. IsReplayed t budget h.z (record { n = r'.n; m = r'.m; x = r.x; end = r.end }) e z) forward.2
+      (subst (λ ms. IsReplayed t budget h.z (record { n = r'.n; m = ms; x = r.x; end = r.end }) h.forward_end z) forward.1
+      (subst (λ ns. IsReplayed t budget h.z (record { n = ns; m = r.m; x = r.x; end = r.end }) h.forward_end z) forward.0 h.replayed)) in
       let aligned = subst (λ y. IsReplayed t budget y (record { n = r'.n; m = r'.m; x = r.x; end = r.end }) k.forward_end z) forward.3 ends_same in
-      let back = replayed-unique k.sum z z' r'.n r'.m r.x r'.x r.end r'.end k.forward_end aligned k.replayed in
+      let back = replayed-unique k.z z z' r'.n r'.m r.x r'.x r.end r'.end k.forward_end aligned k.replayed in
       ((λ i. record { n = forward.0 i; m = forward.1 i; x = back.0 i; end = back.1 i }), back.2)
 
   -- whole histories
   pub history-unique : (method : Method) {key : Key} {s z z' : ℕ} {rounds rounds' : List SearchRound}
       → History t method budget key s rounds z → History t method budget key s rounds' z' → (rounds ≡ rounds') × (z ≡ z')
-  history-unique method (ends {key} {s} {z} {round} h last) (ends {z = z'} {round = round'} k last') =
+  history-unique method (ends {key} {s} {sum = z} {round} h last) (ends {sum = z'} {round = round'} k last') =
       let same = search-round-unique (method.related key) s z z' round round' h k in ((λ i. same.0 i ∷ []), same.1)
-  history-unique method (ends {key} {s} {z} {round} h last) (goes_round {y = y'} {round = round'} k refuted at rest) =
+  history-unique method (ends {key} {s} {sum = z} {round} h last) (goes_round {z = y'} {round = round'} k refuted at rest) =
       let same = search-round-unique (method.related key) s z y' round round' h k in absurd (last (ap (λ r. r.end) same.0 ∙ refuted))
-  history-unique method (goes_round {key} {s} {y} {round = round} h refuted at rest) (ends {z = z'} {round = round'} k last') =
+  history-unique method (goes_round {key} {s} {z = y} {round = round} h refuted at rest) (ends {sum = z'} {round = round'} k last') =
       let same = search-round-unique (method.related key) s y z' round round' h k in absurd (last' (ap (λ r. r.end) (sym same.0) ∙ refuted))
-  history-unique method (goes_round {key} {s} {y} {round = round} {x} h refuted at rest) (goes_round {y = y'} {z = sum'} {round = round'} {x = x'} {rounds = rounds'} k refuted' at' rest') =
+  history-unique method (goes_round {key} {s} {z = y} {round = round} {x} h refuted at rest) (goes_round {z = y'} {sum = sum'} {round = round'} {x = x'} {rounds = rounds'} k refuted' at' rest') =
       let same = search-round-unique (method.related key) s y y' round round' h k in
       let sets : x ≡ x' = some-same x x' (sym at ∙ ap (λ r. last_or None r.x) same.0 ∙ at') in
       let aligned = subst (λ a. History t method budget (method.next key a) y rounds' sum') (sym sets)

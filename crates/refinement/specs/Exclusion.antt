@@ -16,7 +16,7 @@ IsRefutedBy round x = (round.end ≡ Refuted) × (last_or None round.x ≡ Some 
 
 -- each merged automaton of the round misses the set where the automaton that was merged does
 abbrev pub StaysOut : Automaton → SearchRound → Type 0
-StaysOut x round = AllByRecursion (λ level. Misses level.forward x → Misses level.merged x) (levels round.n round.m)
+StaysOut x round = AllByRecursion (λ level. Misses level.n x → Misses level.m x) (levels round.n round.m)
 
 -- no set with its language is refuted by the round
 abbrev pub IsNotRefutedAgain : Automaton → SearchRound → Type 0

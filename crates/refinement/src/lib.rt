@@ -13,3 +13,11 @@ pub use laws::{
 };
 pub use rounds::search;
 pub use verdict::Verdict;
+
+/// Asks for a type that threads may share and that may be moved between them.
+fn is_shared<T: Send + Sync>() {}
+
+/// Threads may share verdicts.
+pub fn verdicts_are_shared() {
+    is_shared::<Verdict>();
+}

@@ -9,3 +9,12 @@ mod round;
 pub use count::Count;
 pub use log::{Log, LogEnd, RoundLog};
 pub use round::{Round, RoundEnd};
+
+/// Asks for a type that threads may share and that may be moved between them.
+fn is_shared<T: Send + Sync>() {}
+
+/// Threads may share logs, and the automata of rounds.
+pub fn logs_are_shared() {
+    is_shared::<Log>();
+    is_shared::<Round>();
+}

@@ -1,4 +1,5 @@
 //! The log of a search: sizes of automata, and how each round ended.
+//! It has a number for each counted automaton.
 
 use sequence::Sequence;
 

@@ -1,4 +1,5 @@
-//! Writes the report of a search, member by member. It takes time linear in the log.
+//! Writes the report of a search, member by member, as one object of JSON.
+//! It takes time linear in the log.
 
 ghost use Rattle.std.specs.Prelude.{◌≡◌, ◌-◌, ◌++◌, ◌∷◌, [], IfOk, OnOk, codes, decimal, length, slice_get, flat_map};
 ghost use Rattle.json.specs.Token.{key, string, number};
