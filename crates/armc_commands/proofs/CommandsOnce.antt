@@ -12,21 +12,23 @@ use Rattle.configuration_words.specs.OneReading as configuration
 use Rattle.certificate.specs.OneReading as certificate
 use Rattle.certificate_checker.specs.OneAnswer.{AnswerIsDetermined}
 use Rattle.certificate_checker.specs.Answers.{IsAnswer}
-use Rattle.command_words.specs.Words.{Command, verify, steps, show, check, generate, default_budget}
-use Rattle.command_words.specs.declared.Settings.{Settings}
+use Rattle.command_words.specs.Words.{Command, verify, steps, show, searching, generate}
+use Rattle.command_words.specs.declared.Query.{Query}
+use Rattle.command_words.specs.declared.Query.TheVariants.{Check as ByCheck}
 use Rattle.armc_commands.specs.declared.status.Status.TheVariants as status
 use Rattle.armc_commands.specs.declared.reply.Reply.{Reply}
 use Rattle.armc_commands.specs.Line.{line}
-use Rattle.armc_commands.specs.Reply.{on_out, on_err}
-use Rattle.armc_commands.specs.Refusal.{configuration_refusal_text}
+use Rattle.armc_commands.specs.Reply.{on_out, on_err, RefusesCertificate}
+use Rattle.armc_commands.specs.Refusal.{configuration_refusal_text, certificate_refusal_text}
 use Rattle.armc_commands.specs.Reading.{IsFaultless}
-use Rattle.armc_commands.specs.Commands.{CommandReply}
-use Rattle.protocol_search.specs.OneCheck.{CheckIsDetermined, VerdictIsDetermined}
-use Rattle.protocol_search.specs.declared.first.FirstAbstraction.TheVariants.{BadPredicates}
-use Rattle.armc_commands.specs.Commands.Check.{IsCheckReply, first_abstraction, reply_of_check}
-use Rattle.armc_commands.specs.Commands.Generate.{IsGenerateReply, reply_of_verdict}
+use Rattle.armc_commands.specs.Commands.{CommandReply, QueryReply}
+use Rattle.armc_commands.specs.declared.search_reply.Telling.{Telling}
+use Rattle.armc_commands.specs.declared.search_reply.Telling.TheVariants.{Summary}
+use Rattle.armc_commands.specs.SearchReply.{Part, IsSearchReply}
+use Rattle.armc_commands.specs.Commands.Check.{check_telling, check_parts}
+use Rattle.armc_commands.specs.Commands.Generate.{generate_parts}
 use Rattle.armc_commands.specs.Commands.Steps.{IsStepsReply, ListsSuccessors, RefusesConfiguration, successors_text}
-use Rattle.armc_commands.specs.Commands.Verify.{IsVerifyReply, RefusesCertificate, Judges, answer_status, answer_text, fault_text}
+use Rattle.armc_commands.specs.Commands.Verify.{IsVerifyReply, Judges, answer_status, answer_text}
 
 -- `steps`
 module _ (configuration_once : configuration.ConfigurationIsDetermined) (fault_once : configuration.FaultIsDetermined)
@@ -67,7 +69,7 @@ module _ (meaning : certificate.MeaningIsDetermined) (fault_once : certificate.F
   refuses_certificate_once : (r q : Reply) → RefusesCertificate s text r → RefusesCertificate s text q → r ≡ q
   refuses_certificate_once r q h k =
       h.reply_is
-      ∙ ap (λ fault. on_err status.CertificateRefused (line (fault_text fault))) (fault_once s valid text h.fault k.fault h.is_first k.is_first)
+      ∙ ap (λ fault. on_err status.CertificateRefused (line (certificate_refusal_text fault))) (fault_once s valid text h.fault k.fault h.is_first k.is_first)
       ∙ sym k.reply_is
 
   pub verify_once : (r q : Reply) → IsVerifyReply s text r → IsVerifyReply s text q → r ≡ q
@@ -82,27 +84,17 @@ module _ (meaning : certificate.MeaningIsDetermined) (fault_once : certificate.F
     ]
   ]
 
--- `check`
-pub check_once : CheckIsDetermined → (s : SystemData) (settings : Settings) (r q : Reply) → IsCheckReply s settings r → IsCheckReply s settings q → r ≡ q
-check_once once s settings r q h k =
-    h.reply_is
-    ∙ ap (reply_of_check settings) (once s (first_abstraction settings) settings.budget h.checked k.checked h.is_check k.is_check)
-    ∙ sym k.reply_is
-
--- `gen`
-pub generate_once : VerdictIsDetermined → (s : SystemData) (number : ℕ) (r q : Reply) → IsGenerateReply s number r → IsGenerateReply s number q → r ≡ q
-generate_once once s number r q h k =
-    h.reply_is
-    ∙ ap (reply_of_verdict number) (once s BadPredicates default_budget h.verdict k.verdict h.is_verdict k.is_verdict)
-    ∙ sym k.reply_is
+-- a query
+module _ (search_once : (told : Telling) (parts : List Part) (r q : Reply) → IsSearchReply told parts r → IsSearchReply told parts q → r ≡ q) where
+  pub query_once : (query : Query) (budget : ℕ) (s : SystemData) (r q : Reply) → QueryReply query budget s r → QueryReply query budget s q → r ≡ q
+  query_once (ByCheck settings) budget s r q h k = search_once (check_telling settings) (check_parts s settings budget) r q h k
 
 -- each command
 module _ (allowed : (text : List ℕ) (p : Protocol) → IsProtocol text p → IsAllowed p)
     (valid : (p : Protocol) → IsAllowed p → first_fault p ≡ None → IsValid (system_of p))
     (verify_reply_once : (s : SystemData) → IsValid s → (text : List ℕ) (r q : Reply) → IsVerifyReply s text r → IsVerifyReply s text q → r ≡ q)
     (steps_reply_once : (s : SystemData) → IsValid s → (text : List ℕ) (r q : Reply) → IsStepsReply s text r → IsStepsReply s text q → r ≡ q)
-    (check_reply_once : (s : SystemData) (settings : Settings) (r q : Reply) → IsCheckReply s settings r → IsCheckReply s settings q → r ≡ q)
-    (generate_reply_once : (s : SystemData) (number : ℕ) (r q : Reply) → IsGenerateReply s number r → IsGenerateReply s number q → r ≡ q) where
+    (search_once : (told : Telling) (parts : List Part) (r q : Reply) → IsSearchReply told parts r → IsSearchReply told parts q → r ≡ q) where
   system_is_valid : (source : List ℕ) (p : Protocol) → IsFaultless source p → IsValid (system_of p)
   system_is_valid source p says = valid p (allowed source p says.is_protocol) says.no_fault
 
@@ -111,5 +103,5 @@ module _ (allowed : (text : List ℕ) (p : Protocol) → IsProtocol text p → I
   command_once (verify file certificate) source p text r q says h k = verify_reply_once (system_of p) (system_is_valid source p says) text r q h k
   command_once (steps file configuration) source p text r q says h k = steps_reply_once (system_of p) (system_is_valid source p says) text r q h k
   command_once (show file) source p text r q says h k = h ∙ sym k
-  command_once (check file settings) source p text r q says h k = check_reply_once (system_of p) settings r q h k
-  command_once (generate number workers) source p text r q says h k = generate_reply_once (system_of p) number r q h k
+  command_once (searching file query limits) source p text r q says h k = query_once search_once query limits.budget (system_of p) r q h k
+  command_once (generate number workers) source p text r q says h k = search_once (Summary number) (generate_parts (system_of p)) r q h k

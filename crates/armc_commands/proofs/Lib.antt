@@ -5,6 +5,6 @@ pub mod Replies
 pub mod QuietReads
 pub mod CommandsOnce
 pub mod OneReplyLemmas
+pub mod SearchLemmas
+pub mod Promised
 pub mod UsageLemmas
-pub mod SettingsLemmas
-pub mod Searched

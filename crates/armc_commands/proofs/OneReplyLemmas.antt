@@ -1,5 +1,5 @@
 -- The words and the told texts decide one reply, since each text has one reading, and each command one reply for what it read.
-use Rattle.std.proofs.Common.{◌≡◌, ◌≢◌, ◌≤◌, ◌<◌, ◌⊎◌, inl, inr, ℕ, List, length, Option, None, Some, IfSome, Result, Ok, Err, refl, sym, ap, subst, ◌∙◌, arith}
+use Rattle.std.proofs.Common.{◌≡◌, ◌≢◌, ◌≤◌, ◌<◌, ◌⊎◌, inl, inr, ℕ, List, length, Option, None, Some, IfSome, Result, Ok, Err, refl, sym, ap, subst, ◌∙◌, arith, codes}
 use Rattle.std.specs.Prelude.{IsSome}
 use Rattle.protocol_syntax.specs.declared.protocol.Protocol.{Protocol}
 use Rattle.protocol_syntax.specs.OneReading.{ProtocolIsDetermined, FaultIsDetermined, FaultExcludesProtocol}
@@ -7,6 +7,7 @@ use Rattle.protocol_model.specs.Faults.{first_fault}
 use Rattle.command_words.specs.Words.{Command, command_of}
 use Rattle.armc_commands.specs.declared.refusal.Refusal.{Refusal}
 use Rattle.armc_commands.specs.declared.refusal.Refusal.TheVariants.{Syntax, Model}
+use Rattle.armc_commands.specs.declared.status.Status.TheVariants.{ProtocolRefused}
 use Rattle.armc_commands.specs.declared.reply.Reply.{Reply}
 use Rattle.armc_commands.specs.declared.failure.Failure.{Failure}
 use Rattle.armc_commands.specs.declared.failure.Failure.TheVariants.{ReadFault, TooLong, Memory}
@@ -80,7 +81,7 @@ module _ (protocol_once : ProtocolIsDetermined) (fault_once : FaultIsDetermined)
         let same = first_once h.text k.text h.is_text k.is_text in
         let refusals = refusal_once protocol_once fault_once fault_or_protocol k.text h.refusal k.refusal
         (subst (λ text. IsRefusalOf text h.refusal) same h.refused) k.refused in
-        h.reply_is ∙ ap refusal_reply refusals ∙ sym k.reply_is
+        h.reply_is ∙ ap (refusal_reply (codes "protocol") ProtocolRefused) refusals ∙ sym k.reply_is
 
     protocols_once : (p q : Protocol) → HasProtocol told command p → HasProtocol told command q → p ≡ q
     protocols_once p q h k =

@@ -1,7 +1,7 @@
 -- The first fault of a text, as what its reading says.
 use Rattle.std.proofs.Common.{◌≡◌, ◌≢◌, ◌⊎◌, inl, inr, ℕ, List, Some, Result, Ok, Err, IfOk, OnOk, sym, subst}
-use Rattle.protocol_syntax.specs.declared.fault.SyntaxFault.{SyntaxFault}
-use Rattle.protocol_syntax.specs.declared.fault.SyntaxFault.TheVariants as syntax
+use Rattle.forms.specs.declared.fault.SyntaxFault.{SyntaxFault}
+use Rattle.forms.specs.declared.fault.SyntaxFault.TheVariants as syntax
 use Rattle.protocol_syntax.specs.declared.protocol.Protocol.{Protocol}
 use Rattle.protocol_syntax.specs.Grammar.{IsProtocol, IsFirstFault}
 use Rattle.protocol_model.specs.declared.fault.ModelFault.{ModelFault}

@@ -18,9 +18,9 @@ use Rattle.armc_commands.specs.declared.status.Status.TheVariants as status
 use Rattle.armc_commands.specs.declared.reply.Reply.{Reply}
 use Rattle.armc_commands.specs.Line.{line}
 use Rattle.armc_commands.specs.Reply.{on_err}
-use Rattle.armc_commands.specs.Refusal.{configuration_refusal_text}
+use Rattle.armc_commands.specs.Refusal.{configuration_refusal_text, certificate_refusal_text}
 use Rattle.armc_commands.specs.Commands.Steps.{IsStepsReply}
-use Rattle.armc_commands.specs.Commands.Verify.{IsVerifyReply, ShowsFitting, fault_text}
+use Rattle.armc_commands.specs.Commands.Verify.{IsVerifyReply, ShowsFitting}
 
 first_true : (a b : Bool) → IsTrue (a && b) → IsTrue a
 first_true true b h = refl
@@ -57,7 +57,7 @@ steps_refused s text fault (Err e) is other first = tt
 
 -- the first fault of a certificate is told
 pub verify_refused : {E : Type 0} (s : SystemData) (text : List ℕ) (fault : CertFault) (r : Result Reply E)
-    → IfOk r (λ reply. reply ≡ on_err status.CertificateRefused (line (fault_text fault))) → OnOk r (fault ≢ certificate_fault.Memory)
+    → IfOk r (λ reply. reply ≡ on_err status.CertificateRefused (line (certificate_refusal_text fault))) → OnOk r (fault ≢ certificate_fault.Memory)
     → (fault ≢ certificate_fault.Memory → HasFault s text fault) → IfOk r (IsVerifyReply s text)
 verify_refused s text fault (Ok reply) is other first = inl (record { fault = fault; is_first = first other; reply_is = is })
 verify_refused s text fault (Err e) is other first = tt

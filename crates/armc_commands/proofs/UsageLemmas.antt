@@ -5,33 +5,25 @@ use Rattle.armc_io.specs.Sink.{SinkState}
 use Rattle.protocol_syntax.specs.declared.protocol.Protocol.{Protocol}
 use Rattle.certificate_checker.specs.declared.answer.Answer.{Answer}
 use Rattle.certificate_checker.specs.declared.answer.Answer.TheVariants.{Valid, InitialMissing, BadHeld, Leaves, NotInitial, NotStep, NotBad}
-use Rattle.refinement.specs.declared.verdict.Verdict.{Verdict}
-use Rattle.refinement.specs.declared.verdict.Verdict.TheVariants as verdict
-use Rattle.protocol_search.specs.declared.checked.CheckEnd.{CheckEnd}
-use Rattle.protocol_search.specs.declared.checked.CheckEnd.TheVariants as ends
-use Rattle.command_words.specs.Words.{Command, verify, steps, show, check, generate, command_of}
+use Rattle.protocol_model.specs.System.{SystemData}
+use Rattle.protocol_model.specs.Numbering.{system_of}
+use Rattle.command_words.specs.Words.{Command, verify, steps, show, searching, generate, command_of}
+use Rattle.command_words.specs.declared.Query.{Query}
+use Rattle.command_words.specs.declared.Query.TheVariants.{Check as ByCheck}
 use Rattle.armc_commands.specs.declared.status.Status.{Status}
 use Rattle.armc_commands.specs.declared.status.Status.TheVariants as status
 use Rattle.armc_commands.specs.declared.reply.Reply.{Reply}
 use Rattle.armc_commands.specs.declared.failure.Failure.{Failure}
 use Rattle.armc_commands.specs.declared.failure.Failure.TheVariants.{ReadFault, TooLong, Memory}
-use Rattle.armc_commands.specs.Commands.{CommandReply}
-use Rattle.armc_commands.specs.Commands.Check.{check_status}
-use Rattle.armc_commands.specs.Commands.Generate.{verdict_status}
+use Rattle.armc_commands.specs.declared.search_reply.Telling.TheVariants.{Summary}
+use Rattle.armc_commands.specs.Commands.{CommandReply, QueryReply}
+use Rattle.armc_commands.specs.Commands.Check.{check_telling, check_parts}
+use Rattle.armc_commands.specs.Commands.Generate.{generate_parts}
 use Rattle.armc_commands.specs.Commands.Verify.{answer_status}
 use Rattle.armc_commands.specs.Outcome.{IsOutcome, IsReply}
 use Rattle.armc_commands.specs.Reply.{reply_of}
 use Rattle.armc_commands.specs.Answer.{Answers}
-
-not_of_end : (end : CheckEnd) → check_status end ≡ status.Usage → ⊥
-not_of_end ends.Safe e = cc e
-not_of_end ends.Unsafe e = cc e
-not_of_end ends.Unknown e = cc e
-
-not_of_verdict : (v : Verdict) → verdict_status v ≡ status.Usage → ⊥
-not_of_verdict (verdict.Safe proof log) e = cc e
-not_of_verdict (verdict.Unsafe words log) e = cc e
-not_of_verdict (verdict.Unknown log) e = cc e
+use Rattle.armc_commands.proofs.SearchLemmas.{search-not-usage}
 
 not_of_answer : (a : Answer) → answer_status a ≡ status.Usage → ⊥
 not_of_answer Valid e = cc e
@@ -46,6 +38,9 @@ not_of_answer NotBad e = cc e
 status_in : (reply other : Reply) → reply ≡ other → reply.status ≡ status.Usage → other.status ≡ status.Usage
 status_in reply other same e = sym (ap (λ (r : Reply). r.status) same) ∙ e
 
+not_of_query : (query : Query) (budget : ℕ) (s : SystemData) (reply : Reply) → QueryReply query budget s reply → reply.status ≡ status.Usage → ⊥
+not_of_query (ByCheck settings) budget s reply h e = search-not-usage (check_telling settings) (check_parts s settings budget) reply h e
+
 not_of_command : (command : Command) (p : Protocol) (text : List ℕ) (reply : Reply) → CommandReply command p text reply → reply.status ≡ status.Usage → ⊥
 not_of_command (verify file certificate) p text reply h e = elim h [
   | inl refuses ↦ let f = status_in reply _ refuses.reply_is e in cc f
@@ -56,8 +51,8 @@ not_of_command (steps file configuration) p text reply h e = elim h [
   | inr refuses ↦ let f = status_in reply _ refuses.reply_is e in cc f
 ]
 not_of_command (show file) p text reply h e = let f = status_in reply _ h e in cc f
-not_of_command (check file settings) p text reply h e = not_of_end h.checked.end (status_in reply _ h.reply_is e)
-not_of_command (generate number workers) p text reply h e = not_of_verdict h.verdict (status_in reply _ h.reply_is e)
+not_of_command (searching file query limits) p text reply h e = not_of_query query limits.budget (system_of p) reply h e
+not_of_command (generate number workers) p text reply h e = search-not-usage (Summary number) (generate_parts (system_of p)) reply h e
 
 module _ (words : List (List ℕ)) (l l' : LibraryState) (o o' e e' : SinkState) (result : Status) where
   none_asked : (reply : Reply) → IsReply words l.told reply → reply.status ≡ status.Usage → command_of words ≡ None

@@ -6,8 +6,11 @@ pub mod Steps
 pub mod Verify
 use Rattle.std.specs.Prelude.{ℕ, List, []}
 use Rattle.protocol_syntax.specs.declared.protocol.Protocol.{Protocol}
+use Rattle.protocol_model.specs.System.{SystemData}
 use Rattle.protocol_model.specs.Numbering.{system_of}
-use Rattle.command_words.specs.Words.{Command, verify, steps, show, check, generate}
+use Rattle.command_words.specs.Words.{Command, verify, steps, show, searching, generate}
+use Rattle.command_words.specs.declared.Query.{Query}
+use Rattle.command_words.specs.declared.Query.TheVariants.{Check as ByCheck}
 use Rattle.armc_commands.specs.declared.reply.Reply.{Reply}
 use Rattle.armc_commands.specs.Origin.{Origin, named, given, generated}
 use Rattle.armc_commands.specs.Commands.Check.{IsCheckReply, CheckPromise}
@@ -28,7 +31,7 @@ abbrev pub protocol_origin : Command → Origin
 protocol_origin (verify file certificate) = named file protocol_limit
 protocol_origin (steps file configuration) = named file protocol_limit
 protocol_origin (show file) = named file protocol_limit
-protocol_origin (check file settings) = named file protocol_limit
+protocol_origin (searching file query limits) = named file protocol_limit
 protocol_origin (generate number workers) = generated number
 
 -- where the command's second text comes from: the certificate, the configuration, or no text
@@ -36,15 +39,23 @@ abbrev pub second_origin : Command → Origin
 second_origin (verify file certificate) = named certificate certificate_limit
 second_origin (steps file configuration) = given configuration
 second_origin (show file) = given []
-second_origin (check file settings) = given []
+second_origin (searching file query limits) = given []
 second_origin (generate number workers) = given []
+
+-- the reply to a query of the system within the budget
+abbrev pub QueryReply : Query → ℕ → SystemData → Reply → Type 0
+QueryReply (ByCheck settings) budget s reply = IsCheckReply s settings budget reply
+
+-- what it promises
+abbrev pub QueryPromise : Query → ℕ → SystemData → Reply → Type 0
+QueryPromise (ByCheck settings) budget s reply = CheckPromise s settings budget reply
 
 -- the reply of the command for this protocol, which has no fault, and this second text
 abbrev pub CommandReply : Command → Protocol → List ℕ → Reply → Type 0
 CommandReply (verify file certificate) p text reply = IsVerifyReply (system_of p) text reply
 CommandReply (steps file configuration) p text reply = IsStepsReply (system_of p) text reply
 CommandReply (show file) p text reply = IsShowReply p reply
-CommandReply (check file settings) p text reply = IsCheckReply (system_of p) settings reply
+CommandReply (searching file query limits) p text reply = QueryReply query limits.budget (system_of p) reply
 CommandReply (generate number workers) p text reply = IsGenerateReply (system_of p) number reply
 
 -- what the command promises of a reply
@@ -52,5 +63,5 @@ abbrev pub Promise : Command → Protocol → List ℕ → Reply → Type 0
 Promise (verify file certificate) p text reply = VerifyPromise (system_of p) text reply
 Promise (steps file configuration) p text reply = Unit {0}
 Promise (show file) p text reply = Unit {0}
-Promise (check file settings) p text reply = CheckPromise (system_of p) reply
-Promise (generate number workers) p text reply = GeneratePromise (system_of p) reply
+Promise (searching file query limits) p text reply = QueryPromise query limits.budget (system_of p) reply
+Promise (generate number workers) p text reply = GeneratePromise (system_of p) number reply

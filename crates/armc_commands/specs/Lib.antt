@@ -3,6 +3,9 @@ pub mod Origin
 pub mod Refusal
 pub mod Reading
 pub mod Reply
+pub mod Summary
+pub mod SearchReply
+pub mod SearchPromise
 pub mod Commands
 pub mod Outcome
 pub mod Reads
@@ -11,4 +14,3 @@ pub mod Text
 pub mod Answer
 pub mod OneReply
 pub mod ReplyLaws
-pub mod ReplyHistories

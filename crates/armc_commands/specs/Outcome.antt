@@ -1,10 +1,11 @@
 -- What a call comes to, and exactly when: a reply, a read that failed, a text that is too long, or running out of memory.
-use Rattle.std.specs.Prelude.{◌≡◌, ◌<◌, ◌⊎◌, ℕ, List, length, true, false, Some, None, IfSome, IsSome, IsTrue, Result, Ok, Err}
+use Rattle.std.specs.Prelude.{◌≡◌, ◌<◌, ◌⊎◌, ℕ, List, length, true, false, Some, None, IfSome, IsSome, IsTrue, Result, Ok, Err, codes}
 use Rattle.armc_io.specs.Faults.{Rose}
 use Rattle.armc_io.specs.Library.{LibraryState, LastIs}
 use Rattle.protocol_syntax.specs.declared.protocol.Protocol.{Protocol}
 use Rattle.command_words.specs.Words.{Command, command_of}
 use Rattle.armc_commands.specs.declared.refusal.Refusal.{Refusal}
+use Rattle.armc_commands.specs.declared.status.Status.TheVariants.{ProtocolRefused}
 use Rattle.armc_commands.specs.declared.reply.Reply.{Reply}
 use Rattle.armc_commands.specs.declared.failure.Failure.{Failure}
 use Rattle.armc_commands.specs.declared.failure.Failure.TheVariants.{ReadFault, TooLong, Memory}
@@ -26,7 +27,7 @@ pub record RefusesProtocol (told : Told) (command : Command) (reply : Reply) : T
   pub text : List ℕ
   pub is_text : IsTextFrom told (protocol_origin command) text
   pub refused : IsRefusalOf text refusal
-  pub reply_is : reply ≡ refusal_reply refusal
+  pub reply_is : reply ≡ refusal_reply (codes "protocol") ProtocolRefused refusal
 
 -- the command was carried out for its protocol and its second text
 pub record CarriesOut (told : Told) (command : Command) (reply : Reply) : Type 0 where

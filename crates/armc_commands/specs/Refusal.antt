@@ -1,10 +1,10 @@
--- The first fault of a protocol's text, and how it is told.
+-- The first fault of a protocol, a configuration or a certificate, and how it is told.
 use Rattle.std.specs.Prelude.{◌≡◌, ℕ, List, [], ◌++◌, Some, codes, decimal}
 use Rattle.protocol_lexer.specs.declared.Place.{Place}
-use Rattle.protocol_syntax.specs.declared.fault.What.{What}
-use Rattle.protocol_syntax.specs.declared.fault.What.TheVariants as Limits
-use Rattle.protocol_syntax.specs.declared.fault.SyntaxFault.{SyntaxFault}
-use Rattle.protocol_syntax.specs.declared.fault.SyntaxFault.TheVariants as syntax
+use Rattle.forms.specs.declared.fault.What.{What}
+use Rattle.forms.specs.declared.fault.What.TheVariants as Limits
+use Rattle.forms.specs.declared.fault.SyntaxFault.{SyntaxFault}
+use Rattle.forms.specs.declared.fault.SyntaxFault.TheVariants as syntax
 use Rattle.protocol_syntax.specs.declared.protocol.Protocol.{Protocol}
 use Rattle.protocol_syntax.specs.Grammar.{IsProtocol, IsFirstFault}
 use Rattle.protocol_model.specs.declared.fault.ModelFault.{ModelFault}
@@ -12,6 +12,8 @@ use Rattle.protocol_model.specs.declared.fault.ModelFault.TheVariants as model
 use Rattle.protocol_model.specs.Faults.{first_fault}
 use Rattle.configuration_words.specs.declared.fault.ConfigFault.{ConfigFault}
 use Rattle.configuration_words.specs.declared.fault.ConfigFault.TheVariants as configuration
+use Rattle.certificate.specs.declared.fault.CertFault.{CertFault}
+use Rattle.certificate.specs.declared.fault.CertFault.TheVariants as certificate
 use Rattle.armc_commands.specs.declared.refusal.Refusal.{Refusal}
 use Rattle.armc_commands.specs.declared.refusal.Refusal.TheVariants.{Syntax, Model}
 
@@ -37,30 +39,43 @@ abbrev pub located : List ℕ → Place → List ℕ → List ℕ
 located kind place text =
     codes "armc: " ++ kind ++ codes ": line " ++ decimal place.line ++ codes " column " ++ decimal place.column ++ codes ": " ++ text
 
--- a fault of a protocol at this place
-abbrev pub in_protocol : Place → List ℕ → List ℕ
-in_protocol place text = located (codes "protocol") place text
+abbrev pub syntax_text : List ℕ → SyntaxFault → List ℕ
+syntax_text kind (syntax.BadByte place) = located kind place (codes "bad byte")
+syntax_text kind (syntax.Unexpected place) = located kind place (codes "unexpected token")
+syntax_text kind (syntax.TooMany what place) = located kind place (codes "too many " ++ what_word what)
+syntax_text kind syntax.Memory = []
 
-abbrev pub syntax_text : SyntaxFault → List ℕ
-syntax_text (syntax.BadByte place) = in_protocol place (codes "bad byte")
-syntax_text (syntax.Unexpected place) = in_protocol place (codes "unexpected token")
-syntax_text (syntax.TooMany what place) = in_protocol place (codes "too many " ++ what_word what)
-syntax_text syntax.Memory = []
+abbrev pub model_text : List ℕ → ModelFault → List ℕ
+model_text kind (model.Duplicate name) = located kind name.place (codes "duplicate " ++ name.text)
+model_text kind (model.Unknown name) = located kind name.place (codes "unknown " ++ name.text)
+model_text kind (model.TouchedTwice name) = located kind name.place (codes "touched twice " ++ name.text)
+model_text kind (model.WrongKind name) = located kind name.place (codes "wrong kind " ++ name.text)
+model_text kind model.Memory = []
 
-abbrev pub model_text : ModelFault → List ℕ
-model_text (model.Duplicate name) = in_protocol name.place (codes "duplicate " ++ name.text)
-model_text (model.Unknown name) = in_protocol name.place (codes "unknown " ++ name.text)
-model_text (model.TouchedTwice name) = in_protocol name.place (codes "touched twice " ++ name.text)
-model_text (model.WrongKind name) = in_protocol name.place (codes "wrong kind " ++ name.text)
-model_text model.Memory = []
+-- how the fault of a text of this kind is told; running out of memory is no fault of a text
+abbrev pub refusal_text : List ℕ → Refusal → List ℕ
+refusal_text kind (Syntax fault) = syntax_text kind fault
+refusal_text kind (Model fault) = model_text kind fault
 
--- how the fault of a configuration is told; running out of memory is no fault of a text
+-- how the fault of a configuration is told
 abbrev pub configuration_refusal_text : ConfigFault → List ℕ
 configuration_refusal_text (configuration.BadByte place) = located (codes "configuration") place (codes "bad byte")
 configuration_refusal_text (configuration.Unexpected place) = located (codes "configuration") place (codes "unexpected token")
 configuration_refusal_text configuration.Memory = []
 
--- how the fault of a protocol is told; running out of memory is no fault of a text
-abbrev pub refusal_text : Refusal → List ℕ
-refusal_text (Syntax fault) = syntax_text fault
-refusal_text (Model fault) = model_text fault
+-- a fault of a certificate at the line of this number
+abbrev pub in_certificate : ℕ → List ℕ → List ℕ
+in_certificate n text = codes "armc: certificate: line " ++ decimal n ++ codes ": " ++ text
+
+-- how the fault of a certificate is told
+abbrev pub certificate_refusal_text : CertFault → List ℕ
+certificate_refusal_text (certificate.Version n) = in_certificate n (codes "version")
+certificate_refusal_text (certificate.BadLine n) = in_certificate n (codes "bad line")
+certificate_refusal_text (certificate.UnknownName n) = in_certificate n (codes "unknown name")
+certificate_refusal_text (certificate.OutOfRange n) = in_certificate n (codes "out of range")
+certificate_refusal_text (certificate.TwoEdges n) = in_certificate n (codes "two edges")
+certificate_refusal_text (certificate.Truncated n) = in_certificate n (codes "truncated")
+certificate_refusal_text (certificate.NothingToVerify n) = in_certificate n (codes "nothing to verify")
+certificate_refusal_text (certificate.TooMany n) = in_certificate n (codes "too many states")
+certificate_refusal_text (certificate.TwoLetters n) = in_certificate n (codes "two letters")
+certificate_refusal_text certificate.Memory = []

@@ -1,5 +1,8 @@
 -- Replies that do not depend on the command.
-use Rattle.std.specs.Prelude.{ℕ, List, [], ◌++◌, codes, Result, Ok, Err}
+use Rattle.std.specs.Prelude.{◌≡◌, ℕ, List, [], ◌++◌, codes, Result, Ok, Err}
+use Rattle.protocol_model.specs.System.{SystemData}
+use Rattle.certificate.specs.declared.fault.CertFault.{CertFault}
+use Rattle.certificate.specs.Faults.{HasFault}
 use Rattle.armc_commands.specs.declared.status.Status.{Status}
 use Rattle.armc_commands.specs.declared.status.Status.TheVariants as status
 use Rattle.armc_commands.specs.declared.reply.Reply.{Reply}
@@ -7,7 +10,7 @@ use Rattle.armc_commands.specs.declared.failure.Failure.{Failure}
 use Rattle.armc_commands.specs.declared.failure.Failure.TheVariants.{ReadFault, TooLong, Memory}
 use Rattle.armc_commands.specs.declared.refusal.Refusal.{Refusal}
 use Rattle.armc_commands.specs.Line.{line}
-use Rattle.armc_commands.specs.Refusal.{refusal_text}
+use Rattle.armc_commands.specs.Refusal.{refusal_text, certificate_refusal_text}
 
 -- a reply with one text, on standard output or on standard error
 abbrev pub on_out : Status → List ℕ → Reply
@@ -26,9 +29,15 @@ usage_text =
 abbrev pub usage : Reply
 usage = on_err status.Usage (line usage_text)
 
--- the reply to a protocol with this first fault
-abbrev pub refusal_reply : Refusal → Reply
-refusal_reply refusal = on_err status.ProtocolRefused (line (refusal_text refusal))
+-- the reply with this status to a text of this kind with this first fault
+abbrev pub refusal_reply : List ℕ → Status → Refusal → Reply
+refusal_reply kind refused refusal = on_err refused (line (refusal_text kind refusal))
+
+-- the first fault of the text of a certificate is told
+pub record RefusesCertificate (s : SystemData) (text : List ℕ) (reply : Reply) : Type 0 where
+  pub fault : CertFault
+  pub is_first : HasFault s text fault
+  pub reply_is : reply ≡ on_err status.CertificateRefused (line (certificate_refusal_text fault))
 
 -- what is replied where a call failed
 abbrev pub failure_reply : Failure → Reply

@@ -4,10 +4,10 @@
 ghost use Rattle.std.specs.Prelude.{◌≡◌, ℕ, List, IfOk};
 ghost use Rattle.protocol_syntax.specs.declared.protocol.Protocol.{Protocol as ProtocolData};
 ghost use Rattle.protocol_model.specs.Numbering.{system_of};
-ghost use Rattle.command_words.specs.Words.{Command as CommandData, IsInRange, said};
+ghost use Rattle.command_words.specs.Words.{Command as CommandData, IsInRange, IsLimits, said};
 ghost use Rattle.armc_commands.specs.declared.reply.Reply.{Reply as ReplyData};
 ghost use Rattle.armc_commands.specs.Origin.{IsReadable, origin_of};
-ghost use Rattle.armc_commands.specs.Commands.{protocol_origin as protocol_origin_of, second_origin as second_origin_of, CommandReply, Promise};
+ghost use Rattle.armc_commands.specs.Commands.{protocol_origin as protocol_origin_of, second_origin as second_origin_of, CommandReply, QueryReply, Promise};
 
 mod check;
 mod generate;
@@ -18,8 +18,9 @@ mod verify;
 use crate::origin::Origin;
 use crate::reply::Reply;
 use armc_io::Gate;
-use check::{check_reply, keeps_check_promise};
-use command_words::Command;
+use check::check_reply;
+pub use check::keeps_check_promise;
+use command_words::{Command, Limits, Query};
 use generate::{generate_reply, keeps_generate_promise};
 use protocol_model::System;
 use protocol_syntax::Protocol;
@@ -46,7 +47,7 @@ pub fn protocol_origin(command: Command<'_>) -> Origin<'_>
         Command::Verify { file, .. } => Origin::Named { name: file, limit },
         Command::Steps { file, .. } => Origin::Named { name: file, limit },
         Command::Show { file } => Origin::Named { name: file, limit },
-        Command::Check { file, .. } => Origin::Named { name: file, limit },
+        Command::Search { file, .. } => Origin::Named { name: file, limit },
         Command::Generate { number, .. } => Origin::Generated { number },
     }
 }
@@ -65,8 +66,25 @@ pub fn second_origin(command: Command<'_>) -> Origin<'_>
             text: configuration,
         },
         Command::Show { .. } => Origin::Given { text: "" },
-        Command::Check { .. } => Origin::Given { text: "" },
+        Command::Search { .. } => Origin::Given { text: "" },
         Command::Generate { .. } => Origin::Given { text: "" },
+    }
+}
+
+// The reply to a query of the system.
+fn query_reply<G: Gate, R: Threads + Sync>(
+    alloc: Global,
+    runtime: &R,
+    gate: &G,
+    system: &System,
+    query: Query,
+    limits: Limits,
+) -> Result<Reply, AllocError>
+    requires { IsLimits limits }
+    ensures { IfOk result (QueryReply query limits.budget system.now) }
+{
+    match query {
+        Query::Check(settings) => check_reply(alloc, runtime, gate, system, &settings, limits),
     }
 }
 
@@ -88,7 +106,9 @@ pub fn command_reply<G: Gate, R: Threads + Sync>(
         Command::Verify { .. } => verify_reply(alloc, system, text),
         Command::Steps { .. } => steps_reply(alloc, system, text),
         Command::Show { .. } => show_reply(alloc, protocol),
-        Command::Check { settings, .. } => check_reply(alloc, runtime, gate, system, &settings),
+        Command::Search { query, limits, .. } => {
+            query_reply(alloc, runtime, gate, system, query, limits)
+        }
         Command::Generate { number, workers } => {
             generate_reply(alloc, runtime, gate, system, number, workers)
         }

@@ -2,17 +2,15 @@
 //! Their functions do nothing, and no call of the program needs them.
 
 ghost use Rattle.armc_commands.specs.OneReply.{OutcomeIsDetermined};
-ghost use Rattle.armc_commands.specs.ReplyHistories.{ChecksTellHistories, GeneratesTellHistories};
-ghost use Rattle.armc_commands.specs.ReplyLaws.{WorkersKeepCheck, WorkersKeepGenerate, LargerBudgetKeepsReply, BadRunRulesOutSafe};
+ghost use Rattle.armc_commands.specs.ReplyLaws.{WorkersKeepQuery, WorkersKeepGenerate, LargerBudgetKeepsPart, LargerBudgetKeepsReply};
+ghost use Rattle.armc_commands.specs.ReplyLaws.{BadRunRulesOutSafe, RepliesKeepPromises};
 
+use crate::commands::{keep_promises, keeps_check_promise};
 use certificate::one_reading as one_certificate;
 use certificate_checker::one_answer as one_judgement;
 use configuration_words::one_reading as one_configuration;
 use protocol_model::texts_say_allowed_protocols;
-use protocol_search::{
-    answers_have_histories, keys_bound_rounds, larger_budget_keeps_answer,
-    no_language_is_refuted_twice, one_check, one_verdict, runs_bound_histories,
-};
+use protocol_search::{larger_budget_keeps_verdict, one_verdict};
 use protocol_steps::one_answer as one_list;
 use protocol_syntax::one_reading as one_protocol;
 
@@ -27,42 +25,41 @@ pub fn one_reply()
     one_list();
     one_certificate();
     one_judgement();
-    one_check();
     one_verdict();
 }
 
-/// The law of workers: the reply to `check` and that to `gen` are the same for every number of workers. The function does nothing.
+/// The law of workers: the reply to a search of a file and that to `gen` are the same for every number of workers. The function does
+/// nothing.
 pub fn workers_keep_reply()
-    ensures check { WorkersKeepCheck }
+    ensures query { WorkersKeepQuery }
     ensures generate { WorkersKeepGenerate }
 {
-    one_check();
     one_verdict();
 }
 
-/// The law of budgets: a reply to `check` that decides the protocol has the same status and the same certificate for every larger budget.
-/// The function does nothing.
+/// The law of budgets: an answer to a part of a reply that decides it has the same status and the same text for every larger budget, and
+/// so has a reply to `check`. The function does nothing.
 pub fn larger_budget_keeps_reply()
-    ensures { LargerBudgetKeepsReply }
+    ensures part { LargerBudgetKeepsPart }
+    ensures check { LargerBudgetKeepsReply }
 {
-    larger_budget_keeps_answer();
+    larger_budget_keeps_verdict();
 }
 
 /// The law of bad runs: where the protocol has one, `check` does not answer that it is safe, whatever the settings are. The function does
 /// nothing.
 pub fn bad_run_rules_out_safe()
     ensures { BadRunRulesOutSafe }
-{}
-
-/// The law of histories: the reply that the words of a `check` or a `gen` and the told texts decide tells the first fault of the protocol,
-/// or comes from a history for it. By predicates no two of its rounds refute one language, its merged automata grow within a round and are
-/// at most as many as the key bounds, and a bad run bounds the indices of its rounds. The function does nothing.
-pub fn replies_have_histories()
-    ensures check { ChecksTellHistories }
-    ensures generate { GeneratesTellHistories }
 {
-    answers_have_histories();
-    no_language_is_refuted_twice();
-    keys_bound_rounds();
-    runs_bound_histories();
+    keeps_check_promise();
+}
+
+/// The law of promises: the reply that the words of a command and the told texts decide tells the first fault of the protocol, or keeps
+/// what the command promises. A search promises that its verdict comes from a history: by predicates no two of its rounds refute one
+/// language, its merged automata grow within a round and are at most as many as the key bounds, and a bad run bounds the indices of its
+/// rounds. The function does nothing.
+pub fn replies_keep_promises()
+    ensures { RepliesKeepPromises }
+{
+    keep_promises();
 }

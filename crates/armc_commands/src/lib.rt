@@ -13,11 +13,13 @@ mod outcome;
 mod reading;
 mod refusal;
 mod reply;
+mod search_reply;
 mod status;
+mod summary;
 
 pub use call::run;
 pub use law::{
-    bad_run_rules_out_safe, larger_budget_keeps_reply, one_reply, replies_have_histories,
+    bad_run_rules_out_safe, larger_budget_keeps_reply, one_reply, replies_keep_promises,
     workers_keep_reply,
 };
 pub use status::Status;

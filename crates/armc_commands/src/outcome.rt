@@ -14,6 +14,7 @@ use crate::failure::Failure;
 use crate::origin::text_from;
 use crate::reading::{Reading, read_protocol};
 use crate::reply::{Reply, refusal_reply, usage};
+use crate::status::Status;
 use armc_io::{Gate, Library};
 use command_words::{Command, command_of};
 use protocol_model::System;
@@ -76,7 +77,12 @@ fn reply_to_command<L: Library, G: Gate, R: Threads + Sync>(
         Err(failure) => return Err(failure),
     };
     match read_protocol(alloc, text.as_slice())? {
-        Reading::Refused(refusal) => Ok(refusal_reply(alloc, &refusal)?),
+        Reading::Refused(refusal) => Ok(refusal_reply(
+            alloc,
+            "protocol",
+            Status::ProtocolRefused,
+            &refusal,
+        )?),
         Reading::Protocol(protocol, system) => {
             carry_out(alloc, runtime, gate, command, &protocol, &system, library)
         }

@@ -1,10 +1,12 @@
-//! How the first fault of a protocol or of a configuration is told: in one line with its place, what is wrong, and the name or the limit
-//! that it is about. A line is made by one format, in time linear in its length.
+//! How the first fault of a protocol, a configuration or a certificate is told: in one line with its place, what is wrong, and the name or
+//! the limit that it is about. A line is made by one format, in time linear in its length.
 
 ghost use Rattle.std.specs.Prelude.{◌≡◌, ◌≢◌, ◌++◌, IfOk, OnOk};
-ghost use Rattle.armc_commands.specs.Refusal.{located, in_protocol, refusal_text, configuration_refusal_text, syntax_text, model_text, what_word};
+ghost use Rattle.armc_commands.specs.Refusal.{located, refusal_text, syntax_text, model_text, what_word};
+ghost use Rattle.armc_commands.specs.Refusal.{configuration_refusal_text, in_certificate, certificate_refusal_text};
 ghost use Rattle.armc_commands.specs.Line.{line};
 
+use certificate::CertFault;
 use configuration_words::ConfigFault;
 use protocol_lexer::Place;
 use protocol_model::ModelFault;
@@ -52,53 +54,47 @@ fn line_at(
     Ok(made.into_bytes())
 }
 
-// The line of a fault at this name.
-fn line_at_name(alloc: Global, words: &str, name: &Name) -> Result<Vec<u8>, AllocError>
-    ensures { IfOk result (λ made. made.items ≡ line (in_protocol name.now.place (words.now ++ name.now.text))) }
+// The line of a fault at this name of a text of this kind.
+fn line_at_name(alloc: Global, kind: &str, words: &str, name: &Name) -> Result<Vec<u8>, AllocError>
+    ensures { IfOk result (λ made. made.items ≡ line (located kind.now name.now.place (words.now ++ name.now.text))) }
 {
-    line_at(alloc, "protocol", name.place, words, name.text.as_str())
+    line_at(alloc, kind, name.place, words, name.text.as_str())
 }
 
 // The line of a fault of the grammar.
-fn syntax_line(alloc: Global, fault: &SyntaxFault) -> Result<Vec<u8>, AllocError>
-    ensures { IfOk result (λ made. made.items ≡ line (syntax_text fault.now)) }
+fn syntax_line(alloc: Global, kind: &str, fault: &SyntaxFault) -> Result<Vec<u8>, AllocError>
+    ensures { IfOk result (λ made. made.items ≡ line (syntax_text kind.now fault.now)) }
 {
     match fault {
-        SyntaxFault::BadByte { place } => line_at(alloc, "protocol", *place, "bad byte", ""),
-        SyntaxFault::Unexpected { place } => line_at(
-            alloc,
-            "protocol",
-            *place,
-            "unexpected token",
-            "",
-        ),
+        SyntaxFault::BadByte { place } => line_at(alloc, kind, *place, "bad byte", ""),
+        SyntaxFault::Unexpected { place } => line_at(alloc, kind, *place, "unexpected token", ""),
         SyntaxFault::TooMany { what, place } => {
-            line_at(alloc, "protocol", *place, "too many ", what_word(*what))
+            line_at(alloc, kind, *place, "too many ", what_word(*what))
         }
         SyntaxFault::Memory => Err(AllocError),
     }
 }
 
 // The line of a fault of the names.
-fn model_line(alloc: Global, fault: &ModelFault) -> Result<Vec<u8>, AllocError>
-    ensures { IfOk result (λ made. made.items ≡ line (model_text fault.now)) }
+fn model_line(alloc: Global, kind: &str, fault: &ModelFault) -> Result<Vec<u8>, AllocError>
+    ensures { IfOk result (λ made. made.items ≡ line (model_text kind.now fault.now)) }
 {
     match fault {
-        ModelFault::Duplicate { name } => line_at_name(alloc, "duplicate ", name),
-        ModelFault::Unknown { name } => line_at_name(alloc, "unknown ", name),
-        ModelFault::TouchedTwice { name } => line_at_name(alloc, "touched twice ", name),
-        ModelFault::WrongKind { name } => line_at_name(alloc, "wrong kind ", name),
+        ModelFault::Duplicate { name } => line_at_name(alloc, kind, "duplicate ", name),
+        ModelFault::Unknown { name } => line_at_name(alloc, kind, "unknown ", name),
+        ModelFault::TouchedTwice { name } => line_at_name(alloc, kind, "touched twice ", name),
+        ModelFault::WrongKind { name } => line_at_name(alloc, kind, "wrong kind ", name),
         ModelFault::Memory => Err(AllocError),
     }
 }
 
-/// The line that tells the first fault of a protocol. The only error is that memory ran out.
-pub fn refusal_line(alloc: Global, refusal: &Refusal) -> Result<Vec<u8>, AllocError>
-    ensures { IfOk result (λ made. made.items ≡ line (refusal_text refusal.now)) }
+/// The line that tells the first fault of a text of this kind. The only error is that memory ran out.
+pub fn refusal_line(alloc: Global, kind: &str, refusal: &Refusal) -> Result<Vec<u8>, AllocError>
+    ensures { IfOk result (λ made. made.items ≡ line (refusal_text kind.now refusal.now)) }
 {
     match refusal {
-        Refusal::Syntax(fault) => syntax_line(alloc, fault),
-        Refusal::Model(fault) => model_line(alloc, fault),
+        Refusal::Syntax(fault) => syntax_line(alloc, kind, fault),
+        Refusal::Model(fault) => model_line(alloc, kind, fault),
     }
 }
 
@@ -115,5 +111,32 @@ pub fn configuration_refusal_line(alloc: Global, fault: &ConfigFault) -> Result<
             line_at(alloc, "configuration", *place, "unexpected token", "")
         }
         ConfigFault::Memory => Err(AllocError),
+    }
+}
+
+// The line of a fault of a certificate at the line of this number.
+fn fault_at(alloc: Global, number: u64, words: &str) -> Result<Vec<u8>, AllocError>
+    ensures { IfOk result (λ made. made.items ≡ line (in_certificate number words.now)) }
+{
+    let made = format!(in alloc; "armc: certificate: line {number}: {words}\n")?;
+    Ok(made.into_bytes())
+}
+
+/// The line that tells the first fault of a certificate. The only error is that memory ran out.
+pub fn certificate_refusal_line(alloc: Global, fault: &CertFault) -> Result<Vec<u8>, AllocError>
+    ensures fault { OnOk result (fault.now ≢ CertFault.Memory) }
+    ensures line { IfOk result (λ made. made.items ≡ line (certificate_refusal_text fault.now)) }
+{
+    match fault {
+        CertFault::Version { line } => fault_at(alloc, *line, "version"),
+        CertFault::BadLine { line } => fault_at(alloc, *line, "bad line"),
+        CertFault::UnknownName { line } => fault_at(alloc, *line, "unknown name"),
+        CertFault::OutOfRange { line } => fault_at(alloc, *line, "out of range"),
+        CertFault::TwoEdges { line } => fault_at(alloc, *line, "two edges"),
+        CertFault::Truncated { line } => fault_at(alloc, *line, "truncated"),
+        CertFault::NothingToVerify { line } => fault_at(alloc, *line, "nothing to verify"),
+        CertFault::TooMany { line } => fault_at(alloc, *line, "too many states"),
+        CertFault::TwoLetters { line } => fault_at(alloc, *line, "two letters"),
+        CertFault::Memory => Err(AllocError),
     }
 }

@@ -1,13 +1,16 @@
 //! Replies, which are a status and two texts, and those that do not depend on the command.
 //! A text is moved into its reply; the lines that are made here are copied, in time linear in their length.
 
-ghost use Rattle.std.specs.Prelude.{◌≡◌, IfOk};
+ghost use Rattle.std.specs.Prelude.{◌≡◌, ◌≢◌, IfOk, OnOk};
+ghost use Rattle.armc_commands.specs.Line.{line};
+ghost use Rattle.armc_commands.specs.Refusal.{certificate_refusal_text};
 ghost use Rattle.armc_commands.specs.Reply.{on_out as on_out_of, on_err as on_err_of, usage as usage_reply, refusal_reply as refusal_reply_of, failure_reply as failure_reply_of};
 
 use crate::failure::Failure;
 use crate::line::line_of;
-use crate::refusal::{Refusal, refusal_line};
+use crate::refusal::{Refusal, certificate_refusal_line, refusal_line};
 use crate::status::Status;
+use certificate::CertFault;
 use sequence::Sequence;
 use std::alloc::{AllocError, Global};
 
@@ -57,12 +60,26 @@ pub fn usage(alloc: Global) -> Result<Reply, AllocError>
     Ok(on_err(alloc, Status::Usage, text))
 }
 
-/// The reply to a protocol with this first fault. The only error is that memory ran out.
-pub fn refusal_reply(alloc: Global, refusal: &Refusal) -> Result<Reply, AllocError>
-    ensures { IfOk result (λ reply. reply ≡ refusal_reply_of refusal.now) }
+/// The reply with this status to a text of this kind with this first fault. The only error is that memory ran out.
+pub fn refusal_reply(
+    alloc: Global,
+    kind: &str,
+    status: Status,
+    refusal: &Refusal,
+) -> Result<Reply, AllocError>
+    ensures { IfOk result (λ reply. reply ≡ refusal_reply_of kind.now status refusal.now) }
 {
-    let text = refusal_line(alloc, refusal)?;
-    Ok(on_err(alloc, Status::ProtocolRefused, text))
+    let text = refusal_line(alloc, kind, refusal)?;
+    Ok(on_err(alloc, status, text))
+}
+
+/// The reply to a certificate with this first fault. The only error is that memory ran out.
+pub fn certificate_refusal(alloc: Global, fault: &CertFault) -> Result<Reply, AllocError>
+    ensures reply { IfOk result (λ reply. reply ≡ on_err_of Status.CertificateRefused (line (certificate_refusal_text fault.now))) }
+    ensures fault { OnOk result (fault.now ≢ CertFault.Memory) }
+{
+    let text = certificate_refusal_line(alloc, fault)?;
+    Ok(on_err(alloc, Status::CertificateRefused, text))
 }
 
 /// What is replied where a call failed. The only error is that memory ran out.

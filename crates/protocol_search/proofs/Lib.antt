@@ -1,7 +1,7 @@
 pub mod StepLemmas
+pub mod RunsTo
 pub mod ProofLemmas
-pub mod Shown
-pub mod OneAnswer
+pub mod ByAnalysis
+pub mod OneRun
+pub mod Rounds
 pub mod Budgets
-pub mod RunBounds
-pub mod SystemRounds

@@ -1,6 +1,7 @@
 pub mod Runs
 pub mod Methods
-pub mod Checks
-pub mod OneCheck
+pub mod Analyses
+pub mod Verdicts
+pub mod OneVerdict
 pub mod SearchLaws
 pub mod SystemHistories

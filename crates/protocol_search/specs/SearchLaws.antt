@@ -1,34 +1,49 @@
--- Laws of the search for systems, by budgets and by bad runs.
-use Rattle.std.specs.Prelude.{◌≡◌, ◌≢◌, ◌≤◌, ◌+◌, ℕ, length}
-use Rattle.std.specs.List.{AllByRecursion}
-use Rattle.protocol_model.specs.declared.system.Run.{Run}
+-- Laws of verdicts: what they show, and larger budgets.
+use Rattle.std.specs.Prelude.{◌≡◌, ◌≢◌, ◌≤◌, ℕ, List}
 use Rattle.protocol_model.specs.System.{SystemData}
-use Rattle.protocol_model.specs.Runs.{IsBadRun}
-use Rattle.search_history.specs.declared.log.RoundLog.{RoundLog}
-use Rattle.protocol_search.specs.Checks.{IsCheck}
-use Rattle.protocol_search.specs.declared.first.FirstAbstraction.{FirstAbstraction}
-use Rattle.protocol_search.specs.declared.checked.CheckEnd.TheVariants.{Safe, Unknown}
-use Rattle.protocol_search.specs.declared.checked.Checked.{Checked}
+use Rattle.search_history.specs.declared.log.Log.{Log}
+use Rattle.search_history.specs.declared.log.LogEnd.TheVariants.{Spent}
+use Rattle.refinement.specs.Verdicts.{IsSound}
+use Rattle.refinement.specs.declared.verdict.Verdict.{Verdict}
+use Rattle.refinement.specs.declared.verdict.Verdict.TheVariants.{Safe, Unsafe, Unknown}
+use Rattle.protocol_search.specs.Analyses.{task_for, VerdictShows, IsVerdictText, TextShows}
+use Rattle.protocol_search.specs.Verdicts.{IsVerdictOf, end_of}
+use Rattle.protocol_search.specs.declared.search.Search.{Search}
 
--- the same answer, with another budget in its log: the same end, text, rounds and number of counted states
-abbrev pub with_logged_budget : ℕ → Checked → Checked
-with_logged_budget budget checked = record {
-  end = checked.end;
-  text = checked.text;
-  log = record { budget = budget; counted = checked.log.counted; rounds = checked.log.rounds };
-}
+-- each verdict is sound for its problem: an automaton that it carries is an invariant with fewer states than the budget of its search
+abbrev pub VerdictsAreSound : Type 0
+VerdictsAreSound = (s : SystemData) (search : Search) (v : Verdict) → IsVerdictOf s search v → IsSound (task_for search.analysis s) search.budget v
 
--- an answer that decides the system within a budget is the answer for every larger budget, which alone differs in its log
-abbrev pub LargerBudgetKeepsAnswer : Type 0
-LargerBudgetKeepsAnswer = (s : SystemData) (first : FirstAbstraction) (budget larger : ℕ) (one other : Checked) → budget ≤ larger
-    → IsCheck s first budget one → one.end ≢ Unknown → IsCheck s first larger other → other ≡ with_logged_budget larger one
+-- each verdict shows of the system what it says
+abbrev pub VerdictsShow : Type 0
+VerdictsShow = (s : SystemData) (search : Search) (v : Verdict) → IsVerdictOf s search v → VerdictShows search.analysis s v
 
--- the round has no index above n: the automata before merging have the indices from 0 on, and the level is that of the last counted one
-pub record HasIndicesUpTo (n : ℕ) (round : RoundLog) : Type 0 where
-  pub listed : length round.n ≤ n + 1
-  pub level : round.level ≤ n
+-- and so does each text of it
+abbrev pub TextsShow : Type 0
+TextsShow = (s : SystemData) (search : Search) (v : Verdict) (text : List ℕ)
+    → IsVerdictOf s search v → IsVerdictText search.analysis s v text → TextShows search.analysis s v text
 
--- where the system has a bad run of n steps, no answer is safe, and no round of an answer has an index above n
-abbrev pub BadRunsBoundRounds : Type 0
-BadRunsBoundRounds = (s : SystemData) (run : Run) → IsBadRun s run → (first : FirstAbstraction) (budget : ℕ) (checked : Checked)
-    → IsCheck s first budget checked → (checked.end ≢ Safe) × AllByRecursion (HasIndicesUpTo (length run.steps)) checked.log.rounds
+-- the search with another budget
+abbrev pub with_budget : ℕ → Search → Search
+with_budget budget search = record search { budget = budget }
+
+-- the same log, with another budget in it
+abbrev pub logged_within : ℕ → Log → Log
+logged_within budget log = record { budget = budget; counted = log.counted; rounds = log.rounds }
+
+-- the same verdict, with another budget in its log
+abbrev pub with_logged_budget : ℕ → Verdict → Verdict
+with_logged_budget budget (Safe proof log) = Safe proof (logged_within budget log)
+with_logged_budget budget (Unsafe words log) = Unsafe words (logged_within budget log)
+with_logged_budget budget (Unknown log) = Unknown (logged_within budget log)
+
+-- a verdict that decides the system is the verdict for every larger budget, which alone differs in its log
+abbrev pub LargerBudgetKeepsVerdict : Type 0
+LargerBudgetKeepsVerdict = (s : SystemData) (search : Search) (larger : ℕ) (v w : Verdict) → search.budget ≤ larger
+    → IsVerdictOf s search v → end_of v ≢ Spent → IsVerdictOf s (with_budget larger search) w → w ≡ with_logged_budget larger v
+
+-- and the two have one text
+abbrev pub LargerBudgetKeepsText : Type 0
+LargerBudgetKeepsText = (s : SystemData) (search : Search) (larger : ℕ) (v w : Verdict) (one other : List ℕ) → search.budget ≤ larger
+    → IsVerdictOf s search v → end_of v ≢ Spent → IsVerdictOf s (with_budget larger search) w
+    → IsVerdictText search.analysis s v one → IsVerdictText search.analysis s w other → other ≡ one

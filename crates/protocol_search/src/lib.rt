@@ -1,18 +1,19 @@
-//! The search for a system: its verdict, with the text of its certificate and its log. The rules are compiled, the search runs over their
+//! The search for a system: its verdict, with its log, and the text that tells it. The rules are compiled, the search runs over their
 //! images, and what it finds is written: a proof, a run by least rules, or the counted states.
 #![tactic(auto)]
 
-mod check;
-mod checked;
 mod first;
 mod law;
 mod runs;
+mod search;
+mod searching;
+mod telling;
 
-pub use check::{check_system, search_system};
-pub use checked::{CheckEnd, Checked};
 pub use first::FirstAbstraction;
 pub use law::{
-    answers_have_histories, bad_runs_bound_rounds, keys_bound_rounds, larger_budget_keeps_answer,
-    no_language_is_refuted_twice, one_check, one_history, one_verdict, runs_bound_histories,
-    verdicts_show,
+    keys_bound_rounds, larger_budget_keeps_verdict, no_language_is_refuted_twice, one_history,
+    one_verdict, runs_bound_rounds, verdicts_have_histories, verdicts_show,
 };
+pub use search::{Analysis, Search};
+pub use searching::search_system;
+pub use telling::verdict_text;

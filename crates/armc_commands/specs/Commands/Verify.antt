@@ -1,12 +1,9 @@
 -- The reply of `verify`, and what it promises.
-use Rattle.std.specs.Prelude.{◌≡◌, ◌⊎◌, ℕ, List, [], ◌++◌, IsTrue, codes, decimal}
+use Rattle.std.specs.Prelude.{◌≡◌, ◌⊎◌, ℕ, List, ◌++◌, IsTrue, codes, decimal}
 use Rattle.protocol_model.specs.System.{SystemData}
 use Rattle.protocol_model.specs.Patterns.{fits}
 use Rattle.protocol_model.specs.Runs.{IsBadRun}
 use Rattle.configuration_words.specs.Texts.{configuration_text}
-use Rattle.certificate.specs.declared.fault.CertFault.{CertFault}
-use Rattle.certificate.specs.declared.fault.CertFault.TheVariants as fault
-use Rattle.certificate.specs.Faults.{HasFault}
 use Rattle.certificate.specs.Meaning.{IsCertificateOf}
 use Rattle.certificate.specs.declared.safe.Certificate.{Certificate}
 use Rattle.certificate.specs.declared.safe.Certificate.TheVariants as certificate
@@ -18,7 +15,7 @@ use Rattle.armc_commands.specs.declared.status.Status.{Status}
 use Rattle.armc_commands.specs.declared.status.Status.TheVariants as status
 use Rattle.armc_commands.specs.declared.reply.Reply.{Reply}
 use Rattle.armc_commands.specs.Line.{line, rule_name}
-use Rattle.armc_commands.specs.Reply.{on_out, on_err}
+use Rattle.armc_commands.specs.Reply.{on_out, RefusesCertificate}
 
 -- the certificate shows the system safe by an automaton that proves it, or not safe by a bad run
 abbrev pub IsProofOf : SystemData → Certificate → Type 0
@@ -45,22 +42,6 @@ ShowsFitting s NotInitial = Unit {0}
 ShowsFitting s (NotStep k) = Unit {0}
 ShowsFitting s NotBad = Unit {0}
 
--- a fault of a certificate at the line of this number
-abbrev pub in_certificate : ℕ → List ℕ → List ℕ
-in_certificate n text = codes "armc: certificate: line " ++ decimal n ++ codes ": " ++ text
-
--- how the fault of a certificate is told; running out of memory is no fault of a text
-abbrev pub fault_text : CertFault → List ℕ
-fault_text (fault.Version n) = in_certificate n (codes "version")
-fault_text (fault.BadLine n) = in_certificate n (codes "bad line")
-fault_text (fault.UnknownName n) = in_certificate n (codes "unknown name")
-fault_text (fault.OutOfRange n) = in_certificate n (codes "out of range")
-fault_text (fault.TwoEdges n) = in_certificate n (codes "two edges")
-fault_text (fault.Truncated n) = in_certificate n (codes "truncated")
-fault_text (fault.NothingToVerify n) = in_certificate n (codes "nothing to verify")
-fault_text (fault.TooMany n) = in_certificate n (codes "too many states")
-fault_text fault.Memory = []
-
 -- the status of an answer
 abbrev pub answer_status : Answer → Status
 answer_status Valid = status.Done
@@ -73,12 +54,6 @@ pub record Judges (s : SystemData) (text : List ℕ) (reply : Reply) : Type 0 wh
   pub means : IsCertificateOf s text certificate
   pub is_answer : IsAnswer s certificate answer
   pub reply_is : reply ≡ on_out (answer_status answer) (line (answer_text s answer))
-
--- the first fault of the certificate's text is told
-pub record RefusesCertificate (s : SystemData) (text : List ℕ) (reply : Reply) : Type 0 where
-  pub fault : CertFault
-  pub is_first : HasFault s text fault
-  pub reply_is : reply ≡ on_err status.CertificateRefused (line (fault_text fault))
 
 -- the reply for a system and the text of a certificate
 abbrev pub IsVerifyReply : SystemData → List ℕ → Reply → Type 0

@@ -7,13 +7,13 @@ ghost use Rattle.configuration_words.specs.Texts.{configuration_text as text_of}
 ghost use Rattle.protocol_model.specs.System.{SystemData};
 ghost use Rattle.armc_commands.specs.declared.reply.Reply.{Reply as ReplyData};
 ghost use Rattle.armc_commands.specs.Line.{line};
-ghost use Rattle.armc_commands.specs.Reply.{on_out as on_out_of, on_err as on_err_of};
-ghost use Rattle.armc_commands.specs.Commands.Verify.{ShowsFitting, IsVerifyReply, VerifyPromise, answer_text, answer_status as answer_status_of, in_certificate, fault_text};
+ghost use Rattle.armc_commands.specs.Reply.{on_out as on_out_of};
+ghost use Rattle.armc_commands.specs.Commands.Verify.{ShowsFitting, IsVerifyReply, VerifyPromise, answer_text, answer_status as answer_status_of};
 
 use crate::line::{line_of, rule_name};
-use crate::reply::{Reply, on_err, on_out};
+use crate::reply::{Reply, certificate_refusal, on_out};
 use crate::status::Status;
-use certificate::{CertFault, read};
+use certificate::read;
 use certificate_checker::{Answer, check_certificate, proofs_are_sound};
 use configuration_words::configuration_text;
 use protocol_model::{Configuration, System};
@@ -94,41 +94,6 @@ fn answer_line(alloc: Global, system: &System, answer: &Answer) -> Result<Vec<u8
     }
 }
 
-// The line of a fault of a certificate at the line of this number.
-fn fault_at(alloc: Global, number: u64, words: &str) -> Result<Vec<u8>, AllocError>
-    ensures { IfOk result (λ made. made.items ≡ line (in_certificate number words.now)) }
-{
-    let made = format!(in alloc; "armc: certificate: line {number}: {words}\n")?;
-    Ok(made.into_bytes())
-}
-
-// The line that tells the first fault of a certificate.
-fn fault_line(alloc: Global, fault: &CertFault) -> Result<Vec<u8>, AllocError>
-    ensures fault { OnOk result (fault.now ≢ CertFault.Memory) }
-    ensures line { IfOk result (λ made. made.items ≡ line (fault_text fault.now)) }
-{
-    match fault {
-        CertFault::Version { line } => fault_at(alloc, *line, "version"),
-        CertFault::BadLine { line } => fault_at(alloc, *line, "bad line"),
-        CertFault::UnknownName { line } => fault_at(alloc, *line, "unknown name"),
-        CertFault::OutOfRange { line } => fault_at(alloc, *line, "out of range"),
-        CertFault::TwoEdges { line } => fault_at(alloc, *line, "two edges"),
-        CertFault::Truncated { line } => fault_at(alloc, *line, "truncated"),
-        CertFault::NothingToVerify { line } => fault_at(alloc, *line, "nothing to verify"),
-        CertFault::TooMany { line } => fault_at(alloc, *line, "too many states"),
-        CertFault::Memory => Err(AllocError),
-    }
-}
-
-// The reply to a certificate with this first fault.
-fn refused(alloc: Global, fault: &CertFault) -> Result<Reply, AllocError>
-    ensures reply { IfOk result (λ reply. reply ≡ on_err_of Status.CertificateRefused (line (fault_text fault.now))) }
-    ensures fault { OnOk result (fault.now ≢ CertFault.Memory) }
-{
-    let text = fault_line(alloc, fault)?;
-    Ok(on_err(alloc, Status::CertificateRefused, text))
-}
-
 // The status of an answer.
 fn answer_status(answer: &Answer) -> Status
     ensures { result ≡ answer_status_of answer.now }
@@ -146,7 +111,7 @@ pub fn verify_reply(alloc: Global, system: &System, text: &[u8]) -> Result<Reply
 {
     let certificate = match read(alloc, text, system) {
         Ok(certificate) => certificate,
-        Err(fault) => return refused(alloc, &fault),
+        Err(fault) => return certificate_refusal(alloc, &fault),
     };
     let answer = check_certificate(alloc, system, &certificate)?;
     let line = answer_line(alloc, system, &answer)?;

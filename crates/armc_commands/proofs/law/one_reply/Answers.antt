@@ -1,5 +1,6 @@
-use Rattle.armc_commands.proofs.CommandsOnce.{command_once, steps_once, verify_once, check_once, generate_once}
+use Rattle.armc_commands.proofs.CommandsOnce.{command_once, steps_once, verify_once}
 use Rattle.armc_commands.proofs.OneReplyLemmas.{outcome_once}
+use Rattle.armc_commands.proofs.SearchLemmas.{search-once}
 use Rattle.armc_commands.proofs.law.one_reply.Goals as goal
 
 pub returns : goal.returns
@@ -8,5 +9,5 @@ returns c = λ words told one other tells.
     (command_once c.texts_say_allowed_protocols.ensures.allowed c.texts_say_allowed_protocols.ensures.valid
     (verify_once c.one_reading-3.ensures.meaning c.one_reading-3.ensures.fault c.one_reading-3.ensures.either c.one_answer-2.ensures)
     (steps_once c.one_reading-2.ensures.configuration c.one_reading-2.ensures.fault c.one_reading-2.ensures.either c.one_answer.ensures.successors)
-    (check_once c.one_check.ensures) (generate_once c.one_verdict.ensures))
+    (search-once c.one_verdict.ensures.verdict c.one_verdict.ensures.text))
     words told tells one other

@@ -1,4 +1,4 @@
-use Rattle.protocol_search.proofs.SystemRounds.{refutes-once}
+use Rattle.protocol_search.proofs.Rounds.{refutes-once}
 use Rattle.protocol_search.proofs.law.no_language_is_refuted_twice.Goals as goal
 
 pub returns : goal.returns

@@ -1,4 +1,4 @@
-use Rattle.protocol_search.proofs.SystemRounds.{history-once}
+use Rattle.protocol_search.proofs.Rounds.{history-once}
 use Rattle.protocol_search.proofs.law.one_history.Goals as goal
 
 pub returns : goal.returns

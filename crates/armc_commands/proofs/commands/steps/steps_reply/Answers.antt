@@ -1,7 +1,10 @@
-use Rattle.std.proofs.Common.{ℕ, List, refl, sym, subst, IsTrue}
+use Rattle.std.proofs.Common.{ℕ, List, inl, refl, sym, subst, ap, ◌∙◌, IsTrue}
 use Rattle.std.specs.List.{AllByRecursion}
 use Rattle.protocol_model.specs.declared.system.Configuration.{Configuration}
 use Rattle.protocol_model.specs.Patterns.{fits}
+use Rattle.armc_commands.specs.declared.status.Status.TheVariants.{Done}
+use Rattle.armc_commands.specs.Reply.{on_out}
+use Rattle.armc_commands.specs.Commands.Steps.{successors_text}
 use Rattle.armc_commands.proofs.Replies.{steps_refused}
 use Rattle.armc_commands.proofs.Successors.{all_fit}
 use Rattle.armc_commands.proofs.commands.steps.steps_reply.Goals as goal
@@ -15,3 +18,14 @@ pub successors_text-requires : goal.successors_text-requires
 successors_text-requires c =
     let P : List (ℕ × Configuration) → Type 0 = AllByRecursion (λ pair. IsTrue (fits c.args.system.now pair.1)) in
     subst P (sym c.as_slice.ensures.value) (all_fit _ _ _ c.in_ok-pairs.ensures)
+
+pub returns : goal.returns
+returns c =
+    let s = c.args.system.now in
+    inl (record {
+      configuration = c.in-Ok.configuration;
+      pairs = c.in_ok-pairs.pairs.items;
+      means = (c.in-Ok.ensures.configuration c.in-Ok.configuration).1 refl;
+      are_successors = c.in_ok-pairs.ensures;
+      reply_is = c.on_out.ensures ∙ ap (λ (text : List ℕ). on_out Done text) (c.in_ok-lines.ensures ∙ ap (successors_text s) c.as_slice.ensures.value);
+    })

@@ -4,7 +4,7 @@ use Rattle.armc_commands.proofs.commands.verify.verify_reply.Goals as goal
 
 pub returns-in-Err : goal.returns-in-Err
 returns-in-Err c =
-    verify_refused c.args.system.now c.args.text.now c.in-Err.fault c.refused.result c.refused.ensures.reply c.refused.ensures.fault
+    verify_refused c.args.system.now c.args.text.now c.in-Err.fault c.certificate_refusal.result c.certificate_refusal.ensures.reply c.certificate_refusal.ensures.fault
     (λ other. c.in-Err.ensures.fault other)
 
 pub check_certificate-requires : goal.check_certificate-requires

@@ -1,0 +1,53 @@
+-- A reply to a command tells the first fault of its protocol, or keeps what the command promises.
+use Rattle.std.proofs.Common.{◌≡◌, ◌⊎◌, ◌∙◌, ℕ, List, None, Some, sym, subst, inl, inr}
+use Rattle.protocol_syntax.specs.declared.protocol.Protocol.{Protocol}
+use Rattle.protocol_model.specs.System.{SystemData}
+use Rattle.protocol_model.specs.Numbering.{system_of}
+use Rattle.command_words.specs.Words.{Command, verify, steps, show, searching, generate, command_of}
+use Rattle.command_words.specs.declared.Query.{Query}
+use Rattle.command_words.specs.declared.Query.TheVariants.{Check as ByCheck}
+use Rattle.command_words.specs.declared.Settings.{Settings}
+use Rattle.armc_commands.specs.declared.reply.Reply.{Reply}
+use Rattle.armc_commands.specs.Origin.{Told}
+use Rattle.armc_commands.specs.Commands.{CommandReply, QueryReply, QueryPromise, Promise}
+use Rattle.armc_commands.specs.Commands.Check.{IsCheckReply, CheckPromise}
+use Rattle.armc_commands.specs.Commands.Generate.{IsGenerateReply, GeneratePromise}
+use Rattle.armc_commands.specs.Commands.Verify.{IsVerifyReply, VerifyPromise}
+use Rattle.armc_commands.specs.Outcome.{RefusesProtocol, RepliesToCommand, IsReply}
+use Rattle.armc_commands.specs.ReplyLaws.{KeepsItsPromise, RepliesKeepPromises}
+
+pub promised : ((command : Command) (p : Protocol) (text : List ℕ) (reply : Reply) → CommandReply command p text reply → Promise command p text reply)
+    → RepliesKeepPromises
+promised keep words told command reply asked is = elim is [
+  | inl none ↦ absurd (let h : None ≡ Some command = sym none.0 ∙ asked in cc h)
+  | inr to_command ↦ subst (λ (x : Command). RefusesProtocol told x reply ⊎ KeepsItsPromise told x reply) (same to_command) (carried to_command)
+]
+  where
+    same : (h : RepliesToCommand words told reply) → h.command ≡ command
+    same h = let e : Some h.command ≡ Some command = sym h.asked ∙ asked in cc e
+
+    carried : (h : RepliesToCommand words told reply) → RefusesProtocol told h.command reply ⊎ KeepsItsPromise told h.command reply
+    carried h = elim h.replies [
+      | inl refuses ↦ inl refuses
+      | inr out ↦ inr (record {
+        protocol = out.protocol;
+        text = out.text;
+        has_protocol = out.has_protocol;
+        is_text = out.is_text;
+        promised = keep h.command out.protocol out.text reply out.replies;
+      })
+    ]
+
+-- each reply keeps what its command promises
+module _ (verify_keeps : (s : SystemData) (text : List ℕ) (reply : Reply) → IsVerifyReply s text reply → VerifyPromise s text reply)
+    (check_keeps : (s : SystemData) (settings : Settings) (budget : ℕ) (reply : Reply) → IsCheckReply s settings budget reply → CheckPromise s settings budget reply)
+    (generate_keeps : (s : SystemData) (number : ℕ) (reply : Reply) → IsGenerateReply s number reply → GeneratePromise s number reply) where
+  query_keeps : (query : Query) (budget : ℕ) (s : SystemData) (reply : Reply) → QueryReply query budget s reply → QueryPromise query budget s reply
+  query_keeps (ByCheck settings) budget s reply h = check_keeps s settings budget reply h
+
+  pub keeps : (command : Command) (p : Protocol) (text : List ℕ) (reply : Reply) → CommandReply command p text reply → Promise command p text reply
+  keeps (verify file certificate) p text reply h = verify_keeps (system_of p) text reply h
+  keeps (steps file configuration) p text reply h = tt
+  keeps (show file) p text reply h = tt
+  keeps (searching file query limits) p text reply h = query_keeps query limits.budget (system_of p) reply h
+  keeps (generate number workers) p text reply h = generate_keeps (system_of p) number reply h

@@ -1,0 +1,47 @@
+-- What the reply of a command that searches promises: each part comes from the one history of its search with all its bounds, and what it tells is
+-- true.
+use Rattle.std.specs.Prelude.{◌≡◌, List, length}
+use Rattle.std.specs.List.{AllByRecursion}
+use Rattle.protocol_model.specs.declared.system.Run.{Run}
+use Rattle.protocol_model.specs.System.{SystemData}
+use Rattle.refinement.specs.Bounds.{HoldOfRounds}
+use Rattle.refinement.specs.Exclusion.{AreRefutedOnce}
+use Rattle.refinement.specs.Verdicts.{IsSound, log_in}
+use Rattle.refinement.specs.declared.verdict.Verdict.{Verdict}
+use Rattle.protocol_search.specs.Analyses.{task_for, IsCounterexample, VerdictShows, TextShows}
+use Rattle.protocol_search.specs.Methods.{search_method, first_key, IsByPredicates}
+use Rattle.protocol_search.specs.SystemHistories.{IsFromHistory, IsBoundedByKey, IsWithin}
+use Rattle.protocol_search.specs.Verdicts.{end_of}
+use Rattle.protocol_search.specs.declared.search.Search.{Search}
+use Rattle.armc_commands.specs.declared.reply.Reply.{Reply}
+use Rattle.armc_commands.specs.declared.search_reply.Telling.{Telling}
+use Rattle.armc_commands.specs.declared.search_reply.Telling.TheVariants as telling
+use Rattle.armc_commands.specs.SearchReply.{Part, PartAnswer, IsAnswerTo, HoldsOfParts, reply_of_answers}
+
+-- the log and the end of the verdict are those of the history of its search: by predicates, no two rounds refute one language; the merged automata of
+-- each round grow, and its key bounds their number; no round has an index above the number of steps of a counterexample, and where there is one
+-- none ends closed
+pub record ComesFromHistory (s : SystemData) (search : Search) (v : Verdict) : Type 0 where
+  pub comes : IsFromHistory s search (log_in v) (end_of v)
+  pub refuted_once : IsByPredicates search.first → AreRefutedOnce comes.rounds
+  pub bounded_by_keys : HoldOfRounds (search_method search.first) (IsBoundedByKey (task_for search.analysis s).letters search.first)
+      (first_key search.first comes.history.bad) comes.rounds
+  pub bounded_by_runs : (run : Run) → IsCounterexample search.analysis s run → AllByRecursion (IsWithin (length run.steps)) comes.rounds
+
+-- what the text of an answer shows: a certificate means a proof or a counterexample
+abbrev pub ToldShows : Telling → Part → PartAnswer → Type 0
+ToldShows (telling.Certificate report) part answer = TextShows part.search.analysis part.system answer.verdict answer.text
+ToldShows (telling.Summary number) part answer = Unit {0}
+
+-- what the answer to a part promises; a proof has fewer states than the budget of the search
+pub record PartPromise (told : Telling) (part : Part) (answer : PartAnswer) : Type 0 where
+  pub is_answer : IsAnswerTo told part answer
+  pub searched : ComesFromHistory part.system part.search answer.verdict
+  pub sound : IsSound (task_for part.search.analysis part.system) part.search.budget answer.verdict
+  pub shows : VerdictShows part.search.analysis part.system answer.verdict
+  pub text_shows : ToldShows told part answer
+
+pub record SearchPromise (told : Telling) (parts : List Part) (reply : Reply) : Type 0 where
+  pub answers : List PartAnswer
+  pub promised : HoldsOfParts (PartPromise told) parts answers
+  pub reply_is : reply ≡ reply_of_answers told answers

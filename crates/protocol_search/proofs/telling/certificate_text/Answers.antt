@@ -1,0 +1,16 @@
+use Rattle.std.proofs.Common.{sym, subst}
+use Rattle.parallel_post.specs.SystemTask.{task_of}
+use Rattle.refinement.specs.Verdicts.{IsSound}
+use Rattle.protocol_search.specs.Runs.{AreStepWords}
+use Rattle.protocol_search.proofs.ByAnalysis.{told-words}
+use Rattle.protocol_search.proofs.StepLemmas.{run-is}
+use Rattle.protocol_search.proofs.telling.certificate_text.Goals as goal
+
+pub run_through-requires : goal.run_through-requires
+run_through-requires c =
+    let s = c.args.system.now in
+    let sound = subst (λ v. IsSound (task_of s) c.args.budget v) c.in-Unsafe.is c.requires.sound in
+    subst (AreStepWords s) (sym c.as_slice.ensures) (told-words s c.in-Unsafe.words sound)
+
+pub write_unsafe-requires : goal.write_unsafe-requires
+write_unsafe-requires c = run-is c.args.system.now c.as_slice.result.now c.in_ok-run-in-Unsafe.run' c.in_ok-run-in-Unsafe.ensures
