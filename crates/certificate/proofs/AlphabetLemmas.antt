@@ -15,7 +15,7 @@ use Rattle.protocol_lexer.specs.Piece.{is_word_byte}
 use Rattle.protocol_model.specs.declared.system.Section.{Section}
 use Rattle.protocol_model.specs.System.{SystemData, letter_count, total_letters, IsValid, IsValidSection}
 use Rattle.protocol_model.specs.Names.{is_word, IsWord, IsName}
-use Rattle.protocol_syntax.specs.Symbol.{keyword_of}
+use Rattle.forms.specs.Symbol.{keyword_of}
 use Rattle.protocol_model.specs.Words.{automata_letters}
 use Rattle.certificate.specs.Bytes.{Lacks}
 use Rattle.certificate.specs.SafeText.{letter_text}

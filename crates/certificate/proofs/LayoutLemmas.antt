@@ -7,12 +7,14 @@ use Rattle.protocol_model.specs.System.{SystemData}
 use Rattle.protocol_model.specs.Words.{automata_letters}
 use Rattle.certificate.specs.declared.lines.LineFault.{LineFault}
 use Rattle.certificate.specs.declared.lines.LineFault.TheVariants.{BadLine, UnknownName}
+use Rattle.certificate.specs.declared.version.Version.{Version}
+use Rattle.certificate.specs.declared.version.Version.TheVariants.{One}
 use Rattle.certificate.specs.Bytes.{Lacks, IsCutAt}
 use Rattle.certificate.specs.Numbers.{IsNumber}
-use Rattle.certificate.specs.SafeText.{letter_text}
+use Rattle.certificate.specs.SafeText.{letter_text, NamesLetters}
 use Rattle.certificate.specs.Reading.{IsThreeFields}
-use Rattle.certificate.specs.LineLayout.{IsEdgeLine}
-use Rattle.certificate.specs.Faults.{IsLetterField, HasNoLayout}
+use Rattle.certificate.specs.LineLayout.{IsEdgeLine, IsEdgesLine}
+use Rattle.certificate.specs.Faults.{IsLetterField, IsLetterLine, HasNoLayout}
 use Rattle.certificate.specs.NextLine.{IsLetterFault, HasLineFault}
 use Rattle.sequence.proofs.Cuts.{Lacks-append, cut_unique, no_cut}
 use Rattle.certificate.proofs.NumberLemmas.{IsNumber-Lacks}
@@ -70,26 +72,29 @@ IsLetterField-names field section letter r cut is = (
 )
 
 -- what is no number after `final ` has no layout
-pub final_no_layout : (line field : List ℕ) → line ≡ codes "final " ++ field → (IsNumber field → ⊥) → HasNoLayout line
-final_no_layout line field e no_number = record {
+pub final_no_layout : (v : Version) (line field : List ℕ) → line ≡ codes "final " ++ field → (IsNumber field → ⊥) → HasNoLayout v line
+final_no_layout v line field e no_number = record {
   no_final = λ other h. no_number (subst IsNumber (sym (final_cancel field other (sym e ∙ h.spelled))) h.number);
-  no_edge = λ from letter to h _. final_is_no_edge field _ (sym e ∙ h.spelled ∙ edge_text from letter to);
+  no_edge = λ _ from letter to h _. final_is_no_edge field _ (sym e ∙ h.spelled ∙ edge_text from letter to);
+  no_edges = λ _ from to indices h. final_is_no_edge field _ (sym e ∙ h.spelled ∙ edge_text from to h.last);
 }
 
 -- a line with neither keyword has no layout
-pub other_no_layout : (line : List ℕ) → ((rest : List ℕ) → line ≡ codes "final " ++ rest → ⊥) → ((rest : List ℕ) → line ≡ codes "edge " ++ rest → ⊥) → HasNoLayout line
-other_no_layout line no_final no_edge = record {
+pub other_no_layout : (v : Version) (line : List ℕ) → ((rest : List ℕ) → line ≡ codes "final " ++ rest → ⊥)
+    → ((rest : List ℕ) → line ≡ codes "edge " ++ rest → ⊥) → HasNoLayout v line
+other_no_layout v line no_final no_edge = record {
   no_final = λ field h. no_final field h.spelled;
-  no_edge = λ from letter to h _. no_edge _ (h.spelled ∙ edge_text from letter to);
+  no_edge = λ _ from letter to h _. no_edge _ (h.spelled ∙ edge_text from letter to);
+  no_edges = λ _ from to indices h. no_edge _ (h.spelled ∙ edge_text from to h.last);
 }
 
--- fields that cannot be those of an edge have no layout
+-- fields that cannot be those of an edge have no layout where edges name letters
 pub edge_no_layout : (fields : List ℕ)
     → ((from letter to : List ℕ) → IsThreeFields fields from letter to → IsNumber from → IsNumber to → IsLetterField letter → ⊥)
-    → HasNoLayout (codes "edge " ++ fields)
+    → HasNoLayout One (codes "edge " ++ fields)
 edge_no_layout fields refuse = record {
   no_final = λ field h. final_is_no_edge field fields (sym h.spelled);
-  no_edge = λ from letter to h laid_out.
+  no_edge = λ _ from letter to h laid_out.
       refuse from letter to
       (record {
         joined = edge_cancel fields _ (h.spelled ∙ edge_text from letter to);
@@ -97,6 +102,17 @@ edge_no_layout fields refuse = record {
         second = IsLetterField-no_space letter laid_out;
       })
       h.from_number h.to_number laid_out;
+  no_edges = λ has _ _ _ _. has;
+}
+
+-- fields that are none of edges with indices have no layout where edges have indices
+pub edges_no_layout : (v : Version) → (NamesLetters v → ⊥) → (fields : List ℕ)
+    → ((from to : List ℕ) (indices : List (List ℕ)) → IsEdgesLine (codes "edge " ++ fields) from to indices → ⊥)
+    → HasNoLayout v (codes "edge " ++ fields)
+edges_no_layout v no_names fields refuse = record {
+  no_final = λ field h. final_is_no_edge field fields (sym h.spelled);
+  no_edge = λ names _ _ _ _ _. no_names names;
+  no_edges = λ _. refuse;
 }
 
 -- the layout of an edge with these fields
@@ -110,12 +126,13 @@ edge_layout fields from letter to h one two = record {
 -- an edge whose letter the system does not have
 pub letter_line_fault : (s : SystemData) (fields from letter to : List ℕ) → IsThreeFields fields from letter to → IsNumber from → IsNumber to
     → ((a : ℕ) → a < automata_letters s → letter ≡ letter_text s.sections a → ⊥)
-    → (fault : LineFault) → IsLetterFault letter fault → HasLineFault s (codes "edge " ++ fields) fault
+    → (fault : LineFault) → IsLetterFault letter fault → HasLineFault One s (codes "edge " ++ fields) fault
 letter_line_fault s fields from letter to h one two unknown BadLine no_letter =
     edge_no_layout fields (λ from' letter' to' h' _ _ laid_out.
     let same = three_unique fields from letter to from' letter' to' h h' in
     no_letter (subst IsLetterField (sym same.1) laid_out))
 letter_line_fault s fields from letter to h one two unknown UnknownName laid_out = record {
+  version = tt;
   from = from;
   letter = letter;
   to = to;
@@ -123,3 +140,23 @@ letter_line_fault s fields from letter to h one two unknown UnknownName laid_out
   laid_out = laid_out;
   unknown = unknown;
 }
+
+-- a letter's field has no line feed
+IsLetterField-no_line_feed : (field : List ℕ) → IsLetterField field → Lacks 10 field
+IsLetterField-no_line_feed field (inl bar) = subst (Lacks 10) (sym bar) (omega arith, tt)
+IsLetterField-no_line_feed field (inr dotted) =
+    subst (Lacks 10) (sym dotted.4)
+    (Lacks-append 10 (dotted.0 ++ codes ".") dotted.1
+    (Lacks-append 10 dotted.0 (codes ".") (word_lacks 10 (omega arith) dotted.0 dotted.2) (omega arith, tt))
+    (word_lacks 10 (omega arith) dotted.1 dotted.3))
+
+-- a text that begins with the line of a letter has this line cut off
+pub letter_line_is : (rest line after other more : List ℕ) → IsCutAt 10 rest line after → IsLetterLine other → rest ≡ other ++ 10 ∷ more
+    → line ≡ other
+letter_line_is rest line after other more cut is e =
+    let lacks : Lacks 10 other =
+    subst (Lacks 10) (sym is.2)
+    (Lacks-append 10 (codes "letter ") is.0
+    (omega arith, (omega arith, (omega arith, (omega arith, (omega arith, (omega arith, (omega arith, tt)))))))
+    (IsLetterField-no_line_feed is.0 is.1)) in
+    (cut_unique 10 line other after more cut.first lacks (sym cut.joined ∙ e)).0

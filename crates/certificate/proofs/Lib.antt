@@ -1,3 +1,4 @@
+mod AddingLemmas
 mod AlphabetLemmas
 mod FaultLemmas
 mod HasFaultLemmas
@@ -6,6 +7,7 @@ mod LayoutLemmas
 mod LineLemmas
 mod NextLemmas
 mod NumberLemmas
+mod OneOpeningLemmas
 mod OneReadingLemmas
 mod OneRunLemmas
 mod OpeningLemmas
@@ -16,5 +18,6 @@ mod RunLineLemmas
 mod RunWritingLemmas
 mod SafeTextLemmas
 mod SameAutomatonLemmas
+mod VersionLemmas
 mod WritingLemmas
 mod WrittenLemmas

@@ -26,7 +26,7 @@ end_lacks : Lacks 10 (codes "end")
 end_lacks = (omega arith, (omega arith, (omega arith, tt)))
 
 -- the lines of the steps and the line `end`
-lines_of_steps : (s : SystemData) (steps : List (ℕ × Configuration))
+pub lines_of_steps : (s : SystemData) (steps : List (ℕ × Configuration))
     → flat_map (λ line. line ++ 10 ∷ []) (map (step_line s) steps ++ codes "end" ∷ []) ≡ steps_text s steps ++ the_end
 lines_of_steps s [] = refl
 lines_of_steps s (step ∷ steps) =

@@ -1,11 +1,18 @@
 -- The first two lines of a text have one reading.
-use Rattle.std.proofs.Common.{◌≡◌, ℕ, ◌<◌, ◌≤◌, ◌↔◌, false, IsTrue, List, [], ◌∷◌, ◌++◌, codes, decimal, sym, ap, ◌∙◌, arith}
+use Rattle.std.proofs.Common.{◌≡◌, ℕ, ◌<◌, ◌≤◌, ◌↔◌, false, IsTrue, List, [], ◌∷◌, ◌++◌, codes, decimal, sym, ap, ◌∙◌, arith, inl, inr}
 use Rattle.std.specs.Str.Parse.{digits_value}
 use Rattle.std.proofs.lemmas.List.{append_assoc, append_cancel_left}
+use Rattle.protocol_model.specs.System.{SystemData}
+use Rattle.certificate.specs.declared.version.Version.{Version}
+use Rattle.certificate.specs.declared.version.Version.TheVariants.{One, Two}
+use Rattle.certificate.specs.SafeText.{title, letters_of}
 use Rattle.certificate.specs.Bytes.{Lacks, IsCutAt}
 use Rattle.certificate.specs.Reading.{beyond, capped_value}
-use Rattle.certificate.specs.LineLayout.{opening_text}
-use Rattle.certificate.specs.Faults.{IsOtherVersion}
+use Rattle.certificate.specs.LineLayout.{letters_text, before_states, opening_text}
+use Rattle.certificate.specs.declared.fault.CertFault.{CertFault}
+use Rattle.certificate.specs.declared.fault.CertFault.TheVariants.{BadLine, UnknownName, TooMany, TwoLetters}
+use Rattle.certificate.specs.Faults.{IsOtherVersion, IsLetterLine, IsOpeningFault, FaultInOpening}
+use Rattle.certificate.specs.NextLine.{HasNoLetterLine}
 use Rattle.sequence.proofs.Cuts.{cut_unique, Lacks-append}
 use Rattle.certificate.proofs.NumberLemmas.{IsNumber-Lacks, decimal-Lacks}
 
@@ -36,25 +43,24 @@ states_line_cut text line after count rest limit cut e =
 pub past_limit : (field : List ℕ) (count : ℕ) → count ≡ capped_value field → 1000000 < count → 1000000 < digits_value 10 field
 past_limit field count e past = omega arith
 
--- the opening of a text is its first two lines
-pub opening_from : (text rest lines : List ℕ) (count : ℕ) → text ≡ codes "armc 1 safe" ++ 10 ∷ rest
-    → rest ≡ codes "states " ++ decimal count ++ 10 ∷ lines → text ≡ opening_text count ++ lines
-opening_from text rest lines count first second =
-    first ∙ ap (λ rest. codes "armc 1 safe" ++ 10 ∷ rest) second
-    ∙ ap (λ body. codes "armc 1 safe" ++ 10 ∷ codes "states " ++ body) (sym (append_assoc (decimal count) (10 ∷ []) lines))
+-- the opening of a text, as the text before its line on states and this line
+pub opening_before : (v : Version) (s : SystemData) (count : ℕ) (body : List ℕ)
+    → opening_text v s count ++ body ≡ before_states v s ++ (codes "states " ++ decimal count ++ 10 ∷ body)
+opening_before v s count body =
+    append_assoc (before_states v s) (codes "states " ++ decimal count ++ 10 ∷ []) body
+    ∙ ap (λ rest. before_states v s ++ rest) (append_assoc (codes "states " ++ decimal count) (10 ∷ []) body)
 
-pub opening_first : (text lines : List ℕ) (count : ℕ) → text ≡ opening_text count ++ lines
-    → text ≡ codes "armc 1 safe" ++ 10 ∷ (codes "states " ++ decimal count ++ 10 ∷ lines)
-opening_first text lines count e =
-    e ∙ ap (λ body. codes "armc 1 safe" ++ 10 ∷ codes "states " ++ body) (append_assoc (decimal count) (10 ∷ []) lines)
+pub opening_from : (v : Version) (s : SystemData) (text rest lines : List ℕ) (count : ℕ) → text ≡ before_states v s ++ rest
+    → rest ≡ codes "states " ++ decimal count ++ 10 ∷ lines → text ≡ opening_text v s count ++ lines
+opening_from v s text rest lines count first second =
+    first ∙ ap (λ rest. before_states v s ++ rest) second ∙ sym (opening_before v s count lines)
 
-pub opening_second : (text rest lines : List ℕ) (count : ℕ) → text ≡ codes "armc 1 safe" ++ 10 ∷ rest → text ≡ opening_text count ++ lines
-    → rest ≡ codes "states " ++ decimal count ++ 10 ∷ lines
-opening_second text rest lines count first e =
-    append_cancel_left (codes "armc 1 safe" ++ 10 ∷ []) rest (codes "states " ++ decimal count ++ 10 ∷ lines)
-    (sym first ∙ opening_first text lines count e)
+-- the text before the line on states begins with the first line
+pub before_first : (v : Version) (s : SystemData) (rest : List ℕ)
+    → before_states v s ++ rest ≡ title v ++ 10 ∷ (letters_text s (letters_of v) ++ rest)
+before_first v s rest = append_assoc (title v) (10 ∷ letters_text s (letters_of v)) rest
 
-pub safe_line_lacks : Lacks 10 (codes "armc 1 safe")
+safe_line_lacks : Lacks 10 (codes "armc 1 safe")
 safe_line_lacks = (
   omega arith,
   (
@@ -66,15 +72,46 @@ safe_line_lacks = (
   ),
 )
 
--- the first line of a text with this opening
+second_line_lacks : Lacks 10 (codes "armc 2 safe")
+second_line_lacks = (
+  omega arith,
+  (
+    omega arith,
+    (
+      omega arith,
+      (omega arith, (omega arith, (omega arith, (omega arith, (omega arith, (omega arith, (omega arith, (omega arith, tt)))))))),
+    ),
+  ),
+)
+
+pub title_lacks : (v : Version) → Lacks 10 (title v)
+title_lacks One = safe_line_lacks
+title_lacks (Two letters) = second_line_lacks
+
+-- the first line of a text of version 1
 pub first_line_is : (text line after rest : List ℕ) → IsCutAt 10 text line after → text ≡ codes "armc 1 safe" ++ 10 ∷ rest
     → line ≡ codes "armc 1 safe"
 first_line_is text line after rest cut e =
     (cut_unique 10 line (codes "armc 1 safe") after rest cut.first safe_line_lacks (sym cut.joined ∙ e)).0
 
--- the number of states in a second line
+-- the number of states in its line
 pub states_field : (text line after field : List ℕ) (count : ℕ) (rest : List ℕ) → count ≤ 1000000 → IsCutAt 10 text line after
     → line ≡ codes "states " ++ field → text ≡ codes "states " ++ decimal count ++ 10 ∷ rest → (field ≡ decimal count) × (after ≡ rest)
 states_field text line after field count rest limit cut prefix e =
     let parts = states_line_cut text line after count rest limit cut e in
     (append_cancel_left (codes "states ") field (decimal count) (sym prefix ∙ parts.0), parts.1)
+
+-- what is wrong with the line on states in version 1 is wrong in version 2 behind the lines of letters
+opening_line_of_two : (letters : List ℕ) (s : SystemData) (number : ℕ) (line : List ℕ) (fault : CertFault) → (IsLetterLine line → ⊥)
+    → IsOpeningFault One s number line fault → IsOpeningFault (Two letters) s number line fault
+opening_line_of_two letters s number line (BadLine n) no_letter h = (h.0, h.1, λ _. no_letter)
+opening_line_of_two letters s number line (TooMany n) no_letter h = h
+opening_line_of_two letters s number line (UnknownName n) no_letter h = absurd h.1
+opening_line_of_two letters s number line (TwoLetters n) no_letter h = absurd h.1
+opening_line_of_two letters s number line _ no_letter h = absurd h
+
+pub opening_of_two : (letters : List ℕ) (s : SystemData) (number : ℕ) (rest : List ℕ) (fault : CertFault) → HasNoLetterLine rest
+    → FaultInOpening One s number rest fault → FaultInOpening (Two letters) s number rest fault
+opening_of_two letters s number rest fault none (inl short) = inl short
+opening_of_two letters s number rest fault none (inr h) =
+    inr (h.0, h.1, h.2, opening_line_of_two letters s number h.0 fault (λ is. none h.0 h.1 is h.2.joined) h.3)

@@ -3,7 +3,8 @@ use Rattle.std.proofs.Common.{◌≡◌, ◌≢◌, ℕ, suc, ◌+◌, ◌≤◌
 use Rattle.std.proofs.Common.{Contains, AllPairs, length, get_or, codes, refl, sym, ap, subst, ◌∙◌, arith, inl, inr, ◌⊎◌}
 use Rattle.std.specs.List.{AllByRecursion}
 use Rattle.std.proofs.lemmas.List.{append_assoc, append-nil, length-append, get_or_at, get_or_append_left}
-use Rattle.std.proofs.lemmas.List.Elements.{Contains-append_left, Contains-push, Contains-push_cases}
+use Rattle.std.proofs.lemmas.List.Elements.{Contains-append_left, Contains-push, Contains-push_cases, Contains-get_or}
+use Rattle.std.proofs.lemmas.List.Quantifiers.{all_pairs_push}
 use Rattle.std.proofs.lemmas.Bool.{cases_eq, eq-eqb, ne_eqb, cond-true, cond-false, and_from, and_left, and_right}
 use Rattle.std.proofs.lemmas.Option.{same_Some, none-some}
 use Rattle.word_automata.specs.Automaton.{Automaton, target}
@@ -11,13 +12,15 @@ use Rattle.word_automata.specs.Building.{AddsEdge, MakesAccepting}
 use Rattle.protocol_model.specs.System.{SystemData, IsValid}
 use Rattle.protocol_model.specs.Words.{automata_letters}
 use Rattle.certificate.specs.declared.lines.Line.{Line}
-use Rattle.certificate.specs.declared.lines.Line.TheVariants.{Final, Edge}
+use Rattle.certificate.specs.declared.lines.Line.TheVariants.{Final, Edge, Edges}
+use Rattle.certificate.specs.declared.version.Version.{Version}
 use Rattle.certificate.specs.Bytes.{Lacks, IsCutAt}
 use Rattle.certificate.specs.Reading.{beyond}
-use Rattle.certificate.specs.SafeText.{line_text, IsInRange, AreNoTwoEdges, IsAutomatonOf}
-use Rattle.certificate.specs.Reading.{AddsLine, IsSecondEdge, HasLines, body_text, GoesOn}
+use Rattle.certificate.specs.SafeText.{line_text, letters_of, IsInRange, AreNoTwoEdges, HaveNoTwoEdges, IsAutomatonOf, said_by, all_said}
+use Rattle.certificate.specs.Reading.{HasLines, AddsAll, HasSecond, body_text, GoesOn}
 use Rattle.certificate.specs.LineLayout.{lines_text}
 use Rattle.sequence.proofs.Cuts.{cut_unique, no_cut}
+use Rattle.certificate.proofs.VersionLemmas.{all_said-push, HaveNoTwoEdges-front}
 use Rattle.certificate.proofs.LineLemmas.{line_text-no_line_feed}
 
 -- texts of lines
@@ -44,10 +47,6 @@ pub AllByRecursion-middle : {X : Type 0} (P : X → Type 0) (xs : List X) (x : X
 AllByRecursion-middle P [] x ys h = h.0
 AllByRecursion-middle P (y ∷ xs) x ys h = AllByRecursion-middle P xs x ys h.1
 
-pub AllByRecursion-push : {X : Type 0} (P : X → Type 0) (xs : List X) (x : X) → AllByRecursion P xs → P x → AllByRecursion P (xs ++ x ∷ [])
-AllByRecursion-push P [] x h p = (p, tt)
-AllByRecursion-push P (y ∷ xs) x h p = (h.0, AllByRecursion-push P xs x h.1 p)
-
 pub AllPairs-middle : {X : Type 0} (R : X → X → Type 0) (xs : List X) (x : X) (ys : List X) (y : X) → AllPairs R (xs ++ x ∷ ys)
     → Contains xs y → R y x
 AllPairs-middle R xs x ys y h at =
@@ -57,9 +56,10 @@ AllPairs-middle R xs x ys y h at =
     (subst (λ b. R b (get_or (xs ++ x ∷ ys) (length xs) y)) (get_or_append_left xs (x ∷ ys) y at.0 at.1 ∙ at.2) pair)
 
 -- a line with few states is in range of more
-pub IsInRange-weaken : (letters few many : ℕ) → few ≤ many → (x : Line) → IsInRange letters few x → IsInRange letters many x
-IsInRange-weaken letters few many le (Final q) h = omega arith
-IsInRange-weaken letters few many le (Edge p a q) h = (omega (arith, h.0), h.1, omega (arith, h.2))
+pub IsInRange-weaken : (v : Version) (letters few many : ℕ) → few ≤ many → (x : Line) → IsInRange v letters few x → IsInRange v letters many x
+IsInRange-weaken v letters few many le (Final q) h = omega arith
+IsInRange-weaken v letters few many le (Edge p a q) h = (omega (arith, h.0), h.1, omega (arith, h.2), h.3)
+IsInRange-weaken v letters few many le (Edges p q indices) h = (omega (arith, h.0), omega (arith, h.1), h.2, h.3, h.4)
 
 -- two places are one or apart
 same_place : (p q a b : ℕ) → ((p ≡ q) × (a ≡ b)) ⊎ ((p ≢ q) ⊎ (a ≢ b))
@@ -74,41 +74,41 @@ some_value None h = cc h
 some_value (Some x) h = (x, refl)
 
 -- how a text begins that goes on: with the line `end` alone, or with a line after which it goes on
-pub data BeginsWithLine (s : SystemData) (count : ℕ) (lines : List Line) (line after : List ℕ) (m : Automaton) : Type 0 where
-  ends : line ≡ codes "end" → after ≡ [] → BeginsWithLine s count lines line after m
-  continues : (x : Line) → line ≡ line_text s x → IsInRange (automata_letters s) count x → GoesOn s count (lines ++ x ∷ []) after m
-      → BeginsWithLine s count lines line after m
+pub data BeginsWithLine (v : Version) (s : SystemData) (count : ℕ) (lines : List Line) (line after : List ℕ) (m : Automaton) : Type 0 where
+  ends : line ≡ codes "end" → after ≡ [] → BeginsWithLine v s count lines line after m
+  continues : (x : Line) → line ≡ line_text s x → IsInRange v (automata_letters s) count x → GoesOn v s count (lines ++ x ∷ []) after m
+      → BeginsWithLine v s count lines line after m
 
-module _ (s : SystemData) (valid : IsValid s) (count : ℕ) (few : count ≤ beyond) (lines : List Line) (rest line after : List ℕ)
+module _ (v : Version) (s : SystemData) (valid : IsValid s) (named : length (letters_of v) ≤ 257) (count : ℕ) (few : count ≤ beyond) (lines : List Line) (rest line after : List ℕ)
     (m : Automaton) (cut : IsCutAt 10 rest line after) where
-  begins_with : (later : List Line) → rest ≡ body_text s later → AllByRecursion (IsInRange (automata_letters s) count) (lines ++ later)
-      → AllPairs AreNoTwoEdges (lines ++ later)
-      → IsAutomatonOf (automata_letters s) count (lines ++ later) m → BeginsWithLine s count lines line after m
+  begins_with : (later : List Line) → rest ≡ body_text s later → AllByRecursion (IsInRange v (automata_letters s) count) (lines ++ later)
+      → HaveNoTwoEdges v (lines ++ later)
+      → IsAutomatonOf (automata_letters s) count (all_said v (lines ++ later)) m → BeginsWithLine v s count lines line after m
   begins_with [] spelled in_range no_two automaton =
       let parts = cut_unique 10 line (codes "end") after [] cut.first (omega arith, (omega arith, (omega arith, tt))) (sym cut.joined
       ∙ spelled) in
       ends parts.0 parts.1
   begins_with (x ∷ later) spelled in_range no_two automaton =
-      let range = AllByRecursion-middle (IsInRange (automata_letters s) count) lines x later in_range in
-      let lacks = line_text-no_line_feed s valid x (IsInRange-weaken (automata_letters s) count beyond few x range) in
+      let range = AllByRecursion-middle (IsInRange v (automata_letters s) count) lines x later in_range in
+      let lacks = line_text-no_line_feed v s valid named x (IsInRange-weaken v (automata_letters s) count beyond few x range) in
       let parts = cut_unique 10 line (line_text s x) after (body_text s later) cut.first lacks (sym cut.joined ∙ spelled
       ∙ body_text-cons s x later) in
       let regrouped : lines ++ x ∷ later ≡ (lines ++ x ∷ []) ++ later = sym (append_assoc lines (x ∷ []) later) in
       continues x parts.0 range (record {
         later = later;
         spelled = parts.1;
-        in_range = subst (AllByRecursion (IsInRange (automata_letters s) count)) regrouped in_range;
-        no_two_edges = subst (AllPairs AreNoTwoEdges) regrouped no_two;
-        automaton = subst (λ all. IsAutomatonOf (automata_letters s) count all m) regrouped automaton;
+        in_range = subst (AllByRecursion (IsInRange v (automata_letters s) count)) regrouped in_range;
+        no_two_edges = subst (HaveNoTwoEdges v) regrouped no_two;
+        automaton = subst (λ all. IsAutomatonOf (automata_letters s) count (all_said v all) m) regrouped automaton;
       })
 
-  pub GoesOn-begins : GoesOn s count lines rest m → BeginsWithLine s count lines line after m
+  pub GoesOn-begins : GoesOn v s count lines rest m → BeginsWithLine v s count lines line after m
   GoesOn-begins h = begins_with h.later h.spelled h.in_range h.no_two_edges h.automaton
 
 -- a text that goes on has a line feed
-pub GoesOn-has_line_feed : (s : SystemData) (count : ℕ) (lines : List Line) (rest : List ℕ) (m : Automaton) → Lacks 10 rest
-    → GoesOn s count lines rest m → ⊥
-GoesOn-has_line_feed s count lines rest m lacks h = no_body h.later (subst (Lacks 10) h.spelled lacks)
+pub GoesOn-has_line_feed : (v : Version) (s : SystemData) (count : ℕ) (lines : List Line) (rest : List ℕ) (m : Automaton) → Lacks 10 rest
+    → GoesOn v s count lines rest m → ⊥
+GoesOn-has_line_feed v s count lines rest m lacks h = no_body h.later (subst (Lacks 10) h.spelled lacks)
   where
     no_body : (later : List Line) → Lacks 10 (body_text s later) → ⊥
     no_body [] l = l.1.1.1.0 refl
@@ -116,7 +116,7 @@ GoesOn-has_line_feed s count lines rest m lacks h = no_body h.later (subst (Lack
 
 -- an accepting state is a line's; a line more makes its state accepting
 module _ (size count : ℕ) (lines : List Line) (old new : Automaton) (h : HasLines size count lines old) where
-  HasLines-final : (q : ℕ) → MakesAccepting old new q → HasLines size count (lines ++ Final q ∷ []) new
+  pub HasLines-final : (q : ℕ) → MakesAccepting old new q → HasLines size count (lines ++ Final q ∷ []) new
   HasLines-final q made = record {
     letters_are = made.same_letters ∙ h.letters_are;
     states_are = made.same_size ∙ h.states_are;
@@ -144,7 +144,7 @@ module _ (size count : ℕ) (lines : List Line) (old new : Automaton) (h : HasLi
     );
   }
 
-  HasLines-edge : (p a q : ℕ) → target old p a ≡ None → AddsEdge old new p a q → HasLines size count (lines ++ Edge p a q ∷ []) new
+  pub HasLines-edge : (p a q : ℕ) → target old p a ≡ None → AddsEdge old new p a q → HasLines size count (lines ++ Edge p a q ∷ []) new
   HasLines-edge p a q none added =
       let here : (p' a' : ℕ) → p' ≡ p → a' ≡ a → target new p' a' ≡ Some q
       = λ p' a' same_state same_letter. added.targets p' a'
@@ -193,17 +193,70 @@ module _ (size count : ℕ) (lines : List Line) (old new : Automaton) (h : HasLi
         );
       }
 
-  pub HasLines-push : (x : Line) → AddsLine old new x → HasLines size count (lines ++ x ∷ []) new
-  HasLines-push (Final q) added = HasLines-final q added.1
-  HasLines-push (Edge p a q) added = HasLines-edge p a q added.1 added.2
+-- what was added one after the other
+module _ (size count : ℕ) where
+  pub AddsAll-none : (m : Automaton) → AddsAll size count [] m m
+  AddsAll-none m = record {
+    has = λ lines h. subst (λ all. HasLines size count all m) (sym (append-nil lines)) h;
+    apart = λ lines h pairs. subst (AllPairs AreNoTwoEdges) (sym (append-nil lines)) pairs;
+  }
+
+  pub AddsAll-more : (xs ys : List Line) (a b c : Automaton) → AddsAll size count xs a b → AddsAll size count ys b c
+      → AddsAll size count (xs ++ ys) a c
+  AddsAll-more xs ys a b c h k = record {
+    has = λ lines has. subst (λ all. HasLines size count all c) (append_assoc lines xs ys) (k.has (lines ++ xs) (h.has lines has));
+    apart = λ lines has pairs.
+        subst (AllPairs AreNoTwoEdges) (append_assoc lines xs ys) (k.apart (lines ++ xs) (h.has lines has) (h.apart lines has pairs));
+  }
+
+  no_edge_before : (y : Line) (q : ℕ) → AreNoTwoEdges y (Final q)
+  no_edge_before (Final r) q = tt
+  no_edge_before (Edge p a r) q = tt
+  no_edge_before (Edges p r indices) q = tt
+
+  pub AddsAll-final : (q : ℕ) (old new : Automaton) → MakesAccepting old new q → AddsAll size count (Final q ∷ []) old new
+  AddsAll-final q old new made = record {
+    has = λ lines h. HasLines-final size count lines old new h q made;
+    apart = λ lines h pairs. all_pairs_push AreNoTwoEdges lines (Final q) pairs (λ k d within. no_edge_before (get_or lines k d) q);
+  }
+
+  -- an edge that was added has no earlier edge with its source and letter
+  no_earlier_edge : (lines : List Line) (old : Automaton) (y : Line) (p a q : ℕ) → HasLines size count lines old → Contains lines y
+      → target old p a ≡ None → AreNoTwoEdges y (Edge p a q)
+  no_earlier_edge lines old (Final r) p a q h among none = tt
+  no_earlier_edge lines old (Edges p' r indices) p a q h among none = tt
+  no_earlier_edge lines old (Edge p' a' q') p a q h among none = λ same_state same_letter.
+      none-some q' (sym none ∙ sym (ap (λ b. target old p b) same_letter) ∙ sym (ap (λ state. target old state a') same_state)
+      ∙ (h.edge_lines p' a' q').1 among)
+
+  pub AddsAll-edge : (p a q : ℕ) (old new : Automaton) → target old p a ≡ None → AddsEdge old new p a q
+      → AddsAll size count (Edge p a q ∷ []) old new
+  AddsAll-edge p a q old new none added = record {
+    has = λ lines h. HasLines-edge size count lines old new h p a q none added;
+    apart = λ lines h pairs.
+        all_pairs_push AreNoTwoEdges lines (Edge p a q) pairs
+        (λ k d within. no_earlier_edge lines old (get_or lines k d) p a q h (Contains-get_or lines k d within) none);
+  }
+
+  -- after some that were added, an edge whose state has its letter already is a second one
+  pub HasSecond-after : (xs ys : List Line) (p a q : ℕ) (old mid : Automaton) → AddsAll size count xs old mid → IsSome (target mid p a)
+      → HasSecond size count (xs ++ Edge p a q ∷ ys) old
+  HasSecond-after xs ys p a q old mid h second = λ lines has pairs.
+      let first = some_value (target mid p a) second in
+      AllPairs-middle AreNoTwoEdges (lines ++ xs) (Edge p a q) ys (Edge p a first.0)
+      (subst (AllPairs AreNoTwoEdges) (sym (append_assoc lines xs (Edge p a q ∷ ys))) pairs)
+      (((h.has lines has).edge_lines p a first.0).0 first.1) refl refl
 
 -- no text goes on after a second edge with one source and one letter
-pub second_edge_ends : (s : SystemData) (count : ℕ) (lines : List Line) (old : Automaton) (x : Line) (rest : List ℕ) (m : Automaton)
-    → HasLines (automata_letters s) count lines old
-    → IsSecondEdge old x → GoesOn s count (lines ++ x ∷ []) rest m → ⊥
-second_edge_ends s count lines old (Final q) rest m h second onward = second
-second_edge_ends s count lines old (Edge p a q) rest m h second onward =
-    let first = some_value (target old p a) second in
-    AllPairs-middle AreNoTwoEdges lines (Edge p a q) onward.later (Edge p a first.0)
-    (subst (AllPairs AreNoTwoEdges) (append_assoc lines (Edge p a q ∷ []) onward.later) onward.no_two_edges)
-    ((h.edge_lines p a first.0).0 first.1) refl refl
+pub second_after : (v : Version) (size count : ℕ) (lines : List Line) (old : Automaton) (x : Line)
+    → HasLines size count (all_said v lines) old → HasSecond size count (said_by v x) old → HaveNoTwoEdges v (lines ++ x ∷ []) → ⊥
+second_after v size count lines old x h second pairs =
+    second (all_said v lines) h (subst (AllPairs AreNoTwoEdges) (all_said-push v lines x) pairs)
+
+pub second_edge_ends : (v : Version) (s : SystemData) (count : ℕ) (lines : List Line) (old : Automaton) (x : Line) (rest : List ℕ) (m : Automaton)
+    → HasLines (automata_letters s) count (all_said v lines) old
+    → HasSecond (automata_letters s) count (said_by v x) old → GoesOn v s count (lines ++ x ∷ []) rest m → ⊥
+second_edge_ends v s count lines old x rest m h second onward =
+    second_after v (automata_letters s) count lines old x h second
+    (HaveNoTwoEdges-front v lines x onward.later
+    (subst (HaveNoTwoEdges v) (append_assoc lines (x ∷ []) onward.later) onward.no_two_edges))

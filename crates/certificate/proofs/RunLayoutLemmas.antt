@@ -5,7 +5,7 @@ use Rattle.std.specs.List.{AllByRecursion, list_all, join_by}
 use Rattle.std.proofs.lemmas.Bool.{and_parts, and_from, eqb-true}
 use Rattle.std.proofs.lemmas.List.{append_assoc, append-nil, append_cancel_left, take_all}
 use Rattle.protocol_lexer.specs.Piece.{is_word_byte}
-use Rattle.protocol_syntax.specs.Symbol.{keyword_of}
+use Rattle.forms.specs.Symbol.{keyword_of}
 use Rattle.protocol_syntax.specs.declared.protocol.Kind.{Kind}
 use Rattle.protocol_model.specs.declared.system.Section.{Section}
 use Rattle.protocol_model.specs.Names.{is_word, IsName}

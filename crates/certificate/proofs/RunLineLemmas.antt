@@ -10,7 +10,7 @@ use Rattle.std.proofs.lemmas.List.Quantifiers.{position-Some}
 use Rattle.std.proofs.lemmas.Slice.Eq.{bytes_eq-Decides}
 use Rattle.std.proofs.Math.Bool.{or-true}
 use Rattle.protocol_model.proofs.Lists.{position_is}
-use Rattle.protocol_syntax.specs.Symbol.{keyword_of}
+use Rattle.forms.specs.Symbol.{keyword_of}
 use Rattle.protocol_model.specs.declared.system.Section.{Section}
 use Rattle.protocol_model.specs.declared.system.Rule.{Rule}
 use Rattle.protocol_model.specs.declared.system.Configuration.{Configuration}

@@ -4,20 +4,20 @@ use Rattle.std.proofs.lemmas.List.{append_assoc}
 use Rattle.protocol_model.specs.declared.system.Run.{Run}
 use Rattle.protocol_model.specs.System.{SystemData}
 use Rattle.configuration_words.specs.Texts.{configuration_text}
-use Rattle.certificate.specs.RunText.{IsRunOf, MeansRun}
 use Rattle.certificate.specs.RunFaults.{steps_text}
-use Rattle.certificate.proofs.OneRunLemmas.{unsafe_text-is}
+use Rattle.certificate.specs.RunText.{start_line}
+use Rattle.certificate.specs.Writing.{run_text}
+use Rattle.certificate.proofs.OneRunLemmas.{lines_of_steps}
 
-pub written_run : (s : SystemData) (run : Run) → IsRunOf s run → (text : List ℕ)
-    → text ≡ ((codes "armc 1 unsafe" ++ 10 ∷ codes "start ") ++ (configuration_text s run.first ++ 10 ∷ [])) ++ steps_text s run.steps ++ (codes "end" ++ 10 ∷ [])
-    → MeansRun s text run
-written_run s run is text e =
-    let end = codes "end" ++ 10 ∷ [] in
-    let first = configuration_text s run.first in
-    record {
-      is_run = is;
-      spelled = e
-          ∙ append_assoc ((codes "armc 1 unsafe" ++ 10 ∷ codes "start ") ++ (first ++ 10 ∷ [])) (steps_text s run.steps) end
-          ∙ ap (λ rest. (codes "armc 1 unsafe" ++ 10 ∷ codes "start ") ++ rest) (append_assoc first (10 ∷ []) (steps_text s run.steps ++ end))
-          ∙ sym (unsafe_text-is s run);
-    }
+pub run_text-is : (first : List ℕ) (s : SystemData) (run : Run)
+    → (((first ++ 10 ∷ codes "start ") ++ (configuration_text s run.first ++ 10 ∷ [])) ++ steps_text s run.steps) ++ (codes "end" ++ 10 ∷ [])
+    ≡ run_text first s run
+run_text-is first s run =
+    let end : List ℕ = codes "end" ++ 10 ∷ [] in
+    let start : List ℕ = configuration_text s run.first ++ 10 ∷ [] in
+    let steps = steps_text s run.steps in
+    append_assoc ((first ++ 10 ∷ codes "start ") ++ start) steps end
+    ∙ append_assoc (first ++ 10 ∷ codes "start ") start (steps ++ end)
+    ∙ append_assoc first (10 ∷ codes "start ") (start ++ (steps ++ end))
+    ∙ sym (append_assoc first (10 ∷ []) ((start_line s run.first ++ 10 ∷ []) ++ (steps ++ end)))
+    ∙ ap (λ rest. (first ++ 10 ∷ []) ++ ((start_line s run.first ++ 10 ∷ []) ++ rest)) (sym (lines_of_steps s run.steps))

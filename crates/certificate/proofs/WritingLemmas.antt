@@ -1,5 +1,5 @@
 -- The text that is written, piece by piece.
-use Rattle.std.proofs.Common.{◌≡◌, ℕ, zero, suc, ◌+◌, ◌<◌, Bool, true, false, List, [], ◌∷◌, ◌++◌, length, map, drop, codes}
+use Rattle.std.proofs.Common.{◌≡◌, ℕ, zero, suc, ◌+◌, ◌<◌, Bool, true, false, List, [], ◌∷◌, ◌++◌, length, map, drop, codes, decimal}
 use Rattle.std.proofs.Common.{if◌then◌else◌, flat_map, refl, sym, ap, subst, ◌∙◌, arith}
 use Rattle.std.proofs.lemmas.List.{append_assoc, append-nil}
 use Rattle.std.proofs.lemmas.List.Concat.{flat_map-append}
@@ -9,8 +9,8 @@ use Rattle.protocol_model.specs.System.{SystemData}
 use Rattle.certificate.specs.declared.lines.Line.TheVariants.{Final}
 use Rattle.certificate.specs.SafeText.{line_text}
 use Rattle.certificate.specs.Reading.{body_text}
-use Rattle.certificate.specs.LineLayout.{lines_text, opening_text}
-use Rattle.certificate.specs.Writing.{final_states, lines_from, edge_lines, written_lines, written_text}
+use Rattle.certificate.specs.LineLayout.{lines_text}
+use Rattle.certificate.specs.Writing.{final_states, lines_from, edge_lines, written_lines, automaton_text}
 use Rattle.certificate.specs.WritingParts.{final_text}
 use Rattle.certificate.proofs.ReadingLemmas.{body_text-append}
 
@@ -64,13 +64,14 @@ finals_text : (s : SystemData) (states : List ℕ) → lines_text s (map Final s
 finals_text s [] = refl
 finals_text s (q ∷ states) = ap (λ text. final_text q ++ text) (finals_text s states)
 
--- the pieces of the text of an automaton
-pub written_text-is : (s : SystemData) (m : Automaton)
-    → ((opening_text (length m.states) ++ flat_map final_text (final_states 0 m.states)) ++ lines_text s (edge_lines 0 m.states)) ++
-    (codes "end" ++ 10 ∷ [])
-    ≡ written_text s m
-written_text-is s m =
-    let opening = opening_text (length m.states) in
+-- the pieces of the text of an automaton under a first line
+pub automaton_text-is : (first : List ℕ) (s : SystemData) (m : Automaton)
+    → (((first ++ (10 ∷ codes "states " ++ decimal (length m.states) ++ 10 ∷ [])) ++ flat_map final_text (final_states 0 m.states))
+    ++ lines_text s (edge_lines 0 m.states)) ++ (codes "end" ++ 10 ∷ [])
+    ≡ automaton_text first s m
+automaton_text-is first s m =
+    let states : List ℕ = 10 ∷ codes "states " ++ decimal (length m.states) ++ 10 ∷ [] in
+    let opening : List ℕ = first ++ states in
     let finals = flat_map final_text (final_states 0 m.states) in
     let edges = lines_text s (edge_lines 0 m.states) in
     let end : List ℕ = codes "end" ++ 10 ∷ [] in
@@ -84,3 +85,5 @@ written_text-is s m =
     ap (λ text. text ++ end) (append_assoc opening finals edges)
     ∙ append_assoc opening (finals ++ edges) end
     ∙ ap (λ text. opening ++ text) (sym body)
+    ∙ append_assoc first states (body_text s (written_lines m))
+    ∙ sym (append_assoc first (10 ∷ []) ((codes "states " ++ decimal (length m.states) ++ 10 ∷ []) ++ body_text s (written_lines m)))

@@ -1,7 +1,7 @@
 -- The lines that are written of an automaton mean it.
 use Rattle.std.proofs.Common.{◌≡◌, ℕ, zero, suc, ◌+◌, ◌<◌, ◌≤◌, Bool, true, false, List, [], ◌∷◌, ◌++◌, Some, All, AllPairs, Contains}
 use Rattle.std.proofs.Common.{length, map}
-use Rattle.std.proofs.Common.{if◌then◌else◌, refl, ap, subst, ◌∙◌, arith, inl, inr}
+use Rattle.std.proofs.Common.{if◌then◌else◌, refl, sym, ap, subst, ◌∙◌, arith, inl, inr}
 use Rattle.std.specs.List.{AllByRecursion}
 use Rattle.std.proofs.lemmas.List.Elements.{All-nil, All-head, All-tail, All-append, All-map, All-weaker, All-contains}
 use Rattle.std.proofs.lemmas.List.Elements.{Contains-append_left, Contains-append_right, Contains-append_cases}
@@ -13,8 +13,9 @@ use Rattle.word_automata.proofs.Edges.{found_edge, edge_found}
 use Rattle.protocol_model.specs.System.{SystemData}
 use Rattle.protocol_model.specs.Words.{automata_letters}
 use Rattle.certificate.specs.declared.lines.Line.{Line}
-use Rattle.certificate.specs.declared.lines.Line.TheVariants.{Final, Edge}
-use Rattle.certificate.specs.SafeText.{IsInRange, AreNoTwoEdges, IsAutomatonOf, MeansAutomaton}
+use Rattle.certificate.specs.declared.lines.Line.TheVariants.{Final, Edge, Edges}
+use Rattle.certificate.specs.declared.version.Version.TheVariants.{One}
+use Rattle.certificate.specs.SafeText.{IsInRange, AreNoTwoEdges, IsAutomatonOf, MeansAutomaton, all_said}
 use Rattle.certificate.specs.Writing.{final_states, lines_from, edge_lines, written_lines, written_text}
 
 AllByRecursion-append : {X : Type 0} (P : X → Type 0) (xs ys : List X) → AllByRecursion P xs → AllByRecursion P ys
@@ -25,30 +26,30 @@ AllByRecursion-append P (x ∷ xs) ys h k = (h.0, AllByRecursion-append P xs ys 
 -- states, letters and targets are in range
 module _ (letters count : ℕ) where
   finals_in_range : (q : ℕ) (nodes : List (Node ℕ)) → q + length nodes ≤ count
-      → AllByRecursion (IsInRange letters count) (map Final (final_states q nodes))
+      → AllByRecursion (IsInRange One letters count) (map Final (final_states q nodes))
   finals_in_range q [] fits = tt
   finals_in_range q (node ∷ nodes) fits =
       by node.accepting (final_states (q + 1) nodes) (finals_in_range (q + 1) nodes (omega arith))
     where
-      by : (b : Bool) (rest : List ℕ) → AllByRecursion (IsInRange letters count) (map Final rest)
-          → AllByRecursion (IsInRange letters count) (map Final (if b then q ∷ rest else rest))
+      by : (b : Bool) (rest : List ℕ) → AllByRecursion (IsInRange One letters count) (map Final rest)
+          → AllByRecursion (IsInRange One letters count) (map Final (if b then q ∷ rest else rest))
       by true rest h = (omega arith, h)
       by false rest h = h
 
   from_in_range : (p : ℕ) (edges : List (ℕ × ℕ)) → p < count → All (λ edge. edge.0 < letters) edges → All (λ edge. edge.1 < count) edges
-      → AllByRecursion (IsInRange letters count) (lines_from p edges)
+      → AllByRecursion (IsInRange One letters count) (lines_from p edges)
   from_in_range p [] state h k = tt
   from_in_range p (edge ∷ edges) state h k = (
-    (state, All-head (λ edge. edge.0 < letters) edge edges h, All-head (λ edge. edge.1 < count) edge edges k),
+    (state, All-head (λ edge. edge.0 < letters) edge edges h, All-head (λ edge. edge.1 < count) edge edges k, tt),
     from_in_range p edges state (All-tail (λ edge. edge.0 < letters) edge edges h) (All-tail (λ edge. edge.1 < count) edge edges k),
   )
 
   edges_in_range : (q : ℕ) (nodes : List (Node ℕ)) → q + length nodes ≤ count
       → All (λ node. All (λ edge. edge.0 < letters) node.edges) nodes → All (λ node. All (λ edge. edge.1 < count) node.edges) nodes
-      → AllByRecursion (IsInRange letters count) (edge_lines q nodes)
+      → AllByRecursion (IsInRange One letters count) (edge_lines q nodes)
   edges_in_range q [] fits h k = tt
   edges_in_range q (node ∷ nodes) fits h k =
-      AllByRecursion-append (IsInRange letters count) (lines_from q node.edges) (edge_lines (q + 1) nodes)
+      AllByRecursion-append (IsInRange One letters count) (lines_from q node.edges) (edge_lines (q + 1) nodes)
       (from_in_range q node.edges (omega arith)
       (All-head (λ node. All (λ edge. edge.0 < letters) node.edges) node nodes h)
       (All-head (λ node. All (λ edge. edge.1 < count) node.edges) node nodes k))
@@ -60,6 +61,7 @@ module _ (letters count : ℕ) where
 abbrev IsFrom : ℕ → Line → Type 0
 IsFrom q (Final r) = ⊥
 IsFrom q (Edge p a r) = q ≤ p
+IsFrom q (Edges p r indices) = ⊥
 
 edges_from : (q low : ℕ) (nodes : List (Node ℕ)) → low ≤ q → All (IsFrom low) (edge_lines q nodes)
 edges_from q low [] le = All-nil (IsFrom low)
@@ -71,6 +73,7 @@ edges_from q low (node ∷ nodes) le =
 -- no two edges of the written lines have one source and one letter
 later_edge : (p a q : ℕ) (line : Line) → IsFrom (p + 1) line → AreNoTwoEdges (Edge p a q) line
 later_edge p a q (Final r) h = absurd h
+later_edge p a q (Edges p' r indices) h = absurd h
 later_edge p a q (Edge p' a' q') h = λ same_state same_letter. omega (arith, same_state, h)
 
 from_pairs : (p : ℕ) (edges : List (ℕ × ℕ)) (lines : List Line) → HasIncreasingLetters edges → All (IsFrom (p + 1)) lines
@@ -175,6 +178,13 @@ edges_are q (node ∷ nodes) sorted p a r among =
               (subst (Contains node.edges) (ap (λ x. (x, edge.1)) letter ∙ ap (λ y. (a, y)) to) among),
         )
 
+-- lines of version 1 say themselves
+all_said_themselves : (size count : ℕ) (lines : List Line) → AllByRecursion (IsInRange One size count) lines → all_said One lines ≡ lines
+all_said_themselves size count [] h = refl
+all_said_themselves size count (Final q ∷ lines) h = ap (λ rest. Final q ∷ rest) (all_said_themselves size count lines h.1)
+all_said_themselves size count (Edge p a q ∷ lines) h = ap (λ rest. Edge p a q ∷ rest) (all_said_themselves size count lines h.1)
+all_said_themselves size count (Edges p q indices ∷ lines) h = absurd h.0.4
+
 -- the automaton is that of its lines
 module _ (m : Automaton) (valid : IsValid m) where
   written_automaton : IsAutomatonOf m.letters (length m.states) (written_lines m) m
@@ -220,16 +230,25 @@ module _ (m : Automaton) (valid : IsValid m) where
 
   -- the text of an automaton means it
   pub written_means : (s : SystemData) → m.letters ≡ automata_letters s → length m.states ≤ 1000000 → MeansAutomaton s (written_text s m) m
-  written_means s letters limit = record {
-    count = length m.states;
-    lines = written_lines m;
-    spelled = refl;
-    limit = limit;
-    in_range =
-        subst (λ size. AllByRecursion (IsInRange size (length m.states)) (written_lines m)) letters
-        (AllByRecursion-append (IsInRange m.letters (length m.states)) (map Final (final_states 0 m.states)) (edge_lines 0 m.states)
-        (finals_in_range m.letters (length m.states) 0 m.states (omega arith))
-        (edges_in_range m.letters (length m.states) 0 m.states (omega arith) valid.letters_in_range valid.targets_in_range));
-    no_two_edges = final_pairs (final_states 0 m.states) (edge_lines 0 m.states) (edge_pairs 0 m.states valid.ordered);
-    automaton = subst (λ size. IsAutomatonOf size (length m.states) (written_lines m) m) letters written_automaton;
-  }
+  written_means s letters limit =
+      let in_range : AllByRecursion (IsInRange One (automata_letters s) (length m.states)) (written_lines m) =
+      subst (λ size. AllByRecursion (IsInRange One size (length m.states)) (written_lines m)) letters
+      (AllByRecursion-append (IsInRange One m.letters (length m.states)) (map Final (final_states 0 m.states)) (edge_lines 0 m.states)
+      (finals_in_range m.letters (length m.states) 0 m.states (omega arith))
+      (edges_in_range m.letters (length m.states) 0 m.states (omega arith) valid.letters_in_range valid.targets_in_range)) in
+      let same = all_said_themselves (automata_letters s) (length m.states) (written_lines m) in_range in
+      record {
+        version = One;
+        count = length m.states;
+        lines = written_lines m;
+        spelled = refl;
+        letters = record { in_alphabet = All-nil (λ a. a < automata_letters s); distinct = λ i j d less within. absurd (omega arith) };
+        limit = limit;
+        in_range = in_range;
+        no_two_edges =
+            subst (AllPairs AreNoTwoEdges) (sym same)
+            (final_pairs (final_states 0 m.states) (edge_lines 0 m.states) (edge_pairs 0 m.states valid.ordered));
+        automaton =
+            subst (λ lines. IsAutomatonOf (automata_letters s) (length m.states) lines m) (sym same)
+            (subst (λ size. IsAutomatonOf size (length m.states) (written_lines m) m) letters written_automaton);
+      }

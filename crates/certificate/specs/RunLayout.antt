@@ -2,7 +2,7 @@
 use Rattle.std.specs.Prelude.{◌≡◌, ◌==◌, ◌&&◌, ◌||◌, ℕ, Bool, List, [], ◌∷◌, ◌++◌, IsTrue, length, nat_lt, is_none, codes}
 use Rattle.std.specs.List.{AllByRecursion, list_all, join_by}
 use Rattle.protocol_lexer.specs.Piece.{is_word_byte}
-use Rattle.protocol_syntax.specs.Symbol.{keyword_of}
+use Rattle.forms.specs.Symbol.{keyword_of}
 use Rattle.protocol_model.specs.declared.system.Section.{Section}
 use Rattle.protocol_model.specs.System.{SystemData}
 use Rattle.protocol_model.specs.Patterns.{has_any_length}

@@ -5,7 +5,9 @@ use Rattle.word_automata.specs.Automaton.{Automaton}
 use Rattle.protocol_model.specs.System.{SystemData}
 use Rattle.certificate.specs.declared.lines.Line.{Line}
 use Rattle.certificate.specs.declared.lines.Line.TheVariants.{Final, Edge}
-use Rattle.certificate.specs.SafeText.{safe_text}
+use Rattle.protocol_model.specs.declared.system.Run.{Run}
+use Rattle.certificate.specs.SafeText.{line_text}
+use Rattle.certificate.specs.RunText.{start_line, step_line}
 
 -- the numbers of the accepting states, in their order; the first state has the number q
 abbrev pub final_states : ℕ → List (Node ℕ) → List ℕ
@@ -25,12 +27,26 @@ edge_lines q (node ∷ nodes) = lines_from q node.edges ++ edge_lines (q + 1) no
 abbrev pub written_lines : Automaton → List Line
 written_lines m = map Final (final_states 0 m.states) ++ edge_lines 0 m.states
 
+-- the text of an automaton under a first line
+abbrev pub automaton_text : List ℕ → SystemData → Automaton → List ℕ
+automaton_text first s m =
+    flat_map (λ line. line ++ 10 ∷ [])
+    (first ∷ ((codes "states " ++ decimal (length m.states)) ∷ (map (line_text s) (written_lines m) ++ codes "end" ∷ [])))
+
 -- the text of an automaton
 abbrev pub written_text : SystemData → Automaton → List ℕ
-written_text s m = safe_text s (length m.states) (written_lines m)
+written_text s m = automaton_text (codes "armc 1 safe") s m
 
--- the text of a search that reached its budget when so many states were counted
-abbrev pub unknown_text : ℕ → ℕ → List ℕ
-unknown_text counted budget =
+-- the text of a run under a first line
+abbrev pub run_text : List ℕ → SystemData → Run → List ℕ
+run_text first s run =
+    flat_map (λ line. line ++ 10 ∷ []) (first ∷ (start_line s run.first ∷ (map (step_line s) run.steps ++ codes "end" ∷ [])))
+
+-- the text of a search that reached its budget when so many states were counted, under a first line
+abbrev pub counted_text : List ℕ → ℕ → ℕ → List ℕ
+counted_text first counted budget =
     flat_map (λ line. line ++ 10 ∷ [])
-    (codes "armc 1 unknown" ∷ ((codes "counted " ++ decimal counted) ∷ ((codes "budget " ++ decimal budget) ∷ (codes "end" ∷ []))))
+    (first ∷ ((codes "counted " ++ decimal counted) ∷ ((codes "budget " ++ decimal budget) ∷ (codes "end" ∷ []))))
+
+abbrev pub unknown_text : ℕ → ℕ → List ℕ
+unknown_text counted budget = counted_text (codes "armc 1 unknown") counted budget

@@ -26,12 +26,12 @@ pub enum CertFault {
         /// The number of the line.
         line: u64,
     },
-    /// A state is not below the number of states.
+    /// A state is not below the number of states, or an index of a letter not below the number of letters that have lines.
     OutOfRange {
         /// The number of the line.
         line: u64,
     },
-    /// An earlier line has an edge with the same source and letter.
+    /// An edge has the source and letter of an earlier one, or an index stands twice in the line.
     TwoEdges {
         /// The number of the line.
         line: u64,
@@ -53,6 +53,11 @@ pub enum CertFault {
     },
     /// There is not enough memory.
     Memory,
+    /// An earlier line names the same letter.
+    TwoLetters {
+        /// The number of the line.
+        line: u64,
+    },
 }
 
 impl From<AllocError> for CertFault {

@@ -1,4 +1,5 @@
-//! The layout of the lines of a run, whatever names they show: a line is cut at its signs, in one pass over its bytes.
+//! The layout of the lines of a run, whatever names they show: a line is cut at its signs.
+//! It takes one pass over the bytes of the line.
 
 ghost use Rattle.std.specs.Prelude.{◌≡◌, ◌↔◌, ◌||◌, IsTrue};
 ghost use Rattle.certificate.specs.RunLayout.{is_name_of_any_length, IsLaidOut, IsStartLayout, IsStepLayout};

@@ -1,21 +1,28 @@
-//! The lines of the text of an automaton.
+//! The lines of the text of an automaton, of either version.
 //! A line is cut at its spaces, and its letter is looked up by its text; time is linear in the line.
 
 ghost use Rattle.std.specs.Prelude.{◌≡◌, ◌++◌, ◌∷◌, List, ℕ, IfOk, IfErr, OnErr, MatchOption, codes};
-ghost use Rattle.protocol_model.specs.System.{IsValid};
+ghost use Rattle.std.specs.Option.{option_map};
+ghost use Rattle.protocol_model.specs.System.{SystemData, IsValid};
 ghost use Rattle.protocol_model.specs.Words.{automata_letters};
 ghost use Rattle.certificate.specs.declared.lines.Line.{Line};
+ghost use Rattle.certificate.specs.declared.version.Version.{Version};
+ghost use Rattle.certificate.specs.declared.version.Version.TheVariants.{One};
 ghost use Rattle.certificate.specs.Bytes.{Lacks};
-ghost use Rattle.certificate.specs.NextLine.{HasLineFault, IsLetterFault};
+ghost use Rattle.certificate.specs.SafeText.{AreLettersOf, letters_of};
+ghost use Rattle.certificate.specs.NextLine.{HasLineFault, IsLetterFault, IsReadingOf, IsEdgesReading, AreValuesOf};
 ghost use Rattle.certificate.specs.Reading.{IsLineOf, IsNoLine, IsThreeFields};
 
 use crate::alphabet::Alphabet;
 use crate::bytes::{after_prefix, cut_at};
 use crate::names::is_letter;
 use crate::numbers::read_number;
+use crate::version::Version;
+use sequence::Sequence;
+use std::alloc::{AllocError, Global};
 
 /// A line after the number of states.
-#[derive(Clone, Copy, Debug)]
+#[derive(Debug, Drop)]
 pub enum Line {
     /// The state accepts.
     Final(usize),
@@ -28,6 +35,15 @@ pub enum Line {
         /// The state that it leads to.
         to: usize,
     },
+    /// From a state the letters with these indices lead to a state.
+    Edges {
+        /// The state that the edges leave.
+        from: usize,
+        /// The state that they lead to.
+        to: usize,
+        /// The indices of their letters.
+        indices: Sequence<u32>,
+    },
 }
 
 /// What is wrong with the bytes of a line.
@@ -39,40 +55,113 @@ pub enum LineFault {
     UnknownName,
 }
 
-/// The line with these bytes. A state that is past every limit is read as `BEYOND`.
-pub fn read_line(alphabet: &Alphabet, line: &[u8]) -> Result<Line, LineFault>
-    requires { IsValid alphabet.now }
-    ensures line { IfOk result (IsLineOf alphabet.now line.now) }
-    ensures refused { OnErr result (IsNoLine alphabet.now line.now) }
-    ensures fault { IfErr result (HasLineFault alphabet.now line.now) }
+/// The line with these bytes. A state or an index that is past every limit is read as `BEYOND`.
+pub fn read_line(
+    alloc: Global,
+    alphabet: &Alphabet,
+    version: &Version,
+    line: &[u8],
+) -> Result<Result<Line, LineFault>, AllocError>
+    requires valid { IsValid alphabet.now }
+    requires letters { AreLettersOf alphabet.now (letters_of version.now) }
+    ensures { IfOk result (IsReadingOf version.now alphabet.now line.now) }
 {
     if let Some(field) = after_prefix(line, b"final ") {
-        return match read_number(field) {
-            Some(state) => Ok(Line::Final(state)),
-            None => Err(LineFault::BadLine),
-        };
+        return Ok(read_final(field));
     }
-    match after_prefix(line, b"edge ") {
-        Some(fields) => read_edge(alphabet, fields),
+    let Some(fields) = after_prefix(line, b"edge ") else {
+        return Ok(Err(LineFault::BadLine));
+    };
+    match version {
+        Version::One => Ok(read_edge(alphabet, fields)),
+        Version::Two(_) => {
+            let reading = read_edges(alloc, fields)?;
+            match reading {
+                Some(edges) => Ok(Ok(edges)),
+                None => Ok(Err(LineFault::BadLine)),
+            }
+        }
+    }
+}
+
+/// The line of an accepting state with this field.
+fn read_final(field: &[u8]) -> Result<Line, LineFault>
+    ensures { (v : Version) (s : SystemData) → IsReadingOf v s (codes "final " ++ field.now) result }
+{
+    match read_number(field) {
+        Some(state) => Ok(Line::Final(state)),
         None => Err(LineFault::BadLine),
     }
 }
 
-/// The line of an edge with these fields: a state, a letter and a state, with one space between neighbours.
+/// The line of edges with these fields: two states, and indices of letters, with one space between neighbours.
+fn read_edges(alloc: Global, fields: &[u8]) -> Result<Option<Line>, AllocError>
+    ensures { IfOk result (IsEdgesReading fields.now) }
+{
+    let Some((from, to, indices)) = three_fields(fields) else {
+        return Ok(None);
+    };
+    let Some(source) = read_number(from) else {
+        return Ok(None);
+    };
+    let Some(target) = read_number(to) else {
+        return Ok(None);
+    };
+    let numbers = read_numbers(alloc, indices)?;
+    match numbers {
+        Some(indices) => Ok(Some(Line::Edges {
+            from: source,
+            to: target,
+            indices: Sequence::from_vec(indices),
+        })),
+        None => Ok(None),
+    }
+}
+
+/// The numbers of the text, with one space between neighbours; there is one at least. One that is `BEYOND` or more is read as `BEYOND`.
+fn read_numbers(alloc: Global, text: &[u8]) -> Result<Option<Vec<u32>>, AllocError>
+    ensures { IfOk result (λ found. AreValuesOf text.now (option_map (λ numbers. numbers.items) found)) }
+{
+    let mut numbers = Vec::new(alloc);
+    let mut rest = text;
+    'numbers: loop {
+        let Some((field, after)) = cut_at(rest, b' ') else {
+            let Some(number) = read_number(rest) else {
+                return Ok(None);
+            };
+            numbers.push(number as u32)?;
+            return Ok(Some(numbers));
+        };
+        let Some(number) = read_number(field) else {
+            return Ok(None);
+        };
+        numbers.push(number as u32)?;
+        rest = after;
+    }
+}
+
+/// The line of an edge that names its letter, with these fields: a state, a letter and a state, with one space between neighbours.
 fn read_edge(alphabet: &Alphabet, fields: &[u8]) -> Result<Line, LineFault>
     requires { IsValid alphabet.now }
-    ensures line { IfOk result (IsLineOf alphabet.now (codes "edge " ++ fields.now)) }
-    ensures refused { OnErr result (IsNoLine alphabet.now (codes "edge " ++ fields.now)) }
-    ensures fault { IfErr result (HasLineFault alphabet.now (codes "edge " ++ fields.now)) }
+    ensures line { IfOk result (IsLineOf One alphabet.now (codes "edge " ++ fields.now)) }
+    ensures refused { OnErr result (IsNoLine One alphabet.now (codes "edge " ++ fields.now)) }
+    ensures fault { IfErr result (HasLineFault One alphabet.now (codes "edge " ++ fields.now)) }
 {
     let Some((from, letter, to)) = three_fields(fields) else {
         return Err(LineFault::BadLine);
     };
-    let (Some(from), Some(to)) = (read_number(from), read_number(to)) else {
+    let Some(source) = read_number(from) else {
+        return Err(LineFault::BadLine);
+    };
+    let Some(target) = read_number(to) else {
         return Err(LineFault::BadLine);
     };
     match alphabet.letter(letter) {
-        Some(letter) => Ok(Line::Edge { from, letter, to }),
+        Some(letter) => Ok(Line::Edge {
+            from: source,
+            letter,
+            to: target,
+        }),
         None => Err(letter_fault(letter)),
     }
 }

@@ -1,10 +1,12 @@
-//! The text of a run, line after line: it costs what its bytes cost.
+//! The text of a run, line after line, under a first line that is given.
+//! It costs what its bytes cost.
 
 ghost use Rattle.std.specs.Prelude.{◌≡◌, ◌++◌, ◌∷◌, ◌<◌, [], All, IfOk, OnOk, IsTrue, length};
 ghost use Rattle.protocol_model.specs.Patterns.{fits};
 ghost use Rattle.configuration_words.specs.Texts.{configuration_text};
 ghost use Rattle.certificate.specs.RunText.{rule_name, step_line, IsRunOf, IsStepOf, MeansRun};
 ghost use Rattle.certificate.specs.RunFaults.{steps_text};
+ghost use Rattle.certificate.specs.Writing.{run_text};
 
 use configuration_words::configuration_text;
 use protocol_model::{Configuration, Run, System};
@@ -16,7 +18,23 @@ pub fn write_unsafe(alloc: Global, system: &System, run: &Run) -> Result<Vec<u8>
     requires { IsRunOf system.now run.now }
     ensures { IfOk result (λ text. MeansRun system.now text.items run.now) }
 {
-    let mut text = Vec::from_slice(alloc, b"armc 1 unsafe\nstart ")?;
+    let text = write_run(alloc, "armc 1 unsafe", system, run)?;
+    Ok(text)
+}
+
+/// The text of this run under a first line: its first configuration, and for each step the name of its rule and the configuration
+/// after it. The only error is that memory ran out.
+pub fn write_run(
+    alloc: Global,
+    first: &str,
+    system: &System,
+    run: &Run,
+) -> Result<Vec<u8>, AllocError>
+    requires { IsRunOf system.now run.now }
+    ensures { IfOk result (λ text. text.items ≡ run_text first.now system.now run.now) }
+{
+    let mut text = Vec::from_slice(alloc, first.as_bytes())?;
+    text.extend_from_slice(b"\nstart ")?;
     push_configuration(alloc, &mut text, system, &run.first)?;
     push_steps(alloc, &mut text, system, run.steps.as_slice())?;
     text.extend_from_slice(b"end\n")?;

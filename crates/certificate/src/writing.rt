@@ -8,7 +8,7 @@ ghost use Rattle.protocol_model.specs.Words.{automata_letters};
 ghost use Rattle.certificate.specs.declared.lines.Line.TheVariants.{Edge};
 ghost use Rattle.certificate.specs.SafeText.{line_text, MeansAutomaton};
 ghost use Rattle.certificate.specs.LineLayout.{lines_text};
-ghost use Rattle.certificate.specs.Writing.{final_states, lines_from, edge_lines, written_text, unknown_text};
+ghost use Rattle.certificate.specs.Writing.{final_states, lines_from, edge_lines, automaton_text, written_text, counted_text, unknown_text};
 ghost use Rattle.certificate.specs.WritingParts.{final_text};
 
 use crate::alphabet::Alphabet;
@@ -25,9 +25,25 @@ pub fn write_safe(alloc: Global, system: &System, proof: &Dfa) -> Result<Vec<u8>
     ensures text { IfOk result (λ text. text.items ≡ written_text system.now proof.now) }
     ensures meaning { IfOk result (λ text. MeansAutomaton system.now text.items proof.now) }
 {
+    let _states = proof.states();
+    let text = write_automaton(alloc, "armc 1 safe", system, proof)?;
+    Ok(text)
+}
+
+/// The text of this automaton under a first line: the number of states, the accepting states by increasing number, and the edges by
+/// source and letter.
+pub fn write_automaton(
+    alloc: Global,
+    first: &str,
+    system: &System,
+    proof: &Dfa,
+) -> Result<Vec<u8>, AllocError>
+    requires { proof.now.letters ≡ automata_letters system.now }
+    ensures { IfOk result (λ text. text.items ≡ automaton_text first.now system.now proof.now) }
+{
     let alphabet = Alphabet::new(alloc, system)?;
     let count = proof.states();
-    let mut text = format!(in alloc; "armc 1 safe\nstates {count}\n")?.into_bytes();
+    let mut text = format!(in alloc; "{first}\nstates {count}\n")?.into_bytes();
     push_final_states(&mut text, proof)?;
     push_edges(&mut text, &alphabet, proof)?;
     text.extend_from_slice(b"end\n")?;
@@ -38,7 +54,19 @@ pub fn write_safe(alloc: Global, system: &System, proof: &Dfa) -> Result<Vec<u8>
 pub fn write_unknown(alloc: Global, counted: u64, budget: u64) -> Result<Vec<u8>, AllocError>
     ensures { IfOk result (λ text. text.items ≡ unknown_text counted budget) }
 {
-    let text = format!(in alloc; "armc 1 unknown\ncounted {counted}\nbudget {budget}\nend\n")?;
+    write_counted(alloc, "armc 1 unknown", counted, budget)
+}
+
+/// The text of a search that reached its budget when so many states were counted, under a first line.
+pub fn write_counted(
+    alloc: Global,
+    first: &str,
+    counted: u64,
+    budget: u64,
+) -> Result<Vec<u8>, AllocError>
+    ensures { IfOk result (λ text. text.items ≡ counted_text first.now counted budget) }
+{
+    let text = format!(in alloc; "{first}\ncounted {counted}\nbudget {budget}\nend\n")?;
     Ok(text.into_bytes())
 }
 

@@ -32,6 +32,7 @@ returns-in-Some-read_number c = (
     λ is. other_text c.in-Some-cut_at.version.now c.as_slice.result.now c.if-eq.ensures (is ∙ sym c.as_slice.ensures),
     c.is_kind.ensures.0 e,
     c.in-Some.ensures ∙ ap (λ fields. codes "armc " ++ fields) c.in-Some-cut_at.ensures.joined,
+    c.requires,
   ),
   λ h.
       let same = other_version_unique c.args.line.now c.in-Some.fields.now c.in-Some-cut_at.version.now c.in-Some-cut_at.kind.now

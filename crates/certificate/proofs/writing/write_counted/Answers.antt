@@ -1,6 +1,6 @@
 use Rattle.std.proofs.Common.{[], ◌∷◌, ◌++◌, codes, decimal, sym, ap, ◌∙◌}
 use Rattle.std.proofs.lemmas.List.{append_assoc}
-use Rattle.certificate.proofs.writing.write_unknown.Goals as goal
+use Rattle.certificate.proofs.writing.write_counted.Goals as goal
 
 pub returns : goal.returns
 returns c =
@@ -9,6 +9,7 @@ returns c =
     let end = codes "end" ++ 10 ∷ [] in
     ap (λ text. text.items) c.into_bytes.ensures.value
     ∙ c.in_ok-text.ensures.ok
-    ∙ sym (ap (λ rest. codes "armc 1 unknown" ++ 10 ∷ codes "counted " ++ rest)
+    ∙ sym (append_assoc c.args.first.now (10 ∷ []) (codes "counted " ++ (counted ++ 10 ∷ []) ++ (codes "budget " ++ (budget ++ 10 ∷ []) ++ end))
+    ∙ ap (λ rest. c.args.first.now ++ (10 ∷ codes "counted " ++ rest))
     (append_assoc counted (10 ∷ []) (codes "budget " ++ (budget ++ 10 ∷ []) ++ end)
     ∙ ap (λ rest. counted ++ (10 ∷ codes "budget " ++ rest)) (append_assoc budget (10 ∷ []) end)))
