@@ -1,4 +1,4 @@
-# make; make install PREFIX=$HOME/.local; make uninstall PREFIX=$HOME/.local (README.md, Build it)
+# make; make install PREFIX=$HOME/.local; make uninstall PREFIX=$HOME/.local (README.md, Build it); make dist; make deb (docs/TOOLS.md, A release)
 PREFIX = /usr/local
 build:
 	tools/build-program
@@ -6,4 +6,8 @@ install:
 	./install $(PREFIX)
 uninstall:
 	./install --uninstall $(PREFIX)
-.PHONY: build install uninstall
+dist:
+	tools/make-release dist
+deb:
+	tools/make-release deb
+.PHONY: build install uninstall dist deb

@@ -31,3 +31,29 @@ _armc() {
   mapfile -t COMPREPLY < <(compgen -W "$words" -- "$word")
 }
 complete -F _armc armc ./armc
+
+# The tools: their options, the values of some, and files.
+_armc_tools() {
+  local word=${COMP_WORDS[COMP_CWORD]} before=${COMP_WORDS[COMP_CWORD-1]} words=''
+  COMPREPLY=()
+  case ${1##*/}:$before in
+    *:--method) words='predicates length' ;;
+    *:--start) words='bad none' ;;
+    *)
+      case ${1##*/}:$word in
+        armc-portfolio:-*) words='--seconds --memory --jobs --budget --one-order --reordered --program --help' ;;
+        armc-coverage:-*) words='--budget --jobs --method --show --program --help' ;;
+        armc-explain:-*) words='--method --start --budget --width --svg --html --plain --configurations --program --help' ;;
+        armc-walk:-*) words='--random --seed --letters --program --help' ;;
+        armc-check-folder:-*) words='--program --budget --seconds --jobs --junit --help' ;;
+        *)
+          mapfile -t COMPREPLY < <(compgen -f -- "$word")
+          compopt -o filenames 2>/dev/null
+          return
+          ;;
+      esac
+      ;;
+  esac
+  mapfile -t COMPREPLY < <(compgen -W "$words" -- "$word")
+}
+complete -F _armc_tools armc-portfolio armc-coverage armc-explain armc-walk armc-check-folder

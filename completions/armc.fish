@@ -13,3 +13,30 @@ complete -c armc -n "__fish_seen_subcommand_from check" -l bound -x -a '0 1 2 4 
 complete -c armc -n "__fish_seen_subcommand_from check" -l budget -x -a '1000 10000 100000 1000000' -d 'states at which the search ends'
 complete -c armc -n "__fish_seen_subcommand_from check" -l report -d 'print the report of the search on standard error'
 complete -c armc -n "__fish_seen_subcommand_from check gen" -l workers -x -a '1 2 4 8 16' -d 'threads, 1 to 16'
+
+# The tools.
+for option in 'seconds:the time for all of it' 'memory:megabytes for each search' 'jobs:searches at once' 'budget:one budget for all' 'reordered:where a protocol in another order is written'
+    complete -c armc-portfolio -l (string split -m1 : $option)[1] -r -d (string split -m1 : $option)[2]
+end
+complete -c armc-portfolio -l one-order -d 'leave the sections in their order'
+for option in 'budget:the budget of each search' 'jobs:searches at once' 'show:print the certificate of a letter or a rule'
+    complete -c armc-coverage -l (string split -m1 : $option)[1] -r -d (string split -m1 : $option)[2]
+end
+for option in 'budget:of the search' 'width:the longest expression' 'svg:draw into a file' 'html:write a page'
+    complete -c armc-explain -l (string split -m1 : $option)[1] -r -d (string split -m1 : $option)[2]
+end
+complete -c armc-explain -l start -x -a 'bad none' -d 'of the search'
+complete -c armc-explain -l plain -d 'draw without Graphviz'
+complete -c armc-explain -l configurations -d 'draw the automaton of the configurations alone'
+for tool in armc-coverage armc-explain
+    complete -c $tool -l method -x -a 'predicates length' -d 'of the search'
+end
+for option in 'random:so many random steps' 'seed:of the random steps' 'letters:begin with so many letters'
+    complete -c armc-walk -l (string split -m1 : $option)[1] -r -d (string split -m1 : $option)[2]
+end
+for option in 'budget:the budget of each search' 'seconds:the time of each search' 'jobs:searches at once' 'junit:write a report of JUnit'
+    complete -c armc-check-folder -l (string split -m1 : $option)[1] -r -d (string split -m1 : $option)[2]
+end
+for tool in armc-portfolio armc-coverage armc-explain armc-walk armc-check-folder
+    complete -c $tool -l program -r -d 'the program armc'
+end

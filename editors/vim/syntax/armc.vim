@@ -29,6 +29,7 @@ syntax match armcBadByte /[^[:alnum:]_{}:;*+# \t\r-]/
 syntax match armcBadByte /->\@!/
 syntax match armcComment /#.*$/ contains=armcExpect,@Spell
 syntax match armcExpect /# expect: \zs\%(safe\|unsafe\|unknown\)\s*$/ contained
+syntax match armcExpect /# \%(options\|never\): \zs.*$/ contained
 
 highlight default link armcDeclaration Keyword
 highlight default link armcDeclared Identifier

@@ -1,0 +1,97 @@
+"""Languages of finite automata, each as its smallest automaton, so that two are equal exactly where their values are.
+
+A language is a tuple of states, state 0 the start: whether it accepts, and its edges as pairs of a letter and a state, by letter. The empty
+language is the empty tuple. All states are reached and reach an end; the states are numbered in the order in which a walk by letters meets them.
+"""
+import collections
+
+NONE = ()
+
+
+def language(start, step, accepts):
+    """The language of an automaton given by its start, the edges `step(state)` as pairs of a letter and a state, and which states accept."""
+    names, moves = {start: 0}, []
+    waiting = collections.deque([start])
+    while waiting:
+        state = waiting.popleft()
+        moves.append(sorted((letter, target) for letter, target in step(state)))
+        for _, target in moves[-1]:
+            if target not in names:
+                names[target] = len(names)
+                waiting.append(target)
+    order = list(names)
+    numbered = [{letter: names[target] for letter, target in edges} for edges in moves]
+    return minimal(numbered, {k for k, state in enumerate(order) if accepts(state)})
+
+
+def minimal(moves, finals):
+    """The smallest automaton: states that reach no end are left out, and classes are refined until no letter tells two states of one apart."""
+    live = set(finals)
+    while more := {k for k, edges in enumerate(moves) if k not in live and live.intersection(edges.values())}:
+        live |= more
+    if 0 not in live:
+        return NONE
+    classes, count = {k: int(k in finals) for k in live}, 0
+    while count != len(set(classes.values())):
+        count = len(set(classes.values()))
+        keys = {k: (classes[k], tuple(sorted((letter, classes[t]) for letter, t in moves[k].items() if t in live))) for k in live}
+        numbers = {key: number for number, key in enumerate(sorted(set(keys.values())))}
+        classes = {k: numbers[keys[k]] for k in live}
+    edges = {classes[k]: {letter: classes[t] for letter, t in moves[k].items() if t in live} for k in live}
+    return renumbered(edges, classes[0], {classes[k] for k in finals if k in live})
+
+
+def renumbered(edges, start, finals):
+    order, at = [start], 0
+    while at < len(order):
+        order += [t for _, t in sorted(edges[order[at]].items()) if t not in order]
+        order, at = list(dict.fromkeys(order)), at + 1
+    place = {state: k for k, state in enumerate(order)}
+    return tuple((state in finals, tuple((letter, place[t]) for letter, t in sorted(edges[state].items()))) for state in order)
+
+
+def union(one, two):
+    """The words of either."""
+    def step(pair):
+        moves = [dict(each[k][1]) if k is not None else {} for each, k in zip((one, two), pair)]
+        return [(letter, (moves[0].get(letter), moves[1].get(letter))) for letter in {**moves[0], **moves[1]}]
+    start = tuple(0 if each else None for each in (one, two))
+    return language(start, step, lambda pair: any(k is not None and each[k][0] for each, k in zip((one, two), pair)))
+
+
+def is_commutative(words):
+    """Whether the order of the letters has no part in it: each two letters lead from each state to the same state in either order."""
+    moves = [dict(edges) for _, edges in words]
+    letters = sorted({letter for edges in moves for letter in edges})
+
+    def by(state, *path):
+        for letter in path:
+            state = moves[state].get(letter) if state is not None else None
+        return state
+    return all(by(k, a, b) == by(k, b, a) for k in range(len(words)) for a in letters for b in letters if a < b)
+
+
+def counts(words, letter, most=2):
+    """How often the letter can stand in a word: the numbers below `most`, and `most` for as often or more."""
+    found, waiting, ends = {(0, 0)}, [(0, 0)], set()
+    while waiting:
+        state, count = waiting.pop()
+        if words[state][0]:
+            ends.add(count)
+        for each, target in words[state][1]:
+            after = (target, min(most, count + (each == letter)))
+            if after not in found:
+                found.add(after)
+                waiting.append(after)
+    return frozenset(ends)
+
+
+def with_counts(allowed, most=2):
+    """The words over the letters of `allowed` in which each stands as often as it says, by a set of counts for each letter."""
+    limited = sorted(letter for letter, often in allowed.items() if len(often) <= most)
+
+    def step(state):
+        found = {letter: state for letter in allowed}
+        found.update({letter: state[:k] + (min(most, state[k] + 1),) + state[k + 1:] for k, letter in enumerate(limited)})
+        return list(found.items())
+    return language((0,) * len(limited), step, lambda state: all(count in allowed[letter] for count, letter in zip(state, limited)))

@@ -1,0 +1,211 @@
+"""The program armc as the tools call it: where it is, which commands it has, one call of it, and how a tool ends.
+
+Every verdict that a tool shows is one of this program: the tools read what it prints, and put questions to it.
+"""
+import argparse
+import collections
+import functools
+import os
+import re
+import resource
+import signal
+import subprocess
+import sys
+import tempfile
+
+HERE = os.path.dirname(os.path.abspath(__file__))
+# The folder of the tools: `tools` of the repository, or `share/armc/tools` where they are installed.
+TOOLS = os.path.dirname(HERE)
+ANSWERS = ("safe", "unsafe", "unknown")
+SAFE, UNSAFE, UNKNOWN, USAGE, READ, PROTOCOL, CERTIFICATE, NOT_VALID, WRITE, MEMORY = range(10)
+NOT_RUN, INTERRUPTED = 126, 130
+
+Ended = collections.namedtuple("Ended", "status out err")
+
+
+class Refused(Exception):
+    """A tool ends with this status, and with this text on standard error."""
+
+    def __init__(self, status, text):
+        super().__init__(text)
+        self.status, self.text = status, text
+
+
+def default_program():
+    """The launcher of the repository, the program that is installed beside the tools, or the one on the path."""
+    for place in (os.path.join(TOOLS, "..", "armc"), os.path.join(TOOLS, "..", "..", "..", "bin", "armc")):
+        if os.path.isfile(place) and os.access(place, os.X_OK):
+            return os.path.abspath(place)
+    return "armc"
+
+
+class Program:
+    """The program at a path, and the commands that its usage line names."""
+
+    def __init__(self, path):
+        self.path, self.running = path, set()
+        here = os.path.dirname(os.path.abspath(path)) if os.sep in path else ""
+        if here and os.path.exists(os.path.join(here, "tools", "build-program")):
+            # The launcher builds the program where it has to, and says how far it is.
+            texts = [os.path.join(here, "examples", name) for name in ("first.armc", "first.cert")]
+            if subprocess.run([path, "verify", *texts], stdin=subprocess.DEVNULL, stdout=subprocess.DEVNULL).returncode:
+                raise Refused(NOT_RUN, f"{path} does not run")
+        told = self.call().err
+        found = re.search(r"^armc: usage: (.*)$", told, re.M)
+        if not found:
+            raise Refused(NOT_RUN, f"{path} does not answer as armc: {told.strip().splitlines()[-1:] or 'it says nothing'}")
+        self.commands = {each.split()[0]: each for each in found[1].split("; ")}
+        # The launcher has built the program by now, and a call of the program itself is quicker.
+        built = os.path.join(here, "crates", "armc", "out", "armc")
+        if here and os.access(built, os.X_OK) and not os.environ.get("ARMC_TRY"):
+            self.path = built
+
+    def has(self, command, option=""):
+        return command in self.commands and option in self.commands[command]
+
+    def call(self, *words, memory=None):
+        """Status, standard output and standard error of one call, with at most so many bytes of memory."""
+        try:
+            process = subprocess.Popen([self.path, *words], stdin=subprocess.DEVNULL, stdout=subprocess.PIPE, stderr=subprocess.PIPE, preexec_fn=limited(memory))
+        except OSError as fault:
+            raise Refused(NOT_RUN, f"{self.path} does not run: {fault.strerror}") from None
+        self.running.add(process)
+        try:
+            out, err = process.communicate()
+        finally:
+            process.kill()
+            process.wait()
+            self.running.discard(process)
+        return Ended(process.returncode, out.decode("utf-8", "replace"), err.decode("utf-8", "replace"))
+
+    def stop(self):
+        """Ends the calls that other threads have made."""
+        for process in list(self.running):
+            process.kill()
+
+    def asked(self, *words):
+        """What a call with status 0 prints; any other status ends the tool with what the program says."""
+        ended = self.call(*words)
+        if ended.status:
+            raise Refused(ended.status if ended.status > 0 else NOT_RUN, (ended.err or ended.out).strip() or f"armc ended with {ended.status}")
+        return ended.out
+
+    def judged(self, protocol, certificate):
+        """What `verify` says of a certificate: 'valid', or the line that refuses it. Both are texts."""
+        with Kept({"protocol.armc": protocol, "certificate": certificate}) as kept:
+            ended = self.call("verify", kept.path("protocol.armc"), kept.path("certificate"))
+        return (ended.out or ended.err).strip()
+
+
+def limited(memory):
+    """What a started process does first: it takes its limit of memory."""
+    return functools.partial(resource.setrlimit, resource.RLIMIT_AS, (memory, memory)) if memory else None
+
+
+class Kept:
+    """A folder of texts for the program, which is taken away at the end."""
+
+    def __init__(self, texts):
+        self.folder = tempfile.TemporaryDirectory(prefix="armc-")
+        for name, text in texts.items():
+            self.put(name, text)
+
+    def path(self, name):
+        return os.path.join(self.folder.name, name)
+
+    def put(self, name, text):
+        with open(self.path(name), "w", encoding="utf-8", errors="replace") as file:
+            file.write(text)
+        return self.path(name)
+
+    def __enter__(self):
+        return self
+
+    def __exit__(self, *_):
+        self.folder.cleanup()
+
+
+def read_text(name):
+    """The text of a file, or of standard input where the name is -."""
+    try:
+        if name == "-":
+            return sys.stdin.buffer.read().decode("utf-8", "replace")
+        with open(name, "rb") as file:
+            return file.read().decode("utf-8", "replace")
+    except OSError:
+        raise Refused(READ, f"read fault: {name}") from None
+
+
+def canonical(program, name):
+    """The canonical text of the protocol in a file, by `show`; a refused protocol ends the tool with the program's words and status."""
+    if name != "-":
+        return program.asked("show", name)
+    with Kept({"protocol.armc": read_text("-")}) as kept:
+        return program.asked("show", kept.path("protocol.armc"))
+
+
+class Words(argparse.ArgumentParser):
+    """The words of a tool. Words that mean nothing end it with status 3, as they end the program."""
+
+    def __init__(self, description):
+        super().__init__(description=description, allow_abbrev=False)
+        self.add_argument("--program", default=default_program(), help="the program armc (the one that these tools belong to)")
+
+    def parse_args(self, *words):
+        """The words; a file whose name begins with - is named so that no program takes it for an option."""
+        given = super().parse_args(*words)
+        if given.file.startswith("-") and given.file != "-":
+            given.file = os.path.join(os.curdir, given.file)
+        return given
+
+    def error(self, message):
+        self.exit(USAGE, f"{self.prog}: {message}; {' '.join(self.format_usage().split())}\n")
+
+
+def number(least, most=10**9):
+    """The type of a number within a range."""
+    def read(word):
+        if not (word.isascii() and word.isdigit() and least <= int(word) <= most):
+            raise argparse.ArgumentTypeError(f"'{word}' is no number from {least} to {most}")
+        return int(word)
+    return read
+
+
+def write_file(path, text):
+    try:
+        with open(path, "w", encoding="utf-8") as file:
+            file.write(text)
+    except OSError as fault:
+        raise Refused(WRITE, f"{path} cannot be written: {fault.strerror}") from None
+
+
+def closed():
+    """Standard output fails no more: what is left of the text goes nowhere."""
+    os.dup2(os.open(os.devnull, os.O_WRONLY), 1)
+    return WRITE
+
+
+def interrupted(*_):
+    raise KeyboardInterrupt
+
+
+def run_tool(main):
+    """Runs the tool and ends with its status: 8 where standard output takes no more, 130 after an interrupt, which a signal to end is too."""
+    name = os.path.basename(sys.argv[0])
+    for number in (signal.SIGINT, signal.SIGTERM, signal.SIGHUP):
+        signal.signal(number, interrupted)
+    try:
+        try:
+            status = main()
+        except Refused as refused:
+            text = refused.text if refused.text.startswith("armc: ") else f"{name}: {refused.text}"
+            sys.stdout.flush()
+            print(text, file=sys.stderr)
+            status = refused.status
+        except KeyboardInterrupt:
+            print(f"\n{name}: interrupted", file=sys.stderr)
+            status = INTERRUPTED
+        sys.stdout.flush()
+    except OSError:
+        status = closed()
+    sys.exit(status)
