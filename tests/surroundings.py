@@ -154,37 +154,38 @@ def launcher_interrupted():
 
 
 def installed():
-    """install puts the program, its pages and its completions under a prefix, and takes all of them away."""
+    """install puts what tools/install-list names under a prefix, and takes all of it away."""
     with tempfile.TemporaryDirectory() as folder:
         tree, prefix = Tree(folder), os.path.join(folder, "prefix")
         found = tree.call(prefix, program="install")
         files = sorted(os.path.relpath(os.path.join(at, name), prefix) for at, _, names in os.walk(prefix) for name in names)
-        wanted = ["bin/armc", "share/armc/installed", "share/bash-completion/completions/armc", "share/fish/vendor_completions.d/armc.fish"]
-        wanted += ["share/man/man1/armc.1", "share/man/man5/armc-protocol.5", "share/zsh/site-functions/_armc"]
+        wanted = sorted(["share/armc/installed", *(line.split()[2] for line in read("tools", "install-list").splitlines())])
         wrong = [] if found["status"] == 0 and files == wanted else [f"installing: {found}, {files}"]
         if shutil.which("mandoc"):
             wrong += lint_pages(os.path.join(prefix, "share", "man"))
         found = tree.call("--uninstall", prefix, program="install")
-        left = [name for _, _, names in os.walk(prefix) for name in names]
+        left = [name for _, _, names in os.walk(prefix) for name in names] + glob.glob(os.path.join(prefix, "share", "armc"))
         wrong += [] if found["status"] == 0 and not left else [f"taking away: {found}, {left}"]
         found = tree.call("--uninstall", prefix, program="install")
         return wrong + ([] if found["status"] == 1 and "nothing of armc is installed" in found["stderr"] else [f"taking away twice: {found}"])
 
 
 def lint_pages(folder):
-    """What mandoc finds in the manual pages below a folder. Each names the other one, which mandoc looks for in the folders of the system."""
+    """What mandoc finds in the manual pages below a folder. They name each other, which mandoc looks for in the folders of the system,
+    and where others name the system they name the program with its version."""
     pages = sorted(glob.glob(os.path.join(folder, "man*", "*")))
     found = run(["mandoc", "-Tlint", *pages])
-    lines = [line for line in (found.stdout + found.stderr).splitlines() if "referenced manual not found: Xr armc" not in line]
-    return lines + ([] if len(pages) == 2 else [f"the pages are {pages}"])
+    told = ("referenced manual not found: Xr armc", "operating system explicitly specified: Os armc")
+    lines = [line for line in (found.stdout + found.stderr).splitlines() if not any(each in line for each in told)]
+    return lines + ([] if len(pages) == 3 else [f"the pages are {pages}"])
 
 
 def manual_pages():
     if not shutil.which("mandoc"):
         return "mandoc is not there"
     with tempfile.TemporaryDirectory() as folder:
-        for name in ("armc.1", "armc-protocol.5"):
-            os.makedirs(os.path.join(folder, f"man{name[-1]}"))
+        for name in os.listdir(os.path.join(TOP, "man")):
+            os.makedirs(os.path.join(folder, f"man{name[-1]}"), exist_ok=True)
             shutil.copy(os.path.join(TOP, "man", name), os.path.join(folder, f"man{name[-1]}"))
         return lint_pages(folder)
 
@@ -208,6 +209,30 @@ def completions_of_bash():
     wanted = [COMMANDS, OPTIONS, "predicates length", "--workers", files]
     told = found.stdout.split("\n")[:-1]
     return found.stderr.splitlines() + ([f"it answers {told}"] if len(told) != len(wanted) else sum(map(wrong_words, ["bash"] * 5, told, wanted), []))
+
+
+def offered_for(tool):
+    """The options that each shell that is there offers for a tool."""
+    ask = f'source completions/armc.bash; COMP_WORDS=({tool} --); COMP_CWORD=1; _armc_tools {tool}; echo "${{COMPREPLY[*]}}"'
+    yield "bash", run(["bash", "-c", ask], cwd=TOP).stdout
+    if shutil.which("zsh"):
+        ask = f'_arguments() {{ print -l -- "$@" }}; words=({tool} --); CURRENT=2; service={tool}; source completions/_armc_tools'
+        yield "zsh", " ".join(["--help", *re.findall(r"^--[\w-]+", run(["zsh", "-fc", ask], cwd=TOP).stdout, re.M)])
+    if shutil.which("fish"):
+        told = run(["fish", "--no-config", "-c", f"source completions/armc.fish; complete -C '{tool} --'"], cwd=TOP).stdout
+        yield "fish", " ".join(["--help", *(line.split("\t")[0] for line in told.splitlines())])
+
+
+def completions_of_tools():
+    """The options that the shells offer for each tool are those of its help, and the manual page names them all."""
+    wrong, page = [], read("man", "armc-tools.1").replace("Fl -", "--")
+    for tool in ("armc-portfolio", "armc-coverage", "armc-explain", "armc-walk", "armc-check-folder"):
+        told = run([sys.executable, os.path.join(TOP, "tools", tool.replace("armc-check", "check")), "--help"]).stdout
+        options = set(re.findall(r"(?<![\w-])--[\w-]+", told))
+        for shell, offered in offered_for(tool):
+            wrong += wrong_words(f"{shell}, for {tool},", offered, " ".join(options))
+        wrong += [f"the manual page does not name {option} of {tool}" for option in options if option not in page]
+    return wrong
 
 
 def completions_of_zsh():
@@ -399,11 +424,11 @@ def pages_for_newcomers():
     for path in protocols():
         with open(path, encoding="ascii") as file:
             shown.add("".join(line for line in file if not line.startswith("#")))
-    for page in ("TUTORIAL.md", "MODELLING.md", "CI.md"):
+    for page in ("TUTORIAL.md", "MODELLING.md", "CI.md", "TOOLS.md", "HARD.md", "GALLERY.md"):
         text = read("docs", page)
         for block in re.findall(r"^```\n(protocol .*?)^```$", text, re.M | re.S):
             wrong += [] if block in shown else [f"{page}: {block.splitlines()[0]} is in no file of examples"]
-        lines = re.findall(r"^(?:init|rule|bad) .*$", "".join(re.findall(r"^```\n(.*?)^```$", text, re.M | re.S)), re.M)
+        lines = re.findall(r"^(?:init|rule|bad) .*\{.*$", "".join(re.findall(r"^```\n(.*?)^```$", text, re.M | re.S)), re.M)
         wrong += [f"{page}: no file of examples has the line {line}" for line in lines if not any(line in each for each in shown)]
         for path in re.findall(r"`((?:examples|docs|tools|tests)/[\w/.-]+)", text):
             wrong += [] if os.path.exists(os.path.join(TOP, path)) or "NAME" in path else [f"{page}: {path} is not there"]
@@ -424,6 +449,7 @@ def checks(program):
     yield "install", installed()
     yield "manual pages", manual_pages()
     yield "completions of bash", completions_of_bash()
+    yield "completions of the tools", completions_of_tools()
     yield "completions of zsh", completions_of_zsh()
     yield "completions of fish", completions_of_fish()
     yield "syntax file of Vim", syntax_of_vim()

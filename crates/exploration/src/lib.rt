@@ -9,10 +9,12 @@ mod construction;
 mod found_states;
 mod language_system;
 mod place_table;
+mod state_list;
 mod stepwise;
 mod transition_system;
 
 pub use construction::{explore, explore_languages};
 pub use found_states::FoundStates;
 pub use language_system::LanguageSystem;
+pub use state_list::StateList;
 pub use transition_system::TransitionSystem;

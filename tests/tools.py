@@ -1,0 +1,461 @@
+"""What the tools beside the program do: armc-walk, armc-portfolio, armc-coverage, armc-explain, armc-check-folder, and the release. Each check is a
+pair of a name and a list of lines that say what is wrong, or a word that says why it was skipped. Usage: tests/tools.py PROGRAM
+"""
+import glob
+import itertools
+import json
+import os
+import pty
+import re
+import shutil
+import signal
+import subprocess
+import sys
+import tarfile
+import tempfile
+import time
+import xml.etree.ElementTree as xml
+
+sys.dont_write_bytecode = True
+TOP = os.path.dirname(os.path.dirname(os.path.abspath(__file__)))
+TOOLS = os.path.join(TOP, "tools")
+sys.path.insert(0, TOOLS)
+import definitions  # noqa: E402, beside this file
+from armc_tools import automata, drawing, expressions, proofs  # noqa: E402
+from armc_tools.certificate import read_certificate  # noqa: E402
+from armc_tools.protocol import Protocol  # noqa: E402
+
+SECONDS = 120
+DEAD = "protocol dead\narray P { a b c }\ninit { P: a*; }\nrule go { P: at a -> b; }\nrule on { P: at c -> c; }\nbad { P: any* c any*; }\n"
+# Two counters that have to be compared: no proof with the first letters unknown, and a budget of 1000 is soon reached.
+ENDLESS = ["examples", "tutorial", "equal_counters.armc"]
+
+
+def example(*parts):
+    return os.path.join(TOP, "examples", *parts)
+
+
+def read(path):
+    with open(path, encoding="utf-8") as file:
+        return file.read()
+
+
+def call(program, tool, *words, text="", **how):
+    """Status, standard output and standard error of a tool."""
+    how = {"capture_output": True, "text": True, "timeout": SECONDS, "input": text, **how}
+    return subprocess.run([sys.executable, os.path.join(TOOLS, tool), "--program", program, *words], **how)
+
+
+def differs(what, found, wanted):
+    return [] if found == wanted else [f"{what}: {str(found)[:300]!r}, and must be {str(wanted)[:300]!r}"]
+
+
+def judged(program, protocol, certificate):
+    """Whether `verify` judges the text valid for the protocol in a file."""
+    found = subprocess.run([program, "verify", protocol, "-"], input=certificate, capture_output=True, text=True, timeout=SECONDS)
+    return found.stdout == "valid\n"
+
+
+def on_terminal(words, typed=b""):
+    """What a terminal shows of the words, and their status."""
+    process, screen = pty.fork()
+    if process == 0:
+        os.execv(words[0], words)
+    os.write(screen, typed)
+    shown = b""
+    try:
+        while piece := os.read(screen, 1 << 16):
+            shown += piece
+    except OSError:
+        pass
+    return shown.decode(), os.waitstatus_to_exitcode(os.waitpid(process, 0)[1])
+
+
+def faults(program):
+    """What each tool does with words that mean nothing, a missing file, a refused protocol, a program that is none, and a full device."""
+    wrong = []
+    with tempfile.TemporaryDirectory() as folder:
+        refused = os.path.join(folder, "refused.armc")
+        with open(refused, "w") as file:
+            file.write("protocol p\narray P { a a }\n")
+        for tool in ("armc-walk", "armc-portfolio", "armc-coverage", "armc-explain"):
+            nothing = ["--random", "1"] if tool == "armc-walk" else []
+            for words, status, said in (
+                ([], 3, "usage: "),
+                (["--no-such", "f"], 3, "usage: "),
+                ([os.path.join(folder, "nowhere")], 4, "armc: read fault: "),
+                ([refused], 5, "armc: protocol: line 2 column 13: duplicate a\n"),
+            ):
+                found = call(program, tool, *words)
+                if (found.returncode, found.stdout) != (status, "") or said not in found.stderr or "Traceback" in found.stderr:
+                    wrong.append(f"{tool} {words}: {found.returncode}, {found.stdout!r}, {found.stderr!r}")
+            found = call("/bin/true", tool, *nothing, example("first.armc"))
+            wrong += differs(f"{tool} with another program", (found.returncode, "does not answer as armc" in found.stderr), (126, True))
+            with open("/dev/full", "w") as full:
+                found = call(program, tool, *nothing, example("first.armc"), capture_output=False, stdout=full, stderr=subprocess.PIPE)
+            wrong += differs(f"{tool} with a full device", (found.returncode, "Traceback" in found.stderr), (8, False))
+            found = call(program, tool, "--help")
+            wrong += differs(f"{tool} --help", (found.returncode, found.stdout.startswith("usage: ")), (0, True))
+    return wrong
+
+
+def walk(program):
+    """A dialogue in a pipe and on a terminal, random walks, and a walk that ends bad."""
+    found = call(program, "armc-walk", "--letters", "2", example("tickets.armc"), text="1\nu\n1\n1\n?\ns P: c x\nr 2\nq\n")
+    lines = found.stdout.splitlines()
+    wrong = differs("a walk", (found.returncode, lines[:3]), (0, ["0. P: i i", "    1 request -> P: i w", "    2 request -> P: w i"]))
+    wrong += [f"a walk does not show {line!r}: {lines}" for line in ("1. P: i w   by request", "2. P: i c   by enter", "took 2 random steps") if line not in lines]
+    wrong += [] if "armc: configuration: line 1 column 6: unexpected token" in lines else [f"a wrong configuration is not refused: {lines}"]
+    with tempfile.TemporaryDirectory() as folder:
+        kept = os.path.join(folder, "run.cert")
+        found = call(program, "armc-walk", example("open_door.armc"), "P:i  i # two", text=f"1\n1\nw {kept}\n")
+        wrong += [] if found.returncode == 1 and judged(program, example("open_door.armc"), read(kept)) else [f"a bad walk: {found}"]
+        wrong += [] if found.stdout.endswith(read(kept)) and "BAD" in found.stdout else [f"a bad walk shows {found.stdout!r}"]
+    runs = [call(program, "armc-walk", "--random", "30", "--seed", "7", "--letters", "2", example("open_door.armc")) for _ in range(2)]
+    wrong += differs("a random walk taken again", runs[0].stdout, runs[1].stdout)
+    wrong += [] if runs[0].returncode == 1 and judged(program, example("open_door.armc"), runs[0].stdout) else [f"a random walk: {runs[0]}"]
+    found = call(program, "armc-walk", "--random", "3", example("tickets.armc"))
+    wrong += differs("a walk that is no run", (found.returncode, found.stderr), (0, "armc-walk: this walk is no run into a bad configuration: not bad\n"))
+    shown, status = on_terminal([sys.executable, os.path.join(TOOLS, "armc-walk"), "--program", program, example("first.armc")], b"q\n")
+    return wrong + differs("a walk on a terminal", ("step, u, r, s, p, w, ? or q: " in shown, status), (True, 0))
+
+
+def portfolio(program):
+    """Answers that are judged valid and that the told command line gives; no answer; an interrupt; sections in another order; a terminal."""
+    wrong = []
+    for name, status in (("tickets", 0), ("burns_no_right", 1), ("snapshot_channel", 0)):
+        found = call(program, "armc-portfolio", "--jobs", "2", "--one-order", example(f"{name}.armc"))
+        told = re.search(r"s: armc (.*)$", found.stderr, re.M)
+        again = subprocess.run([program, *told[1].split()], capture_output=True, text=True) if told else None
+        if not told or (found.returncode, again.returncode, again.stdout) != (status, status, found.stdout) or not judged(program, example(f"{name}.armc"), found.stdout):
+            wrong.append(f"{name}: {found}")
+    found = call(program, "armc-portfolio", "--jobs", "2", "--budget", "3", example("tickets.armc"))
+    wrong += differs("no answer", (found.returncode, found.stdout, "no answer after" in found.stderr), (2, "", True))
+    wrong += [] if re.search(r"^  check --method length +counted \d+$", found.stderr, re.M) else [f"it tried {found.stderr!r}"]
+    return wrong + portfolio_reordered(program) + portfolio_interrupted(program)
+
+
+def portfolio_reordered(program):
+    """Where an answer comes of another order only, the protocol in that order is written, and the certificate belongs to it."""
+    with tempfile.TemporaryDirectory() as folder:
+        path, other = (os.path.join(folder, name) for name in ("p.armc", "p.reordered.armc"))
+        shutil.copy(example("tutorial", "height.armc"), path)
+        found = call(program, "armc-portfolio", "--jobs", "2", "--budget", "1000", path)
+        if found.returncode or not judged(program, other, found.stdout) or f"{other} has the sections in the order K S" not in found.stderr:
+            return [f"another order: {found}"]
+        return differs("the other order", Protocol(read(other)).rules, Protocol(read_canonical(program, path)).rules)
+
+
+def read_canonical(program, path):
+    return subprocess.run([program, "show", path], capture_output=True, text=True).stdout
+
+
+def interrupted(program, tool, words, number):
+    """What a tool says that gets a signal when its first search has begun, and whether something that it started still runs."""
+    with tempfile.TemporaryDirectory() as folder:
+        script, begun = (os.path.join(folder, name) for name in ("program", "begun"))
+        with open(script, "w") as file:
+            file.write(f'#!/bin/sh\n[ "$1" = check ] && : >"{begun}"\n[ "$1" = checkall ] && : >"{begun}"\nexec "{program}" "$@"\n')
+        os.chmod(script, 0o755)
+        words = [sys.executable, os.path.join(TOOLS, tool), "--program", script, "--jobs", "2", *words]
+        process = subprocess.Popen(words, stdout=subprocess.PIPE, stderr=subprocess.PIPE, text=True, start_new_session=True)
+        end = time.monotonic() + SECONDS
+        while not os.path.exists(begun) and time.monotonic() < end:
+            time.sleep(0.05)
+        time.sleep(0.2)
+        os.kill(process.pid, number)
+        out, err = process.communicate(timeout=SECONDS)
+        left = subprocess.run(["ps", "-o", "pid=", "-s", str(process.pid)], capture_output=True, text=True).stdout.split() if shutil.which("ps") else []
+        return process.returncode, out, err, left
+
+
+def portfolio_interrupted(program):
+    """An interrupt ends all searches, and it says what was tried; and what a terminal shows."""
+    words, wrong = ["--budget", "1000000", os.path.join(TOP, *ENDLESS)], []
+    for number in (signal.SIGINT, signal.SIGTERM):
+        status, out, err, left = interrupted(program, "armc-portfolio", words, number)
+        wrong += differs("an interrupt", (status, out, "interrupted; tried" in err, left), (130, "", True, []))
+    tool = [sys.executable, os.path.join(TOOLS, "armc-portfolio"), "--program", program, "--seconds", "1", "--one-order"]
+    shown, _ = on_terminal([*tool, *words])
+    return wrong + ([] if re.search(r"check.*: \d+ states counted, budget 1000000, \d", shown) else [f"a terminal shows {shown[:300]!r}"])
+
+
+def coverage(program):
+    """Tables and statuses; and the patterns of where a rule can fire against the steps that the definitions give."""
+    found = call(program, "armc-coverage", "--jobs", "2", example("tickets.armc"))
+    rows = [line.split() for line in found.stdout.splitlines()[1:]]
+    wanted = [["letter", "P.i", "occurs", "after", "0", "steps"], ["letter", "P.w", "occurs", "after", "1", "step"], ["letter", "P.c", "occurs", "after", "2", "steps"],
+              ["rule", "request", "occurs", "after", "0", "steps"], ["rule", "enter", "occurs", "after", "1", "step"], ["rule", "leave", "occurs", "after", "2", "steps"]]
+    wrong = differs("tickets", (found.returncode, rows), (0, wanted))
+    with tempfile.TemporaryDirectory() as folder:
+        path = os.path.join(folder, "dead.armc")
+        for head, status, marks in (("", 1, ["dead", "dead"]), ("# never: P.c on\n", 0, ["as meant", "as meant"]), ("# never: P.c on P.b\n", 1, ["is meant never to come"])):
+            with open(path, "w") as file:
+                file.write(head + DEAD)
+            found = call(program, "armc-coverage", "--jobs", "2", path)
+            wrong += differs(f"with {head!r}", (found.returncode, all(found.stdout.count(mark) >= marks.count(mark) for mark in marks)), (status, True))
+        found = call(program, "armc-coverage", "--show", "P.b", path)
+        wrong += differs("--show", found.stdout, "armc 1 unsafe\nstart P: a\nstep go P: b\nend\n")
+        found = call(program, "armc-coverage", "--budget", "1", "--show", "P.c", path)
+        wrong += differs("a small budget", found.returncode, 2)
+        found = call(program, "armc-coverage", "--show", "Q.b", path)
+        wrong += differs("an unknown name", found.returncode, 3)
+    words = ["--budget", "20000", example("hard", "lamport_fast.armc")]
+    status, out, err, left = interrupted(program, "armc-coverage", words, signal.SIGINT)
+    wrong += differs("an interrupt", (status, out, err, left), (130, "", "\narmc-coverage: interrupted\n", []))
+    return wrong + wrong_rows_of_rules()
+
+
+def wrong_rows_of_rules():
+    """Where the rows of a rule do not match exactly the configurations, of at most three letters a section, from which the rule leads on."""
+    wrong, tool = [], {}
+    with open(os.path.join(TOOLS, "armc-coverage"), encoding="utf-8") as file:
+        exec(compile(file.read().replace("\nrun_tool(main)\n", "\n"), "armc-coverage", "exec"), tool)
+    for path in sorted(glob.glob(os.path.join(TOP, "tests", "systems", "*.armc"))):
+        text = read(path)
+        steps, protocol = definitions.Steps(text), Protocol("\n".join(line for line in text.splitlines() if line and not line.startswith("#")))
+        rows = {rule.name: [] for rule in protocol.rules}
+        for question in tool["rule_questions"](protocol):
+            rows[question.name] += [dict(re.findall(r"(\w+): ([^;]*);", row)) for row in question.rows]
+        most = 3 if len(steps.sections) < 3 else 2
+        for r, (name, _) in enumerate(steps.rules):
+            for configuration in definitions.configurations(steps.sections, most):
+                fires = bool(steps.successors(r, configuration))
+                if fires != any(definitions.matches(steps.sections, row, configuration) for row in rows[name]):
+                    wrong.append(f"{os.path.basename(path)}, rule {name}: {configuration} is {'missed' if fires else 'met'}")
+    return wrong
+
+
+LOCK = """lock.armc: valid.
+A proof by an automaton of 4 states.
+Each configuration that a run can reach, with any number of processes, is one of these:
+
+Where L is free:
+  P is i*   (all i)
+
+Where L is held:
+  P is i* c i*   (one c, all others i)
+
+In all of them:
+  P: at most one c
+"""
+DOOR = """open_door.armc: valid.
+A run of 2 steps. What changed is in brackets; -x was taken away.
+
+step  rule     P
+0     (start)  i i
+1     enter    i [c]
+2     enter    [c] c
+
+Its end is bad: bad { P: any* c any* c any*; }
+"""
+
+
+def explain(program):
+    """The words for a proof and a run, a refused certificate, and pictures; and that what is told of a proof is exactly its configurations."""
+    wrong = differs("the lock", call(program, "armc-explain", example("tutorial", "lock.armc")).stdout, LOCK)
+    wrong += differs("the door", call(program, "armc-explain", example("open_door.armc")).stdout, DOOR)
+    found = call(program, "armc-explain", example("tickets.armc"), "-", text="armc 1 safe\nstates 0\nend\n")
+    wrong += differs("a refused proof", (found.returncode, found.stderr), (7, "armc-explain: not valid: initial missing: P: i\n"))
+    found = call(program, "armc-explain", example("tickets.armc"), "-", text="armc 1 unknown\ncounted 9\nbudget 9\nend\n")
+    wrong += differs("a reached budget", found.returncode, 2)
+    with tempfile.TemporaryDirectory() as folder:
+        for name, part in (("tutorial/lock", "L.held"), ("open_door", "enter")):
+            files = [os.path.join(folder, file) for file in ("p.svg", "p.html")]
+            call(program, "armc-explain", "--plain", "--svg", files[0], "--html", files[1], example(f"{name}.armc"))
+            texts = [read(path) for path in files]
+            if not all(part in text and "</svg>" in text for text in texts) or xml.fromstring(texts[0]).tag != "{http://www.w3.org/2000/svg}svg":
+                wrong.append(f"the pictures of {name} are {[text[:100] for text in texts]}")
+        found = call(program, "armc-explain", "--svg", os.path.join(folder, "no", "p.svg"), example("first.armc"))
+        wrong += differs("a picture that cannot be written", found.returncode, 8)
+    return wrong + wrong_proofs(program)
+
+
+def wrong_proofs(program):
+    """Where the rows that are told of a proof, put together again, have other words than the proof; and where an expression has another language."""
+    wrong = []
+    for path in sorted(glob.glob(example("*.armc")) + glob.glob(example("tutorial", "*.armc"))):
+        certificate = read_certificate(subprocess.run([program, "check", path, "--budget", "3000"], capture_output=True, text=True).stdout)
+        if certificate is None or certificate.kind != "safe":
+            continue
+        protocol = Protocol(read_canonical(program, path))
+        words = proofs.trimmed(certificate, protocol.sections)
+        rows, told = [()], [()]
+        for block, start in proofs.blocks_of(words, protocol.sections):
+            sections = [protocol.sections[k] for k in block]
+            found = proofs.rows_of(words, block, start)
+            said = [filled(box, row, sections) for boxes, alike in proofs.paragraphs(found, sections) for box in boxes for row in alike]
+            rows, told = ([before + row for before in earlier for row in later] for earlier, later in ((rows, found), (told, said)))
+        if together(rows, protocol) != words:
+            wrong.append(f"{os.path.basename(path)}: the rows are not the proof")
+        if together(told, protocol) != words:
+            wrong.append(f"{os.path.basename(path)}: what is told is not the proof")
+        for one in {each for row in rows for each in row if len(each) <= 12}:
+            if expressions.words_of(expressions.expression(one)) != one:
+                wrong.append(f"{os.path.basename(path)}: an expression has another language")
+    return wrong
+
+
+def filled(box, row, sections):
+    """A row of languages for all sections, of the letters of the cells and the languages of the others."""
+    letters, lists = iter(box), iter(row)
+    return tuple(((False, tuple((letter, 1) for letter in sorted(next(letters)))), (True, ())) if section.kind == "cell" else next(lists) for section in sections)
+
+
+def together(rows, protocol):
+    """The language of the words of all rows, with separators."""
+    last = len(protocol.sections) - 1
+
+    def step(state):
+        found = {}
+        for row, k, q in state:
+            for letter, target in rows[row][k][q][1]:
+                found.setdefault((k, letter), set()).add((row, k, target))
+            if k < last and rows[row][k][q][0]:
+                found.setdefault((k, -1), set()).add((row, k + 1, 0))
+        return [(letter, frozenset(states)) for letter, states in found.items()]
+
+    def accepts(state):
+        return any(k == last and rows[row][k][q][0] for row, k, q in state)
+    return automata.language(frozenset((row, 0, 0) for row in range(len(rows))), step, accepts)
+
+
+def folders(program):
+    """Options in the head of a protocol, and the report of JUnit."""
+    with tempfile.TemporaryDirectory() as folder:
+        report = os.path.join(folder, "report.xml")
+        for name, head in (("own", "# options: --method length --budget 300\n"), ("other", ""), ("silent", None)):
+            text = read(example("burns_no_right.armc"))
+            with open(os.path.join(folder, f"{name}.armc"), "w") as file:
+                file.write(head + text if head is not None else text.replace("# expect:", "# expected:"))
+        found = call(program, "check-folder", "--junit", report, "--budget", "250", folder)
+        cases = {case.get("name"): [each.tag for each in case] for case in xml.parse(report).getroot()}
+        wanted = {"own.armc": ["system-out"], "other.armc": ["failure", "system-out"], "silent.armc": ["skipped", "system-out"]}
+        wrong = differs("options and report", (found.returncode, cases), (1, wanted))
+        with open("/dev/full", "w") as full:
+            found = call(program, "check-folder", folder, capture_output=False, stdout=full, stderr=subprocess.PIPE)
+        return wrong + differs("a full device", (found.returncode, "Traceback" in found.stderr), (126, False))
+
+
+def release(program):
+    """Two builds give the same bytes; the program and the tools run from the archive and the package, where nothing else of armc is seen."""
+    with tempfile.TemporaryDirectory() as folder:
+        names = {}
+        for kind, at in itertools.product(("dist", "deb"), ("one", "two")):
+            os.makedirs(os.path.join(folder, at), exist_ok=True)
+            words = [os.path.join(TOOLS, "make-release"), kind, "--program", program, "--folder", os.path.join(folder, at)]
+            names[kind, at] = subprocess.run([sys.executable, *words], capture_output=True, text=True, check=True).stdout.strip()
+        wrong = []
+        for kind in ("dist", "deb"):
+            with open(names[kind, "one"], "rb") as one, open(names[kind, "two"], "rb") as two:
+                wrong += [] if one.read() == two.read() else [f"two builds of {kind} are not the same bytes"]
+        with tarfile.open(names["dist", "one"]) as archive:
+            archive.extractall(folder)
+        root = names["dist", "one"].removesuffix(".tar.gz").replace("/one/", "/")
+        if shutil.which("dpkg-deb"):
+            subprocess.run(["dpkg-deb", "-x", names["deb", "one"], os.path.join(folder, "deb")], check=True)
+            same = subprocess.run(["diff", "-r", root, os.path.join(folder, "deb", "usr")], capture_output=True, text=True)
+            wrong += [] if same.returncode == 0 else [f"the package differs from the archive: {same.stdout[:200]}"]
+        return wrong + wrong_root(program, root)
+
+
+def without_repository():
+    """Words before a command that hide the repository from it, in a namespace where it is an empty folder; none where this machine lets nobody do so."""
+    words = ["unshare", *([] if os.geteuid() == 0 else ["-r"]), "-m", "sh", "-c", 'mount -t tmpfs none "$0" && exec "$@"', TOP]
+    return words if shutil.which("unshare") and subprocess.run([*words, "true"], capture_output=True).returncode == 0 else []
+
+
+def wrong_root(program, root):
+    """What goes wrong in a root with nothing but the archive and the C library, and, for the tools, where the repository and the toolchain are hidden."""
+    needed = re.findall(r"(/\S+)", subprocess.run(["ldd", program], capture_output=True, text=True).stdout)
+    other = [path for path in needed if not re.match(r"(ld-linux[\w-]*|libc|libm|libpthread|libdl|librt|libgcc_s)\.so", os.path.basename(path))]
+    wrong = [f"the program needs {other}"] if other else []
+    place = os.path.join(root, "share", "doc", "armc", "examples")
+    tools = [["armc-explain", f"{place}/open_door.armc"], ["armc-walk", "--random", "9", f"{place}/open_door.armc"], ["armc-portfolio", f"{place}/tickets.armc"],
+             ["armc-coverage", f"{place}/tickets.armc"], ["armc-check-folder", f"{place}/tutorial", "--budget", "1000"]]
+    hide = without_repository()
+    environment = {"PATH": f"{root}/bin:{os.path.dirname(sys.executable)}:/usr/bin:/bin", "HOME": root}
+    for words in tools:
+        found = subprocess.run([*hide, *words], env=environment, capture_output=True, text=True, cwd=root, timeout=SECONDS)
+        wrong += [] if found.returncode in (0, 1) and not found.stderr.count("Traceback") and found.stdout else [f"{words}: {found}"]
+    for path in needed:
+        os.makedirs(root + os.path.dirname(path), exist_ok=True)
+        shutil.copy(path, root + path)
+    enter = [] if os.geteuid() == 0 else ["unshare", "-r"]
+    if shutil.which("chroot") and subprocess.run([*enter, "true"], capture_output=True).returncode == 0:
+        inside = place[len(root):]
+        found = subprocess.run([*enter, shutil.which("chroot"), root, "/bin/armc", "verify", f"{inside}/first.armc", f"{inside}/first.cert"], capture_output=True, text=True)
+        wrong += differs("in a root of its own", (found.returncode, found.stdout, found.stderr), (0, "valid\n", ""))
+    return wrong
+
+
+def pictures(program):
+    """The pictures of the pages are those that armc-explain draws."""
+    wrong = []
+    with tempfile.TemporaryDirectory() as folder:
+        for name, words in PICTURES.items():
+            drawn = os.path.join(folder, name)
+            call(program, "armc-explain", "--plain", "--svg", drawn, *words[:-1], example(words[-1]))
+            if not os.path.exists(drawn) or read(drawn) != read(os.path.join(TOP, "docs", "pictures", name)):
+                wrong.append(f"docs/pictures/{name} is not what armc-explain --plain --svg draws of {words}")
+    wrong += differs("docs/pictures/before_merging.svg", read(os.path.join(TOP, "docs", "pictures", "before_merging.svg")), before_merging(program))
+    held = {os.path.basename(path) for path in glob.glob(os.path.join(TOP, "docs", "pictures", "*.svg"))}
+    return wrong + differs("the pictures", held, {"before_merging.svg", *PICTURES})
+
+
+def before_merging(program):
+    """The picture of the automaton N_1 of docs/METHOD.md, which is no proof, so that armc-explain does not draw it."""
+    text = "armc 1 safe\nstates 3\nfinal 2\nedge 0 P.n 1\nedge 0 P.t 2\nedge 1 P.t 2\nedge 2 P.n 2\nend\n"
+    return drawing.automaton(Protocol(read_canonical(program, example("token.armc"))), read_certificate(text), True)
+
+
+PICTURES = {
+    "lock.svg": ["tutorial/lock.armc"],
+    "merged.svg": ["token.armc"],
+    "lock_two_steps.svg": ["tutorial/lock_two_steps.armc"],
+    "german.svg": ["--configurations", "german.armc"],
+    "alternating_bit_any_ack.svg": ["alternating_bit_any_ack.armc"],
+}
+
+
+def told_pages(program):
+    """The explanations that the pages show are those that armc-explain prints."""
+    wrong, pages = [], "".join(read(os.path.join(TOP, "docs", name)) for name in ("TOOLS.md", "GALLERY.md"))
+    for words, told in re.findall(r"^\$ armc-explain (.*)\n((?:.*\n)*?)```$", pages, re.M):
+        found = call(program, "armc-explain", *[os.path.join(TOP, word) if "/" in word else word for word in words.split()])
+        wrong += differs(f"armc-explain {words}", found.stdout, told)
+    return wrong
+
+
+def wrong_numbers(program):
+    """Where an answer or a number of a table of docs/HARD.md is not what `check --report` says."""
+    wrong = []
+    for words, cells in re.findall(r"^\| `armc check ([^`]*)` \|(.*)\|$", read(os.path.join(TOP, "docs", "HARD.md")), re.M):
+        found = subprocess.run([program, "check", "--report", *words.split()], capture_output=True, text=True, cwd=TOP, timeout=SECONDS)
+        report = json.loads(found.stderr) if found.stderr.startswith("{") else found.stderr
+        wrong += differs(words, [report["verdict"], str(report["counted"])], [cell.strip() for cell in cells.split("|")][-2:])
+    pair = [example("hard", f"lamport_fast{name}.armc") for name in ("", "_pointers")]
+    proof = subprocess.run([program, "check", pair[1]], capture_output=True, text=True).stdout
+    wrong += [] if judged(program, pair[0], proof) else ["the proof of lamport_fast_pointers is not valid for lamport_fast"]
+    made = subprocess.run([sys.executable, example("make_window"), "2"], capture_output=True, text=True).stdout
+    text = "".join(line for line in read(example("patterns", "sliding_window.armc")).splitlines(True) if not line.startswith("#"))
+    return wrong + differs("examples/make_window 2", made, text)
+
+
+def checks(program):
+    """Each check with its name."""
+    yield "tools, with faults", faults(program)
+    yield "armc-walk", walk(program)
+    yield "armc-portfolio", portfolio(program)
+    yield "armc-coverage", coverage(program)
+    yield "armc-explain", explain(program)
+    yield "armc-check-folder", folders(program)
+    yield "pictures", pictures(program)
+    yield "pages of the tools", told_pages(program)
+    yield "page of hard protocols", wrong_numbers(program)
+    yield "release", release(program)
+
+
+if __name__ == "__main__":
+    for name, lines in checks(os.path.abspath(sys.argv[1])):
+        print(f"{name}: skipped, since {lines}" if isinstance(lines, str) else f"{name}: {'ok' if not lines else lines[:5]}", flush=True)
