@@ -8,7 +8,7 @@ use Rattle.transducers.specs.Transducer.{IsEdge, IsValid, Relates}
 use Rattle.transducers.specs.Combination.{exchange, copy_edges}
 use Rattle.transducers.proofs.CopyLemmas.{IsEdge-copies, exchange_from_copy, copy_from_edge, Contains-single, nothing_in_nil}
 use Rattle.protocol_model.specs.declared.system.Move.{Move}
-use Rattle.protocol_model.specs.declared.system.Move.TheVariants.{At, Pair, Ring, Two, Set, Send, Recv, Stack}
+use Rattle.protocol_model.specs.declared.system.Move.TheVariants.{At, Pair, Ring, Two, Set, Send, Recv, Stack, Spawn, Exit, Lose}
 use Rattle.protocol_model.specs.System.{AllBelow, IsValidMove}
 use Rattle.protocol_model.specs.Moves.{IsMove, IsPairMove, IsRingMove, IsTwoMove, ChangesTwo}
 use Rattle.protocol_model.specs.Raised.{IsRaisedMove}
@@ -393,6 +393,9 @@ fixed_valid (Set a b) offset count letters two valid fits = absurd two
 fixed_valid (Send a) offset count letters two valid fits = absurd two
 fixed_valid (Recv a) offset count letters two valid fits = absurd two
 fixed_valid (Stack pop push) offset count letters two valid fits = absurd two
+fixed_valid (Spawn a) offset count letters two valid fits = absurd two
+fixed_valid (Exit a) offset count letters two valid fits = absurd two
+fixed_valid (Lose set) offset count letters two valid fits = absurd two
 
 pub fixed_relates : (m : Move) (offset count letters : ℕ) → ChangesTwoPositions m → IsValidMove count m → (u w : List ℕ)
     → Relates (record { letters = letters; starts = 0 ∷ []; states = fixed_states m offset count }) u w ↔ IsRaisedMove (IsMove m) offset count u w
@@ -404,3 +407,6 @@ fixed_relates (Set a b) offset count letters two valid u w = absurd two
 fixed_relates (Send a) offset count letters two valid u w = absurd two
 fixed_relates (Recv a) offset count letters two valid u w = absurd two
 fixed_relates (Stack pop push) offset count letters two valid u w = absurd two
+fixed_relates (Spawn a) offset count letters two valid u w = absurd two
+fixed_relates (Exit a) offset count letters two valid u w = absurd two
+fixed_relates (Lose set) offset count letters two valid u w = absurd two

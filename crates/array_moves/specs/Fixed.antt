@@ -2,7 +2,7 @@
 use Rattle.std.specs.Prelude.{ℕ, ◌+◌, Bool, true, false, List, [], ◌∷◌, ◌++◌}
 use Rattle.word_automata.specs.Path.{Node}
 use Rattle.protocol_model.specs.declared.system.Move.{Move}
-use Rattle.protocol_model.specs.declared.system.Move.TheVariants.{At, Pair, Ring, Two, Set, Send, Recv, Stack}
+use Rattle.protocol_model.specs.declared.system.Move.TheVariants.{At, Pair, Ring, Two, Set, Send, Recv, Stack, Spawn, Exit, Lose}
 use Rattle.transducers.specs.declared.Label.{Label}
 use Rattle.transducers.specs.Combination.{exchange, copy_edges}
 
@@ -49,6 +49,9 @@ ChangesTwoPositions (Set a b) = ⊥
 ChangesTwoPositions (Send a) = ⊥
 ChangesTwoPositions (Recv a) = ⊥
 ChangesTwoPositions (Stack pop push) = ⊥
+ChangesTwoPositions (Spawn a) = ⊥
+ChangesTwoPositions (Exit a) = ⊥
+ChangesTwoPositions (Lose letters) = ⊥
 
 -- the states of its machine; there are none for other moves
 abbrev pub fixed_states : Move → ℕ → ℕ → List (Node Label)
@@ -60,3 +63,6 @@ fixed_states (Set a b) offset count = []
 fixed_states (Send a) offset count = []
 fixed_states (Recv a) offset count = []
 fixed_states (Stack pop push) offset count = []
+fixed_states (Spawn a) offset count = []
+fixed_states (Exit a) offset count = []
+fixed_states (Lose letters) offset count = []

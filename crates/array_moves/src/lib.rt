@@ -1,19 +1,20 @@
 //! Array moves as transducers: one transducer relates the arrays before and after a move, of every length.
-//! A transducer has at most 32 states: it keeps only whether the move has happened, and which of its four guards are met.
+//! A transducer has at most 32 states: it keeps only whether the move has happened, and of `at` which of the four guards are met.
 #![tactic(auto)]
 
 mod fixed;
 mod guard_table;
 mod guarded;
 
-ghost use Rattle.std.specs.Prelude.{◌≡◌, ◌↔◌, ◌+◌, ◌≤◌, ℕ, List, IfOk};
-ghost use Rattle.protocol_model.specs.System.{IsValidMove, kind_of_move};
+ghost use Rattle.std.specs.Prelude.{◌≡◌, ◌↔◌, ◌+◌, ◌≤◌, ℕ, List, IfOk, IsTrue};
+ghost use Rattle.protocol_model.specs.System.{IsValidMove, belongs_to};
 ghost use Rattle.protocol_model.specs.Moves.{IsMove};
 ghost use Rattle.transducers.specs.Transducer.{Relates};
 ghost use Rattle.protocol_model.specs.Raised.{IsRaisedMove};
 
 use fixed::compile_fixed;
 use guarded::compile_at;
+use memory_moves::{compile_channel, compile_cut};
 use protocol_model::{Move, SectionLetters};
 use protocol_syntax::Kind;
 use std::alloc::{AllocError, Global};
@@ -26,7 +27,7 @@ pub fn compile_array(
     step: &Move,
     alphabet: SectionLetters,
 ) -> Result<Transducer, AllocError>
-    requires array { kind_of_move step.now ≡ Kind.Array }
+    requires array { IsTrue (belongs_to step.now Kind.Array) }
     requires valid { IsValidMove alphabet.count step.now }
     requires fits { alphabet.offset + alphabet.count ≤ alphabet.letters }
     ensures letters { IfOk result (λ t. t.letters ≡ alphabet.letters) }
@@ -52,6 +53,11 @@ pub fn compile_array(
         Move::Pair { .. } | Move::Ring { .. } | Move::Two { .. } => {
             compile_fixed(alloc, step, alphabet)
         }
+        Move::Spawn { letter } => {
+            let appended = Move::Send { letter: *letter };
+            compile_channel(alloc, &appended, alphabet)
+        }
+        Move::Exit { letter } => compile_cut(alloc, &[*letter], alphabet),
         _ => unreachable!(),
     }
 }

@@ -1,3 +1,4 @@
 mod RunLemmas
 mod MachineLemmas
 mod MoveLemmas
+mod CutLemmas

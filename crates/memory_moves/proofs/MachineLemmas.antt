@@ -78,7 +78,7 @@ module _ (t : Transducer) where
       (sym (append_assoc (spelled_one label.write) (written_word labels) w)) both)
 
 -- a run from a state that copies letters: some letters are copied, and then it ends or takes another edge
-record CopiesFirst (t : Transducer) (k offset count : ℕ) (further : List (Label × ℕ)) (u w : List ℕ) : Type 0 where
+pub record CopiesFirst (t : Transducer) (k offset count : ℕ) (further : List (Label × ℕ)) (u w : List ℕ) : Type 0 where
   pub copied : List ℕ
   pub in_range : AllBelow count copied
   pub read_rest : List ℕ
@@ -124,7 +124,7 @@ module _ (t : Transducer) (k offset count : ℕ) (further : List (Label × ℕ))
     goes_on = goes_on;
   }
 
-  copies_first : (u w : List ℕ) → RelatesFrom t k u w → CopiesFirst t k offset count further u w
+  pub copies_first : (u w : List ℕ) → RelatesFrom t k u w → CopiesFirst t k offset count further u w
   copies_first [] w run = elim (cases_run t k [] w run) [
     | inl ends ↦ none_copied [] w (inl ends)
     | inr takes ↦ elim (copies_or_not takes.edge takes.is_edge) [
@@ -150,7 +150,7 @@ module _ (t : Transducer) (k offset count : ℕ) (further : List (Label × ℕ))
   ]
 
   -- letters are copied before a run
-  copies_before : (copied : List ℕ) → AllBelow count copied → (u w : List ℕ) → RelatesFrom t k u w
+  pub copies_before : (copied : List ℕ) → AllBelow count copied → (u w : List ℕ) → RelatesFrom t k u w
       → RelatesFrom t k (raised offset copied ++ u) (raised offset copied ++ w)
   copies_before [] h u w run = run
   copies_before (x ∷ copied) h u w run =

@@ -28,6 +28,17 @@ pop_prefix offset (Some a) = reading (a + offset) ∷ []
 abbrev pub stack_prefix : ℕ → Option ℕ → List ℕ → List Label
 stack_prefix offset pop push = pop_prefix offset pop ++ map (λ a. writing (a + offset)) push
 
+-- the edges to a state on which a letter of the set, raised, is read and not written
+abbrev pub cut_edges : ℕ → List ℕ → ℕ → List (Label × ℕ)
+cut_edges offset set to = map (λ a. (reading (a + offset), to)) set
+
+-- a state that copies letters before the cut, and one that copies letters behind it
+abbrev pub cutting_states : List ℕ → ℕ → ℕ → List (Node Label)
+cutting_states set offset count =
+    record { accepting = false; edges = copy_edges offset count 0 ++ cut_edges offset set 1 }
+    ∷ record { accepting = true; edges = copy_edges offset count 1 }
+    ∷ []
+
 -- the word that the labels read one after the other, and the word that they write
 abbrev pub read_word : List Label → List ℕ
 read_word [] = []

@@ -2,15 +2,17 @@
 //! The machines have one state more than they exchange letters at the ends.
 #![tactic(auto)]
 
+mod cut;
 mod machine;
 
-ghost use Rattle.std.specs.Prelude.{◌≡◌, ◌↔◌, ◌+◌, ◌<◌, ◌≤◌, ◌^◌, ℕ, List, All, IfOk, IfSome};
-ghost use Rattle.protocol_model.specs.System.{IsValidMove, kind_of_move};
+ghost use Rattle.std.specs.Prelude.{◌≡◌, ◌↔◌, ◌+◌, ◌<◌, ◌≤◌, ◌^◌, ℕ, List, All, IfOk, IfSome, IsTrue};
+ghost use Rattle.protocol_model.specs.System.{IsValidMove, belongs_to};
 ghost use Rattle.protocol_model.specs.Moves.{IsMove};
 ghost use Rattle.protocol_model.specs.Raised.{IsRaisedMove};
 ghost use Rattle.transducers.specs.Transducer.{Relates};
 ghost use Rattle.memory_moves.specs.Machine.{reading, writing, stack_prefix};
 
+pub use cut::compile_cut;
 use machine::copy_between;
 use protocol_model::{Move, SectionLetters};
 use protocol_syntax::Kind;
@@ -39,14 +41,14 @@ pub fn compile_cell(
     copy_between(alloc, &[change], None, without_copies)
 }
 
-/// The transducer over `alphabet.letters` letters that relates a channel's lists before and after a letter is sent or received, each
-/// letter raised by `alphabet.offset`. The section has `alphabet.count` letters. `AllocError` where memory runs out.
+/// The transducer over `alphabet.letters` letters that relates a channel's lists before and after a letter is sent, received or lost,
+/// each letter raised by `alphabet.offset`. The section has `alphabet.count` letters. `AllocError` where memory runs out.
 pub fn compile_channel(
     alloc: Global,
     step: &Move,
     alphabet: SectionLetters,
 ) -> Result<Transducer, AllocError>
-    requires channel { kind_of_move step.now ≡ Kind.Channel }
+    requires channel { IsTrue (belongs_to step.now Kind.LossyChannel) }
     requires valid { IsValidMove alphabet.count step.now }
     requires fits { alphabet.offset + alphabet.count ≤ alphabet.letters }
     ensures letters { IfOk result (λ t. t.letters ≡ alphabet.letters) }
@@ -62,6 +64,7 @@ pub fn compile_channel(
             let received = reading(*letter + alphabet.offset);
             copy_between(alloc, &[received], None, alphabet)
         }
+        Move::Lose { letters } => compile_cut(alloc, letters.as_slice(), alphabet),
         _ => unreachable!(),
     }
 }
@@ -73,7 +76,7 @@ pub fn compile_stack(
     step: &Move,
     alphabet: SectionLetters,
 ) -> Result<Transducer, AllocError>
-    requires stack { kind_of_move step.now ≡ Kind.Stack }
+    requires stack { IsTrue (belongs_to step.now Kind.Stack) }
     requires valid { IsValidMove alphabet.count step.now }
     requires fits { alphabet.offset + alphabet.count ≤ alphabet.letters }
     ensures letters { IfOk result (λ t. t.letters ≡ alphabet.letters) }

@@ -1,5 +1,5 @@
 -- The words of moves, steps and rules say them again.
-use Rattle.std.proofs.Common.{◌≡◌, ℕ, List, [], ◌∷◌, Bool, true, false, Some, None, map, refl, ap, inl, inr, cond}
+use Rattle.std.proofs.Common.{◌≡◌, ℕ, List, [], ◌∷◌, Bool, true, false, Some, None, map, nat_le, refl, ap, inl, inr, cond}
 use Rattle.std.specs.Prelude.{codes, ⊤}
 use Rattle.std.specs.List.{flat_map}
 use Rattle.protocol_lexer.specs.declared.TokenKind.TheVariants.{Arrow}
@@ -13,12 +13,12 @@ use Rattle.forms.specs.declared.symbol.Keyword.TheVariants as Words
 use Rattle.forms.specs.declared.symbol.Symbol.TheVariants.{Sign}
 use Rattle.forms.specs.Symbol.{spelling}
 use Rattle.forms.specs.Grammar.{sign, optional}
-use Rattle.protocol_syntax.specs.Grammar.{quantifier, region, guard, entry, table, at_move, four_names, pair_move, ring_move, two_move, set_move, send_move, recv_move, pushed, pop_move, push_move, channel_or_stack_move, any_move, step, rule}
+use Rattle.protocol_syntax.specs.Grammar.{quantifier, region, guard, entry, table, at_move, four_names, pair_move, ring_move, two_move, set_move, send_move, recv_move, pushed, pop_move, push_move, channel_or_stack_move, common_move, spawn_move, exit_move, lose_move, later_move, any_move, step, rule}
 use Rattle.protocol_syntax.proofs.Lexing.{IsToken-arrow}
-use Rattle.protocol_syntax.proofs.Printed.{Prints, Writes, prints_sign, prints_keyword, prints_means, prints_gives, prints_bind, prints_last, prints_after, prints_left, prints_right, prints_absent, prints_present, prints_same, writes_many, writes_up_to}
+use Rattle.protocol_syntax.proofs.Printed.{Prints, Writes, prints_sign, prints_keyword, prints_means, prints_gives, prints_bind, prints_last, prints_after, prints_left, prints_right, prints_absent, prints_present, prints_only, prints_same, writes_many, writes_up_to}
 use Rattle.protocol_layout.specs.Layout.{in_braces, region_word, guard_words, entry_words, table_words, pushed_words, four_words, move_words, step_words, rule_words}
 use Rattle.protocol_layout.specs.Places.{name_without_place, guard_without_places, entry_without_places, move_without_places, step_without_places, rule_without_places}
-use Rattle.protocol_layout.proofs.PartsWritten.{left_brace, right_brace, colon, semicolon, name_again, names_up_to_written, set_written}
+use Rattle.protocol_layout.proofs.PartsWritten.{left_brace, right_brace, colon, semicolon, name_again, names_up_to_written, set_written, base_written}
 
 arrow : Prints (sign (Sign Arrow)) (λ _. ⊤) (codes "->" ∷ [])
 arrow = prints_sign (Sign Arrow) (codes "->") IsToken-arrow refl
@@ -136,21 +136,21 @@ queue_written a (inr (inr (inr (push, v, e)))) =
     (prints_right (prints_right (prints_right
     (prints_last (pushed_written push v) (λ found p. prints_gives (Moves.Stack None found) (rw p refl))))))
 
-move_written : Writes any_move move_words move_without_places
-unfolding any_move pair_move ring_move two_move set_move four_without_places
-move_written a (inl v) = prints_left (at_written a v)
-move_written a (inr (inl (n, v, e))) =
+common_move_written : Writes common_move move_words move_without_places
+unfolding common_move pair_move ring_move two_move set_move four_without_places
+common_move_written a (inl v) = prints_left (at_written a v)
+common_move_written a (inr (inl (n, v, e))) =
     prints_same move_words move_without_places e
     (prints_right (prints_left (prints_last (four_written Words.Pair n v) (λ m p. prints_gives (Moves.Pair m.0 m.1 m.2 m.3) (ap (λ (f : Four). Moves.Pair f.0 f.1 f.2 f.3) p)))))
-move_written a (inr (inr (inl (n, v, e)))) =
+common_move_written a (inr (inr (inl (n, v, e)))) =
     prints_same move_words move_without_places e
     (prints_right (prints_right (prints_left
     (prints_last (four_written Words.Ring n v) (λ m p. prints_gives (Moves.Ring m.0 m.1 m.2 m.3) (ap (λ (f : Four). Moves.Ring f.0 f.1 f.2 f.3) p))))))
-move_written a (inr (inr (inr (inl (n, v, e))))) =
+common_move_written a (inr (inr (inr (inl (n, v, e))))) =
     prints_same move_words move_without_places e
     (prints_right (prints_right (prints_right (prints_left
     (prints_last (four_written Words.Two n v) (λ m p. prints_gives (Moves.Two m.0 m.1 m.2 m.3) (ap (λ (f : Four). Moves.Two f.0 f.1 f.2 f.3) p)))))))
-move_written a (inr (inr (inr (inr (inl (u, tu, (from, v, (x, tx, (to, w, e))))))))) =
+common_move_written a (inr (inr (inr (inr (inl (u, tu, (from, v, (x, tx, (to, w, e))))))))) =
     prints_same move_words move_without_places e
     (prints_right (prints_right (prints_right (prints_right (prints_left
     (prints_after (prints_keyword Words.Set)
@@ -158,26 +158,43 @@ move_written a (inr (inr (inr (inr (inl (u, tu, (from, v, (x, tx, (to, w, e)))))
     prints_after arrow
     (prints_bind (name_again to w) (λ t q.
     prints_gives (Moves.Set f t) (rw (p, q) refl)))))))))))
-move_written a (inr (inr (inr (inr (inr v))))) =
+common_move_written a (inr (inr (inr (inr (inr v))))) =
     prints_right (prints_right (prints_right (prints_right (prints_right (queue_written a v)))))
 
-step_written : Writes step step_words step_without_places
+later_move_written : Writes later_move move_words move_without_places
+unfolding later_move spawn_move exit_move lose_move
+later_move_written a (inl (u, tu, (n, v, e))) =
+    prints_same move_words move_without_places e
+    (prints_left (prints_after (prints_keyword Words.Spawn) (prints_bind (name_again n v) (λ m p. prints_gives (Moves.Spawn m) (ap Moves.Spawn p)))))
+later_move_written a (inr (inl (u, tu, (n, v, e)))) =
+    prints_same move_words move_without_places e
+    (prints_right (prints_left (prints_after (prints_keyword Words.Exit) (prints_bind (name_again n v) (λ m p. prints_gives (Moves.Exit m) (ap Moves.Exit p))))))
+later_move_written a (inr (inr (u, tu, (b, v, e)))) =
+    prints_same move_words move_without_places e
+    (prints_right (prints_right (prints_after (prints_keyword Words.Lose) (prints_last (base_written b v) (λ c p. prints_gives (Moves.Lose c) (ap Moves.Lose p))))))
+
+move_written : (language : ℕ) → Writes (any_move language) move_words move_without_places
+unfolding any_move
+move_written language a (inl v) = prints_left (prints_only (nat_le 2 language) v.0 (later_move_written a v.1))
+move_written language a (inr v) = prints_right (common_move_written a v)
+
+step_written : (language : ℕ) → Writes (step language) step_words step_without_places
 unfolding step
-step_written a (n, v, (u, tu, (body, w, (x, tx, e)))) =
+step_written language a (n, v, (u, tu, (body, w, (x, tx, e)))) =
     prints_same step_words step_without_places e
     (prints_bind (name_again n v) (λ m p.
     prints_after colon
-    (prints_bind (move_written body w) (λ b q.
+    (prints_bind (move_written language body w) (λ b q.
     prints_after semicolon
     (prints_gives (record { section = m; body = b }) (rw (p, q) refl))))))
 
-pub rule_written : Writes rule rule_words rule_without_places
+pub rule_written : (language : ℕ) → Writes (rule language) rule_words rule_without_places
 unfolding rule
-rule_written a (u, tu, (n, v, (w, tw, (moves, vm, (x, tx, e))))) =
+rule_written language a (u, tu, (n, v, (w, tw, (moves, vm, (x, tx, e))))) =
     prints_same rule_words rule_without_places e
     (prints_after (prints_keyword Words.Rule)
     (prints_bind (name_again n v) (λ m p.
     prints_after left_brace
-    (prints_bind (writes_many step_written moves vm) (λ found q.
+    (prints_bind (writes_many (step_written language) moves vm) (λ found q.
     prints_after right_brace
     (prints_gives (record { name = m; moves = found }) (rw (p, q) refl)))))))

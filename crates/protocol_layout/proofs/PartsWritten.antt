@@ -19,11 +19,11 @@ use Rattle.forms.specs.declared.symbol.Keyword.TheVariants as Words
 use Rattle.forms.specs.declared.symbol.Symbol.TheVariants.{Sign}
 use Rattle.forms.specs.Symbol.{spelling}
 use Rattle.forms.specs.Grammar.{Grammar, sign, name, optional, many, item, up_to}
-use Rattle.protocol_syntax.specs.Grammar.{kind, section, more_sections, letters_of, set, letter_base, set_base, base, count, atom, atoms, pattern, part, row}
+use Rattle.protocol_syntax.specs.Grammar.{common_kind, lossy_kind, kind, section, more_sections, letters_of, set, letter_base, set_base, base, count, atom, atoms, pattern, part, row_body, row}
 use Rattle.protocol_syntax.proofs.Lexing.{IsToken-brace_left, IsToken-brace_right, IsToken-colon, IsToken-semicolon, IsToken-star, IsToken-plus}
 use Rattle.forms.proofs.MayMean.{MayMean, IsName}
-use Rattle.protocol_syntax.proofs.Printed.{Prints, Writes, prints_sign, prints_keyword, prints_means, prints_name, prints_gives, prints_bind, prints_last, prints_after, prints_left, prints_right, prints_absent, prints_present, prints_item, prints_all, prints_same, same_length, writes_many, writes_up_to}
-use Rattle.protocol_layout.specs.Layout.{names_words, in_braces, kind_word, section_words, count_words, base_words, atom_words, pattern_words, part_words, row_words}
+use Rattle.protocol_syntax.proofs.Printed.{Prints, Writes, prints_sign, prints_keyword, prints_means, prints_name, prints_gives, prints_bind, prints_last, prints_after, prints_left, prints_right, prints_absent, prints_present, prints_only, prints_item, prints_all, prints_same, same_length, writes_many, writes_up_to}
+use Rattle.protocol_layout.specs.Layout.{names_words, in_braces, kind_word, kind_rest, section_words, count_words, base_words, atom_words, pattern_words, part_words, row_words}
 use Rattle.protocol_layout.specs.Places.{name_without_place, section_without_places, base_without_places, atom_without_places, part_without_places, row_without_places}
 
 pub left_brace : Prints (sign (Sign BraceLeft)) (λ _. ⊤) (codes "{" ∷ [])
@@ -73,7 +73,7 @@ set_written a (u, tu, (names, v, (w, tw, e))) =
     prints_same (λ names. in_braces (names_words names)) (map name_without_place) e
     (prints_after left_brace (prints_bind (names_written names v) (λ found p. prints_after right_brace (prints_gives found p))))
 
-base_written : Writes base base_words base_without_places
+pub base_written : Writes base base_words base_without_places
 unfolding base letter_base set_base
 base_written b (inl (n, v, e)) =
     prints_same base_words base_without_places e (prints_left (prints_last (name_again n v) (λ m p. prints_gives (Letter m) (ap Letter p))))
@@ -115,7 +115,7 @@ part_written a (n, v, (u, tu, (atoms, w, (x, tx, e)))) =
     (prints_gives (record { section = m; atoms = found }) (rw (p, q) refl))))))
 
 pub row_written : (word : Keyword) → Writes (row word) (row_words (spelling word)) row_without_places
-unfolding row
+unfolding row row_body
 row_written word a (u, tu, (w, tw, (parts, v, (x, tx, e)))) =
     prints_same (row_words (spelling word)) row_without_places e
     (prints_after (prints_keyword word)
@@ -124,18 +124,35 @@ row_written word a (u, tu, (w, tw, (parts, v, (x, tx, e)))) =
     prints_after right_brace
     (prints_gives (record { parts = found }) (rw p refl))))))
 
-kind_written : (k : Kind) → Prints kind (λ l. l ≡ k) (kind_word k ∷ [])
-unfolding kind
-kind_written Kinds.Cell = prints_left (prints_means Words.Cell Kinds.Cell refl)
-kind_written Kinds.Array = prints_right (prints_left (prints_means Words.Array Kinds.Array refl))
-kind_written Kinds.Channel = prints_right (prints_right (prints_left (prints_means Words.Channel Kinds.Channel refl)))
-kind_written Kinds.Stack = prints_right (prints_right (prints_right (prints_means Words.Stack Kinds.Stack refl)))
+kind_words : Kind → List (List ℕ)
+kind_words k = kind_word k ∷ kind_rest k
 
-pub section_written : (used : ℕ) → Writes (section used) section_words section_without_places
-unfolding section
-section_written used a (k, vk, (n, v, (u, tu, (letter, vl, (letters, vls, (w, tw, e)))))) =
+common_kind_written : Writes common_kind kind_words (λ k. k)
+unfolding common_kind kind_words
+common_kind_written k (inl (u, t, e)) = prints_same kind_words (λ (k : Kind). k) e (prints_left (prints_means Words.Cell Kinds.Cell refl))
+common_kind_written k (inr (inl (u, t, e))) =
+    prints_same kind_words (λ (k : Kind). k) e (prints_right (prints_left (prints_means Words.Array Kinds.Array refl)))
+common_kind_written k (inr (inr (inl (u, t, e)))) =
+    prints_same kind_words (λ (k : Kind). k) e (prints_right (prints_right (prints_left (prints_means Words.Channel Kinds.Channel refl))))
+common_kind_written k (inr (inr (inr (u, t, e)))) =
+    prints_same kind_words (λ (k : Kind). k) e (prints_right (prints_right (prints_right (prints_means Words.Stack Kinds.Stack refl))))
+
+lossy_kind_written : Writes lossy_kind kind_words (λ k. k)
+unfolding lossy_kind kind_words
+lossy_kind_written k (u, tu, (w, tw, e)) =
+    prints_same kind_words (λ (k : Kind). k) e
+    (prints_after (prints_keyword Words.Lossy) (prints_after (prints_keyword Words.Channel) (prints_gives Kinds.LossyChannel refl)))
+
+kind_written : (language : ℕ) → Writes (kind language) kind_words (λ k. k)
+unfolding kind
+kind_written language k (inl v) = prints_left (common_kind_written k v)
+kind_written language k (inr v) = prints_right (prints_only (nat_le 2 language) v.0 (lossy_kind_written k v.1))
+
+pub section_written : (language used : ℕ) → Writes (section language used) section_words section_without_places
+unfolding section kind_words
+section_written language used a (k, vk, (n, v, (u, tu, (letter, vl, (letters, vls, (w, tw, e)))))) =
     prints_same section_words section_without_places e
-    (prints_bind (kind_written k) (λ l p.
+    (prints_bind (kind_written language k vk) (λ l p.
     prints_bind (name_again n v) (λ m q.
     prints_after left_brace
     (prints_bind (prints_item (nat_le 256 used) Limits.Letters vl.0 (name_again letter vl.1)) (λ first r.
@@ -154,15 +171,15 @@ letters_same used (s ∷ sections) =
 used_same : (xs ys : List SectionText) → map section_without_places xs ≡ map section_without_places ys → letters_of xs ≡ letters_of ys
 used_same xs ys e = sym (letters_same 0 xs) ∙ (ap (λ (l : List SectionText). letters_of l) e ∙ letters_same 0 ys)
 
-pub more_sections_written : (first again : SectionText) → section_without_places again ≡ section_without_places first
-    → (sections : List SectionText) → MayMean (more_sections first) sections
-    → Prints (more_sections again) (λ found. map section_without_places found ≡ map section_without_places sections) (flat_map section_words sections)
+pub more_sections_written : (language : ℕ) (first again : SectionText) → section_without_places again ≡ section_without_places first
+    → (sections : List SectionText) → MayMean (more_sections language first) sections
+    → Prints (more_sections language again) (λ found. map section_without_places found ≡ map section_without_places sections) (flat_map section_words sections)
 unfolding more_sections
-more_sections_written first again e sections v =
-    prints_all (λ before. item (nat_le 15 (length before)) Limits.Sections (section (letters_of (again ∷ before))))
-    (λ before. MayMean (item (nat_le 15 (length before)) Limits.Sections (section (letters_of (first ∷ before))))) section_words section_without_places
+more_sections_written language first again e sections v =
+    prints_all (λ before. item (nat_le 15 (length before)) Limits.Sections (section language (letters_of (again ∷ before))))
+    (λ before. MayMean (item (nat_le 15 (length before)) Limits.Sections (section language (letters_of (first ∷ before))))) section_words section_without_places
     (λ before others d a w.
     let used : letters_of (again ∷ others) ≡ letters_of (first ∷ before) = used_same (again ∷ others) (first ∷ before) (rw (e, d) refl) in
     prints_item (nat_le 15 (length others)) Limits.Sections (ap (nat_le 15) (same_length section_without_places others before d) ∙ w.0)
-    (subst (λ (n : ℕ). Prints (section n) (λ b. section_without_places b ≡ section_without_places a) (section_words a)) (sym used) (section_written (letters_of (first ∷ before)) a w.1)))
+    (subst (λ (n : ℕ). Prints (section language n) (λ b. section_without_places b ≡ section_without_places a) (section_words a)) (sym used) (section_written language (letters_of (first ∷ before)) a w.1)))
     sections v

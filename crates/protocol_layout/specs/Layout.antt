@@ -1,5 +1,5 @@
 -- The canonical layout of a protocol: its words, and how they stand on lines.
-use Rattle.std.specs.Prelude.{ℕ, List, [], ◌∷◌, ◌++◌, Option, Some, None, codes, map, if◌then◌else◌}
+use Rattle.std.specs.Prelude.{ℕ, List, [], ◌∷◌, ◌++◌, Option, Some, None, codes, map, nat_le, if◌then◌else◌}
 use Rattle.std.specs.List.{flat_map}
 use Rattle.forms.specs.declared.name.Name.{Name}
 use Rattle.protocol_syntax.specs.declared.protocol.Protocol.{Protocol}
@@ -34,14 +34,23 @@ names_words names = map (λ n. n.text) names
 abbrev pub in_braces : List Word → List Word
 in_braces words = codes "{" ∷ (words ++ codes "}" ∷ [])
 
+-- the first word of a kind, and what stands behind it
 abbrev pub kind_word : Kind → Word
 kind_word Kinds.Cell = codes "cell"
 kind_word Kinds.Array = codes "array"
 kind_word Kinds.Channel = codes "channel"
 kind_word Kinds.Stack = codes "stack"
+kind_word Kinds.LossyChannel = codes "lossy"
+
+abbrev pub kind_rest : Kind → List Word
+kind_rest Kinds.Cell = []
+kind_rest Kinds.Array = []
+kind_rest Kinds.Channel = []
+kind_rest Kinds.Stack = []
+kind_rest Kinds.LossyChannel = codes "channel" ∷ []
 
 abbrev pub section_words : SectionText → List Word
-section_words s = kind_word s.kind ∷ s.name.text ∷ in_braces (names_words s.letters)
+section_words s = kind_word s.kind ∷ (kind_rest s.kind ++ s.name.text ∷ in_braces (names_words s.letters))
 
 abbrev pub count_words : Many → List Word
 count_words Counts.One = []
@@ -105,6 +114,9 @@ move_words (Moves.Set from to) = codes "set" ∷ from.text ∷ codes "->" ∷ to
 move_words (Moves.Send letter) = codes "send" ∷ letter.text ∷ []
 move_words (Moves.Recv letter) = codes "recv" ∷ letter.text ∷ []
 move_words (Moves.Stack pop push) = popped_words pop ++ pushed_words push
+move_words (Moves.Spawn letter) = codes "spawn" ∷ letter.text ∷ []
+move_words (Moves.Exit letter) = codes "exit" ∷ letter.text ∷ []
+move_words (Moves.Lose base) = codes "lose" ∷ base_words base
 
 abbrev pub step_words : MoveText → List Word
 step_words m = m.section.text ∷ codes ":" ∷ (move_words m.body ++ codes ";" ∷ [])
@@ -112,11 +124,15 @@ step_words m = m.section.text ∷ codes ":" ∷ (move_words m.body ++ codes ";" 
 abbrev pub rule_words : RuleText → List Word
 rule_words r = codes "rule" ∷ r.name.text ∷ in_braces (flat_map step_words r.moves)
 
+-- a text of language 1 does not say so
+abbrev pub language_words : ℕ → List Word
+language_words language = if nat_le 2 language then codes "language" ∷ codes "2" ∷ [] else []
+
 -- the words of the items, each of which stands on a line of its own: the head, the sections, the rows of initial configurations, the
 -- rules and the rows of bad ones
 abbrev pub items : Protocol → List (List Word)
 items p =
-    (codes "protocol" ∷ p.name.text ∷ [])
+    (codes "protocol" ∷ p.name.text ∷ language_words p.language)
     ∷ (map section_words p.sections
     ++ (map (row_words (codes "init")) p.init
     ++ (map rule_words p.rules

@@ -56,6 +56,9 @@ move_without_places (Moves.Set from to) = Moves.Set (name_without_place from) (n
 move_without_places (Moves.Send letter) = Moves.Send (name_without_place letter)
 move_without_places (Moves.Recv letter) = Moves.Recv (name_without_place letter)
 move_without_places (Moves.Stack pop push) = Moves.Stack (popped_without_place pop) (map name_without_place push)
+move_without_places (Moves.Spawn letter) = Moves.Spawn (name_without_place letter)
+move_without_places (Moves.Exit letter) = Moves.Exit (name_without_place letter)
+move_without_places (Moves.Lose base) = Moves.Lose (base_without_places base)
 
 abbrev pub step_without_places : MoveText → MoveText
 step_without_places m = record { section = name_without_place m.section; body = move_without_places m.body }
@@ -67,6 +70,7 @@ rule_without_places r = record { name = name_without_place r.name; moves = map s
 abbrev pub without_places : Protocol → Protocol
 without_places p = record {
   name = name_without_place p.name;
+  language = p.language;
   sections = map section_without_places p.sections;
   init = map row_without_places p.init;
   rules = map rule_without_places p.rules;

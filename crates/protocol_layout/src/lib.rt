@@ -7,7 +7,7 @@ ghost use Rattle.std.specs.Prelude.{◌≡◌, ◌++◌, ◌∷◌, [], codes, m
 ghost use Rattle.std.specs.List.{flat_map};
 ghost use Rattle.protocol_layout.specs.Layout.{atom_words, base_words, count_words, entry_words};
 ghost use Rattle.protocol_layout.specs.Written.{Adds, AddsLine, AddsLines};
-ghost use Rattle.protocol_layout.specs.Layout.{four_words, guard_words, in_braces, items, kind_word, layout};
+ghost use Rattle.protocol_layout.specs.Layout.{four_words, guard_words, in_braces, items, kind_rest, kind_word, language_words, layout};
 ghost use Rattle.protocol_syntax.specs.Spacing.{is_attached};
 ghost use Rattle.protocol_layout.specs.Layout.{move_words, names_words, part_words, pattern_words, popped_words};
 ghost use Rattle.protocol_layout.specs.Layout.{pushed_words, region_word, row_words, rule_words, section_words};
@@ -77,6 +77,16 @@ fn kind_word(kind: Kind) -> &'static [u8]
         Kind::Array => b"array",
         Kind::Channel => b"channel",
         Kind::Stack => b"stack",
+        Kind::LossyChannel => b"lossy",
+    }
+}
+
+fn write_kind_rest(out: &mut Vec<u8>, kind: Kind) -> Result<(), AllocError>
+    ensures { OnOk result (Adds out.old.items out.new.items (kind_rest kind)) }
+{
+    match kind {
+        Kind::Cell | Kind::Array | Kind::Channel | Kind::Stack => Ok(()),
+        Kind::LossyChannel => write_word(out, b"channel"),
     }
 }
 
@@ -84,6 +94,7 @@ fn write_section(out: &mut Vec<u8>, section: &SectionText) -> Result<(), AllocEr
     ensures { OnOk result (AddsLine out.old.items out.new.items (section_words section.now)) }
 {
     out.extend_from_slice(kind_word(section.kind))?;
+    write_kind_rest(out, section.kind)?;
     write_name(out, &section.name)?;
     write_set(out, section.letters.as_slice())?;
     out.push(b'\n')?;
@@ -328,6 +339,14 @@ fn write_stack_move(out: &mut Vec<u8>, pop: &Option<Name>, push: &[Name]) -> Res
     Ok(())
 }
 
+fn write_lose_move(out: &mut Vec<u8>, base: &BaseText) -> Result<(), AllocError>
+    ensures { OnOk result (Adds out.old.items out.new.items (codes "lose" ∷ base_words base.now)) }
+{
+    write_word(out, b"lose")?;
+    write_base(out, base)?;
+    Ok(())
+}
+
 fn write_body(out: &mut Vec<u8>, body: &MoveBody) -> Result<(), AllocError>
     ensures { OnOk result (Adds out.old.items out.new.items (move_words body.now)) }
 {
@@ -348,6 +367,9 @@ fn write_body(out: &mut Vec<u8>, body: &MoveBody) -> Result<(), AllocError>
         MoveBody::Send { letter } => write_letter_move(out, b"send", letter),
         MoveBody::Recv { letter } => write_letter_move(out, b"recv", letter),
         MoveBody::Stack { pop, push } => write_stack_move(out, pop, push.as_slice()),
+        MoveBody::Spawn { letter } => write_letter_move(out, b"spawn", letter),
+        MoveBody::Exit { letter } => write_letter_move(out, b"exit", letter),
+        MoveBody::Lose { base } => write_lose_move(out, base),
     }
 }
 
@@ -409,12 +431,31 @@ fn write_rules(out: &mut Vec<u8>, rules: &[RuleText]) -> Result<(), AllocError>
     Ok(())
 }
 
-fn write_items(out: &mut Vec<u8>, protocol: &Protocol) -> Result<(), AllocError>
-    ensures { OnOk result (AddsLines out.old.items out.new.items (items protocol.now)) }
+fn write_language(out: &mut Vec<u8>, language: u32) -> Result<(), AllocError>
+    ensures { OnOk result (Adds out.old.items out.new.items (language_words language)) }
+{
+    if 2 <= language {
+        write_word(out, b"language")?;
+        write_word(out, b"2")?;
+    }
+    Ok(())
+}
+
+fn write_head(out: &mut Vec<u8>, protocol: &Protocol) -> Result<(), AllocError>
+    ensures { OnOk result (AddsLine out.old.items out.new.items
+        (codes "protocol" ∷ protocol.now.name.text ∷ language_words protocol.now.language)) }
 {
     out.extend_from_slice(b"protocol")?;
     write_name(out, &protocol.name)?;
+    write_language(out, protocol.language)?;
     out.push(b'\n')?;
+    Ok(())
+}
+
+fn write_items(out: &mut Vec<u8>, protocol: &Protocol) -> Result<(), AllocError>
+    ensures { OnOk result (AddsLines out.old.items out.new.items (items protocol.now)) }
+{
+    write_head(out, protocol)?;
     write_sections(out, protocol.sections.as_slice())?;
     write_rows(out, b"init", protocol.init.as_slice())?;
     write_rules(out, protocol.rules.as_slice())?;

@@ -4,62 +4,37 @@ use Rattle.std.proofs.lemmas.Bool.{lt-ltb, le-leb, leb-false, and_from}
 use Rattle.std.proofs.lemmas.List.Sums.{sum_by-cons, sum_by_push}
 use Rattle.std.specs.Prelude.{⊤}
 use Rattle.std.specs.List.{AllByRecursion}
-use Rattle.forms.specs.declared.fault.What.{What}
 use Rattle.forms.specs.declared.fault.What.TheVariants as Limits
 use Rattle.forms.specs.declared.name.Name.{Name}
 use Rattle.protocol_syntax.specs.declared.protocol.Protocol.{Protocol}
 use Rattle.protocol_syntax.specs.declared.protocol.SectionText.{SectionText}
-use Rattle.protocol_syntax.specs.declared.protocol.RowText.{RowText}
-use Rattle.protocol_syntax.specs.declared.protocol.PartText.{PartText}
 use Rattle.protocol_syntax.specs.declared.protocol.RuleText.{RuleText}
 use Rattle.protocol_syntax.specs.declared.protocol.MoveText.{MoveText}
 use Rattle.protocol_syntax.specs.declared.protocol.MoveBody.{MoveBody}
-use Rattle.forms.specs.declared.symbol.Keyword.{Keyword}
 use Rattle.forms.specs.declared.symbol.Keyword.TheVariants as Words
-use Rattle.forms.specs.Grammar.{Grammar, name, up_to}
-use Rattle.protocol_syntax.specs.Grammar.{section, letters_of, more_sections, atom, atoms, pattern, part, row, guard, at_move, pair_move, ring_move, two_move, set_move, send_move, recv_move, pushed, pop_move, push_move, channel_or_stack_move, any_move, step, rule, protocol, IsProtocol}
+use Rattle.forms.specs.Grammar.{name}
+use Rattle.protocol_syntax.specs.Grammar.{section, letters_of, more_sections, row, guard, at_move, pair_move, ring_move, two_move, set_move, send_move, recv_move, pushed, pop_move, push_move, channel_or_stack_move, common_move, spawn_move, exit_move, lose_move, later_move, any_move, step, rule, protocol, IsProtocol}
 use Rattle.forms.proofs.MayMean.{MayMean, AllAfter, within_may_mean}
 use Rattle.forms.proofs.MayMean as Grammar
 use Rattle.protocol_syntax.proofs.Told.{protocol_is_told, protocol_is_uniform}
+use Rattle.protocol_syntax.proofs.Within.{up_to_within, each_item, row_within}
 use Rattle.protocol_model.specs.Names.{IsName}
 use Rattle.protocol_model.specs.Allowed.{IsAllowed, IsAllowedSection, IsAllowedRule, IsAllowedRow, IsAllowedBody}
 
-named : (n : Name) → Grammar.IsName n → IsName n.text
+pub named : (n : Name) → Grammar.IsName n → IsName n.text
 named n is =
     and_from _ _
     (and_from _ _ (and_from _ _ (lt-ltb 0 (length n.text) is.some) (le-leb (length n.text) 32 is.short)) is.bytes)
     (rw is.free refl)
-
--- the items are within their limit, and each has the property that its form gives
-items_within : {A : Type 0} (limit : ℕ) (x : Grammar A) (P : A → Type 0) → ((a : A) → MayMean x a → P a) → (values before : List A)
-    → AllAfter (λ b a. (nat_le limit (length b) ≡ false) × MayMean x a) before values → length before ≤ limit
-    → AllByRecursion P values × (length before + length values ≤ limit)
-items_within limit x P each [] before all fit = (tt, omega (arith, fit))
-items_within {A} limit x P each (a ∷ values) before (here, all) fit =
-    let room : length before < limit = leb-false limit (length before) here.0 in
-    let more = items_within limit x P each values (before ++ a ∷ []) all (omega (arith, room, length-append before (a ∷ []))) in
-    ((each a here.1, more.0), omega (arith, more.1, length-append before (a ∷ [])))
-
-up_to_within : {A : Type 0} (limit : ℕ) (what : What) (x : Grammar A) (P : A → Type 0) → ((a : A) → MayMean x a → P a) → (values : List A)
-    → MayMean (up_to limit what x) values → AllByRecursion P values × (length values ≤ limit)
-unfolding up_to
-up_to_within limit what x P each values all =
-    let both = items_within limit x P each values [] all (omega arith) in
-    (both.0, omega (arith, both.1))
-
-each_item : {A : Type 0} (x : Grammar A) (P : A → Type 0) → ((a : A) → MayMean x a → P a) → (values before : List A)
-    → AllAfter (λ _. MayMean x) before values → AllByRecursion P values
-each_item x P each [] before all = tt
-each_item x P each (a ∷ values) before all = (each a all.0, each_item x P each values (before ++ a ∷ []) all.1)
 
 -- a section is allowed, and has no more letters than were left
 record IsSectionWithin (used : ℕ) (s : SectionText) : Type 0 where
   allowed : IsAllowedSection s
   few : used + length s.letters ≤ 256
 
-section_within : (used : ℕ) (s : SectionText) → MayMean (section used) s → IsSectionWithin used s
+section_within : (language used : ℕ) (s : SectionText) → MayMean (section language used) s → IsSectionWithin used s
 unfolding section
-section_within used s (k, vk, (n, v, (u, tu, (letter, vl, (letters, vls, (w, tw, e)))))) =
+section_within language used s (k, vk, (n, v, (u, tu, (letter, vl, (letters, vls, (w, tw, e)))))) =
     let room : used < 256 = leb-false 256 used vl.0 in
     let more = up_to_within (255 - used) Limits.Letters name (λ a. IsName a.text) named letters vls in
     subst (IsSectionWithin used) (sym e) (record {
@@ -67,36 +42,21 @@ section_within used s (k, vk, (n, v, (u, tu, (letter, vl, (letters, vls, (w, tw,
       few = omega (arith, room, more.1);
     })
 
-sections_within : (first : SectionText) (values before : List SectionText)
-    → AllAfter (λ b s. (nat_le 15 (length b) ≡ false) × MayMean (section (letters_of (first ∷ b))) s) before values
+sections_within : (language : ℕ) (first : SectionText) (values before : List SectionText)
+    → AllAfter (λ b s. (nat_le 15 (length b) ≡ false) × MayMean (section language (letters_of (first ∷ b))) s) before values
     → length before ≤ 15 → letters_of (first ∷ before) ≤ 256
     → AllByRecursion IsAllowedSection values × (length before + length values ≤ 15) × (letters_of (first ∷ before ++ values) ≤ 256)
-sections_within first [] before all fit few =
+sections_within language first [] before all fit few =
     (tt, omega (arith, fit), subst (λ (l : List SectionText). letters_of (first ∷ l) ≤ 256) (sym (append-nil before)) few)
-sections_within first (s ∷ values) before (here, all) fit few =
+sections_within language first (s ∷ values) before (here, all) fit few =
     let room : length before < 15 = leb-false 15 (length before) here.0 in
-    let one = section_within (letters_of (first ∷ before)) s here.1 in
-    let more = sections_within first values (before ++ s ∷ []) all (omega (arith, room, length-append before (s ∷ [])))
+    let one = section_within language (letters_of (first ∷ before)) s here.1 in
+    let more = sections_within language first values (before ++ s ∷ []) all (omega (arith, room, length-append before (s ∷ [])))
     (omega (arith, one.few, sum_by_push (λ (t : SectionText). length t.letters) (first ∷ before) s)) in (
       (one.allowed, more.0),
       omega (arith, more.1, length-append before (s ∷ [])),
       subst (λ (l : List SectionText). letters_of (first ∷ l) ≤ 256) (append_assoc before (s ∷ []) values) more.2,
     )
-
-abbrev HasFewAtoms : PartText → Type 0
-HasFewAtoms part = length part.atoms ≤ 32
-
-part_within : (p : PartText) → MayMean part p → HasFewAtoms p
-unfolding part pattern atoms
-part_within p (n, v, (u, tu, (atoms, inl (w, tw, none), (x, tx, e)))) = subst HasFewAtoms (sym e) (rw none (omega arith))
-part_within p (n, v, (u, tu, (atoms, inr (first, vf, (rest, vr, some)), (x, tx, e)))) =
-    let more = up_to_within 31 Limits.Atoms atom (λ _. ⊤) (λ _ _. tt) rest vr in
-    subst HasFewAtoms (sym e) (rw some (omega (arith, more.1)))
-
-row_within : (word : Keyword) (r : RowText) → MayMean (row word) r → IsAllowedRow r
-unfolding row
-row_within word r (u, tu, (w, tw, (parts, v, (x, tx, e)))) =
-    subst IsAllowedRow (sym e) (each_item part HasFewAtoms part_within parts [] v)
 
 pushed_within : (names : List Name) → MayMean pushed names → (0 < length names) × (length names ≤ 4)
 unfolding pushed
@@ -104,39 +64,51 @@ pushed_within names (u, tu, (first, v, (rest, w, e))) =
     let more = up_to_within 3 Limits.Pushed name (λ _. ⊤) (λ _ _. tt) rest w in
     rw e (omega arith, omega (arith, more.1))
 
-body_within : (b : MoveBody) → MayMean any_move b → IsAllowedBody b
-unfolding any_move at_move pair_move ring_move two_move set_move channel_or_stack_move send_move recv_move pop_move push_move
-body_within b (inl (u, tu, (from, vf, (x, tx, (to, vt, (guards, vg, (map, vm, e))))))) =
+common_within : (b : MoveBody) → MayMean common_move b → IsAllowedBody b
+unfolding common_move at_move pair_move ring_move two_move set_move channel_or_stack_move send_move recv_move pop_move push_move
+common_within b (inl (u, tu, (from, vf, (x, tx, (to, vt, (guards, vg, (map, vm, e))))))) =
     subst IsAllowedBody (sym e) (up_to_within 4 Limits.Guards guard (λ _. ⊤) (λ _ _. tt) guards vg).1
-body_within b (inr (inl (n, v, e))) = subst IsAllowedBody (sym e) tt
-body_within b (inr (inr (inl (n, v, e)))) = subst IsAllowedBody (sym e) tt
-body_within b (inr (inr (inr (inl (n, v, e))))) = subst IsAllowedBody (sym e) tt
-body_within b (inr (inr (inr (inr (inl (u, tu, (f, vf, (x, tx, (t, vt, e))))))))) = subst IsAllowedBody (sym e) tt
-body_within b (inr (inr (inr (inr (inr (inl (u, tu, (n, v, e)))))))) = subst IsAllowedBody (sym e) tt
-body_within b (inr (inr (inr (inr (inr (inr (inl (u, tu, (n, v, e))))))))) = subst IsAllowedBody (sym e) tt
-body_within b (inr (inr (inr (inr (inr (inr (inr (inl (u, tu, (n, v, (push, inl none, e))))))))))) =
+common_within b (inr (inl (n, v, e))) = subst IsAllowedBody (sym e) tt
+common_within b (inr (inr (inl (n, v, e)))) = subst IsAllowedBody (sym e) tt
+common_within b (inr (inr (inr (inl (n, v, e))))) = subst IsAllowedBody (sym e) tt
+common_within b (inr (inr (inr (inr (inl (u, tu, (f, vf, (x, tx, (t, vt, e))))))))) = subst IsAllowedBody (sym e) tt
+common_within b (inr (inr (inr (inr (inr (inl (u, tu, (n, v, e)))))))) = subst IsAllowedBody (sym e) tt
+common_within b (inr (inr (inr (inr (inr (inr (inl (u, tu, (n, v, e))))))))) = subst IsAllowedBody (sym e) tt
+common_within b (inr (inr (inr (inr (inr (inr (inr (inl (u, tu, (n, v, (push, inl none, e))))))))))) =
     subst IsAllowedBody (sym e) (tt, rw none (omega arith))
-body_within b (inr (inr (inr (inr (inr (inr (inr (inl (u, tu, (n, v, (push, inr w, e))))))))))) =
+common_within b (inr (inr (inr (inr (inr (inr (inr (inl (u, tu, (n, v, (push, inr w, e))))))))))) =
     subst IsAllowedBody (sym e) (tt, (pushed_within push w).1)
-body_within b (inr (inr (inr (inr (inr (inr (inr (inr (push, v, e))))))))) = subst IsAllowedBody (sym e) (pushed_within push v)
+common_within b (inr (inr (inr (inr (inr (inr (inr (inr (push, v, e))))))))) = subst IsAllowedBody (sym e) (pushed_within push v)
 
-step_within : (m : MoveText) → MayMean step m → IsAllowedBody m.body
+later_within : (b : MoveBody) → MayMean later_move b → IsAllowedBody b
+unfolding later_move spawn_move exit_move lose_move
+later_within b (inl (u, tu, (n, v, e))) = subst IsAllowedBody (sym e) tt
+later_within b (inr (inl (u, tu, (n, v, e)))) = subst IsAllowedBody (sym e) tt
+later_within b (inr (inr (u, tu, (base, v, e)))) = subst IsAllowedBody (sym e) tt
+
+body_within : (language : ℕ) (b : MoveBody) → MayMean (any_move language) b → IsAllowedBody b
+unfolding any_move
+body_within language b (inl v) = later_within b v.1
+body_within language b (inr v) = common_within b v
+
+step_within : (language : ℕ) (m : MoveText) → MayMean (step language) m → IsAllowedBody m.body
 unfolding step
-step_within m (n, v, (u, tu, (body, w, (x, tx, e)))) = subst (λ (t : MoveText). IsAllowedBody t.body) (sym e) (body_within body w)
+step_within language m (n, v, (u, tu, (body, w, (x, tx, e)))) =
+    subst (λ (t : MoveText). IsAllowedBody t.body) (sym e) (body_within language body w)
 
-rule_within : (r : RuleText) → MayMean rule r → IsAllowedRule r
+rule_within : (language : ℕ) (r : RuleText) → MayMean (rule language) r → IsAllowedRule r
 unfolding rule
-rule_within r (u, tu, (n, v, (w, tw, (moves, vm, (x, tx, e))))) =
-    subst IsAllowedRule (sym e) (record { named = named n v; bodies = each_item step (λ m. IsAllowedBody m.body) step_within moves [] vm })
+rule_within language r (u, tu, (n, v, (w, tw, (moves, vm, (x, tx, e))))) =
+    subst IsAllowedRule (sym e) (record { named = named n v; bodies = each_item (step language) (λ m. IsAllowedBody m.body) (step_within language) moves [] vm })
 
 protocol_within : (p : Protocol) → MayMean protocol p → IsAllowed p
 unfolding protocol more_sections
-protocol_within p (u, tu, (n, v, (first, vf, (sections, vs, (init, vi, (rules, vr, (bad, vb, e))))))) =
-    let one = section_within 0 first vf in
-    let more = sections_within first sections [] vs (omega arith)
+protocol_within p (u, tu, (n, v, (language, vg, (first, vf, (sections, vs, (init, vi, (rules, vr, (bad, vb, e)))))))) =
+    let one = section_within language 0 first vf in
+    let more = sections_within language first sections [] vs (omega arith)
     (omega (arith, one.few, sum_by-cons (λ (t : SectionText). length t.letters) first [])) in
     let start = up_to_within 32 Limits.InitRows (row Words.Init) IsAllowedRow (row_within Words.Init) init vi in
-    let each = up_to_within 256 Limits.Rules rule IsAllowedRule rule_within rules vr in
+    let each = up_to_within 256 Limits.Rules (rule language) IsAllowedRule (rule_within language) rules vr in
     let wrong = up_to_within 32 Limits.BadRows (row Words.Bad) IsAllowedRow (row_within Words.Bad) bad vb in
     subst IsAllowed (sym e) (record {
       named = named n v;

@@ -1,5 +1,7 @@
 pub mod Below
 pub mod Fitting
+pub mod Cuts
+pub mod KindLemmas
 pub mod Lists
 pub mod Walk
 pub mod Known

@@ -1,11 +1,10 @@
 -- The system of a protocol that is allowed and has no fault is valid.
-use Rattle.std.proofs.Common.{◌≡◌, ◌≢◌, ℕ, ◌<◌, ◌≤◌, true, false, List, [], ◌∷◌, Option, None, Some, map, length, refl, ap, subst, ◌∙◌}
+use Rattle.std.proofs.Common.{◌≡◌, ◌≢◌, ℕ, ◌<◌, ◌≤◌, Bool, true, false, List, [], ◌∷◌, Option, None, Some, map, length, refl, ap, subst, ◌∙◌}
 use Rattle.std.specs.List.{list_any, AllByRecursion}
 use Rattle.std.specs.Option.{option_map, option_map_or}
 use Rattle.std.specs.Str.{bytes_eq}
 use Rattle.std.proofs.lemmas.Option.{slice_get-map}
 use Rattle.protocol_syntax.specs.declared.protocol.Kind.{Kind}
-use Rattle.protocol_syntax.specs.declared.protocol.Kind.TheVariants.{Cell, Array, Channel, Stack as StackKind}
 use Rattle.forms.specs.declared.name.Name.{Name}
 use Rattle.protocol_syntax.specs.declared.protocol.Protocol.{Protocol}
 use Rattle.protocol_syntax.specs.declared.protocol.SectionText.{SectionText}
@@ -14,17 +13,17 @@ use Rattle.protocol_syntax.specs.declared.protocol.PartText.{PartText}
 use Rattle.protocol_syntax.specs.declared.protocol.GuardText.{GuardText}
 use Rattle.protocol_syntax.specs.declared.protocol.MoveText.{MoveText}
 use Rattle.protocol_syntax.specs.declared.protocol.MoveBody.{MoveBody}
-use Rattle.protocol_syntax.specs.declared.protocol.MoveBody.TheVariants.{At, Pair, Ring, Two, Set, Send, Recv, Stack}
+use Rattle.protocol_syntax.specs.declared.protocol.MoveBody.TheVariants.{At, Pair, Ring, Two, Set, Send, Recv, Stack, Spawn, Exit, Lose}
 use Rattle.protocol_syntax.specs.declared.protocol.RuleText.{RuleText}
 use Rattle.protocol_model.specs.declared.fault.ModelFault.TheVariants.{Duplicate, TouchedTwice, WrongKind}
-use Rattle.protocol_model.specs.System.{AllBelow, IsValidSection, IsValidPattern, IsValidRow, IsValidAt, IsValidPop, IsValidMove, IsValidPart, IsValidRule, IsValid, letter_count_at, kind_of_move}
+use Rattle.protocol_model.specs.System.{AllBelow, IsValidSection, IsValidPattern, IsValidRow, IsValidAt, IsValidPop, IsValidMove, IsValidPart, IsValidRule, IsValid, letter_count_at, belongs_to}
 use Rattle.protocol_model.specs.Numbering.{number_of, section_names, section_named, letters_named, section_of, texts_of, part_of, row_of, guard_of, entry_of, move_of_text, step_of, rule_of, system_of}
-use Rattle.protocol_model.specs.Faults.{is_among, unknown, duplicate, touched_twice, letters_fault, first_fault_of, section_fault, part_fault, row_fault, entry_fault, two_fault, four_fault, body_fault, kind_of_body, same_kind, wrong_kind, step_fault, rule_fault, first_fault}
+use Rattle.protocol_model.specs.Faults.{is_among, unknown, duplicate, touched_twice, letters_fault, first_fault_of, section_fault, part_fault, row_fault, entry_fault, two_fault, four_fault, body_fault, body_belongs_to, wrong_kind, step_fault, rule_fault, first_fault}
 use Rattle.protocol_model.specs.Allowed.{IsAllowed, IsAllowedSection, IsAllowedRow, IsAllowedBody, IsAllowedRule, PopsOrPushes}
 use Rattle.protocol_model.specs.Names.{IsName}
 use Rattle.protocol_model.proofs.Lists.{length_map}
 use Rattle.protocol_model.proofs.Distinct.{IsClean, each_clean, all_of_map, all_of_both, named_apart, none_first, none_second}
-use Rattle.protocol_model.proofs.InRange.{true_of_none, false_of_none, known, number_in, number_injective, numbers_in, pattern_valid, count_at, total_is}
+use Rattle.protocol_model.proofs.InRange.{true_of_none, false_of_none, known, number_in, number_injective, numbers_in, base_in, pattern_valid, count_at, total_is}
 
 section_in : (texts : List SectionText) (name : Name) → unknown (section_names texts) name ≡ None →
     number_of (section_names texts) name < length (map section_of texts)
@@ -51,7 +50,7 @@ part_pattern texts part clean limit =
     (none_second (unknown (section_names texts) part.section) _ clean.none))
     limit)
 
-row_valid : (texts : List SectionText) (row : RowText) → row_fault texts row ≡ None → IsAllowedRow row →
+pub row_valid : (texts : List SectionText) (row : RowText) → row_fault texts row ≡ None → IsAllowedRow row →
     IsValidRow (map section_of texts) (row_of texts row)
 row_valid texts row h allowed =
     let clean = each_clean (part_fault texts) [] row.parts h in
@@ -154,33 +153,32 @@ move_valid letters (Stack pop push) h allowed =
       push_in_range = numbers_in letters push (none_second (option_map_or (unknown letters) pop None) _ h);
       push_limit = rw (length_map (number_of letters) push) allowed.1;
     }
+move_valid letters (Spawn a) h allowed = number_in letters a h
+move_valid letters (Exit a) h allowed = number_in letters a h
+move_valid letters (Lose base) h allowed = base_in letters base h
 
-kind_kept : (letters : List (List ℕ)) (body : MoveBody) → kind_of_move (move_of_text letters body) ≡ kind_of_body body
-kind_kept letters (At f t guards table) = refl
-kind_kept letters (Pair a b c d) = refl
-kind_kept letters (Ring a b c d) = refl
-kind_kept letters (Two a b c d) = refl
-kind_kept letters (Set a b) = refl
-kind_kept letters (Send a) = refl
-kind_kept letters (Recv a) = refl
-kind_kept letters (Stack pop push) = refl
+kind_kept : (letters : List (List ℕ)) (body : MoveBody) (kind : Kind) → belongs_to (move_of_text letters body) kind ≡ body_belongs_to body kind
+kind_kept letters (At f t guards table) kind = refl
+kind_kept letters (Pair a b c d) kind = refl
+kind_kept letters (Ring a b c d) kind = refl
+kind_kept letters (Two a b c d) kind = refl
+kind_kept letters (Set a b) kind = refl
+kind_kept letters (Send a) kind = refl
+kind_kept letters (Recv a) kind = refl
+kind_kept letters (Stack pop push) kind = refl
+kind_kept letters (Spawn a) kind = refl
+kind_kept letters (Exit a) kind = refl
+kind_kept letters (Lose base) kind = refl
 
-same_kind_is : (a b : Kind) → same_kind a b ≡ true → a ≡ b
-same_kind_is Cell Cell h = refl
-same_kind_is Array Array h = refl
-same_kind_is Channel Channel h = refl
-same_kind_is StackKind StackKind h = refl
-same_kind_is _ _ h = cc
-
--- the section of a step
-record IsFound (found : Option SectionText) (kind : Kind) : Type 0 where
+-- the section of a step, which passes a test of its kind
+record IsFound (found : Option SectionText) (test : Kind → Bool) : Type 0 where
   section : SectionText
   is : found ≡ Some section
-  same : kind ≡ section.kind
+  passes : test section.kind ≡ true
 
-found_of : (found : Option SectionText) (kind : Kind) → option_map_or (λ section. same_kind kind section.kind) found false ≡ true → IsFound found kind
-found_of None kind h = cc
-found_of (Some section) kind h = record { section = section; is = refl; same = same_kind_is kind section.kind h }
+found_of : (found : Option SectionText) (test : Kind → Bool) → option_map_or (λ section. test section.kind) found false ≡ true → IsFound found test
+found_of None test h = cc
+found_of (Some section) test h = record { section = section; is = refl; passes = h }
 
 step_valid : (texts : List SectionText) (step : MoveText) → IsClean (step_fault texts) step → IsAllowedBody step.body →
     IsValidPart (map section_of texts) (step_of texts step)
@@ -191,15 +189,15 @@ step_valid texts step clean allowed =
     let after_fresh = none_second (touched_twice earlier step.section) _ after_known in
     let right = none_first (wrong_kind texts step) _ after_fresh in
     let body = none_second (wrong_kind texts step) _ after_fresh in
-    let found = found_of (section_named texts step.section) (kind_of_body step.body)
-    (true_of_none (option_map_or (λ section. same_kind (kind_of_body step.body) section.kind) (section_named texts step.section) false)
+    let found = found_of (section_named texts step.section) (body_belongs_to step.body)
+    (true_of_none (option_map_or (λ section. body_belongs_to step.body section.kind) (section_named texts step.section) false)
     (WrongKind step.section) right) in
     let letters : letters_named texts step.section ≡ texts_of found.section.letters =
     ap (λ o. option_map_or (λ section. texts_of section.letters) o []) found.is in
     record {
       section = section_of found.section;
       is_there = slice_get-map section_of texts (number_of names step.section) ∙ ap (λ o. option_map section_of o) found.is;
-      of_kind = kind_kept (letters_named texts step.section) step.body ∙ found.same;
+      of_kind = kind_kept (letters_named texts step.section) step.body found.section.kind ∙ found.passes;
       valid_move =
           subst (λ ls. IsValidMove (length ls) (move_of_text (letters_named texts step.section) step.body)) letters
           (move_valid (letters_named texts step.section) step.body body allowed);

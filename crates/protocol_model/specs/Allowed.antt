@@ -7,7 +7,7 @@ use Rattle.protocol_syntax.specs.declared.protocol.Protocol.{Protocol}
 use Rattle.protocol_syntax.specs.declared.protocol.SectionText.{SectionText}
 use Rattle.protocol_syntax.specs.declared.protocol.RowText.{RowText}
 use Rattle.protocol_syntax.specs.declared.protocol.MoveBody.{MoveBody}
-use Rattle.protocol_syntax.specs.declared.protocol.MoveBody.TheVariants.{At, Pair, Ring, Two, Set, Send, Recv, Stack}
+use Rattle.protocol_syntax.specs.declared.protocol.MoveBody.TheVariants.{At, Pair, Ring, Two, Set, Send, Recv, Stack, Spawn, Exit, Lose}
 use Rattle.protocol_syntax.specs.declared.protocol.RuleText.{RuleText}
 
 -- a pattern has 32 atoms at most
@@ -29,6 +29,9 @@ IsAllowedBody (Set a b) = Unit {0}
 IsAllowedBody (Send a) = Unit {0}
 IsAllowedBody (Recv a) = Unit {0}
 IsAllowedBody (Stack pop push) = PopsOrPushes pop push × (length push ≤ 4)
+IsAllowedBody (Spawn a) = Unit {0}
+IsAllowedBody (Exit a) = Unit {0}
+IsAllowedBody (Lose base) = Unit {0}
 
 -- a rule has a name
 pub record IsAllowedRule (rule : RuleText) : Type 0 where

@@ -1,10 +1,10 @@
 -- The first fault of a protocol. Its names are tested in the order of the text.
-use Rattle.std.specs.Prelude.{ℕ, Bool, true, false, List, [], ◌∷◌, ◌++◌, Option, None, Some, map, if◌then◌else◌}
+use Rattle.std.specs.Prelude.{ℕ, Bool, false, List, [], ◌∷◌, ◌++◌, ◌||◌, Option, None, Some, map, if◌then◌else◌}
 use Rattle.std.specs.List.{list_any}
 use Rattle.std.specs.Option.{option_or, option_map_or}
 use Rattle.std.specs.Str.{bytes_eq}
 use Rattle.protocol_syntax.specs.declared.protocol.Kind.{Kind}
-use Rattle.protocol_syntax.specs.declared.protocol.Kind.TheVariants.{Cell, Array, Channel, Stack}
+use Rattle.protocol_syntax.specs.declared.protocol.Kind.TheVariants.{Cell, Array, Channel, Stack, LossyChannel}
 use Rattle.forms.specs.declared.name.Name.{Name}
 use Rattle.protocol_syntax.specs.declared.protocol.Protocol.{Protocol}
 use Rattle.protocol_syntax.specs.declared.protocol.SectionText.{SectionText}
@@ -19,6 +19,7 @@ use Rattle.protocol_syntax.specs.declared.protocol.RuleText.{RuleText}
 use Rattle.protocol_model.specs.declared.fault.ModelFault.{ModelFault}
 use Rattle.protocol_model.specs.declared.fault.ModelFault.TheVariants.{Duplicate, Unknown, TouchedTwice, WrongKind}
 use Rattle.protocol_model.specs.Numbering.{texts_of, section_names, section_named, letters_named}
+use Rattle.protocol_model.specs.System.{same_kind}
 
 -- the first fault of the items, each of which is tested with the items before it
 abbrev pub first_fault_of : {X : Type 0} → (List X → X → Option ModelFault) → List X → List X → Option ModelFault
@@ -89,33 +90,31 @@ body_fault letters (text.Send a) = unknown letters a
 body_fault letters (text.Recv a) = unknown letters a
 body_fault letters (text.Stack pop push) =
     option_or (option_map_or (unknown letters) pop None) (letters_fault letters push)
+body_fault letters (text.Spawn a) = unknown letters a
+body_fault letters (text.Exit a) = unknown letters a
+body_fault letters (text.Lose base) = base_fault letters base
 
--- the kind of the sections to which a move belongs
-abbrev pub kind_of_body : MoveBody → Kind
-kind_of_body (text.At f t guards table) = Array
-kind_of_body (text.Pair a b c d) = Array
-kind_of_body (text.Ring a b c d) = Array
-kind_of_body (text.Two a b c d) = Array
-kind_of_body (text.Set a b) = Cell
-kind_of_body (text.Send a) = Channel
-kind_of_body (text.Recv a) = Channel
-kind_of_body (text.Stack pop push) = Stack
-
--- whether two kinds are the same
-abbrev pub same_kind : Kind → Kind → Bool
-same_kind Cell Cell = true
-same_kind Array Array = true
-same_kind Channel Channel = true
-same_kind Stack Stack = true
-same_kind _ _ = false
+-- whether the move belongs to sections of the kind
+abbrev pub body_belongs_to : MoveBody → Kind → Bool
+body_belongs_to (text.At f t guards table) kind = same_kind Array kind
+body_belongs_to (text.Pair a b c d) kind = same_kind Array kind
+body_belongs_to (text.Ring a b c d) kind = same_kind Array kind
+body_belongs_to (text.Two a b c d) kind = same_kind Array kind
+body_belongs_to (text.Set a b) kind = same_kind Cell kind
+body_belongs_to (text.Send a) kind = same_kind Channel kind || same_kind LossyChannel kind
+body_belongs_to (text.Recv a) kind = same_kind Channel kind || same_kind LossyChannel kind
+body_belongs_to (text.Stack pop push) kind = same_kind Stack kind
+body_belongs_to (text.Spawn a) kind = same_kind Array kind
+body_belongs_to (text.Exit a) kind = same_kind Array kind
+body_belongs_to (text.Lose base) kind = same_kind LossyChannel kind
 
 abbrev pub wrong_kind : List SectionText → MoveText → Option ModelFault
 wrong_kind sections step =
-    if option_map_or (λ section. same_kind (kind_of_body step.body) section.kind) (section_named sections step.section) false
+    if option_map_or (λ section. body_belongs_to step.body section.kind) (section_named sections step.section) false
     then None
     else Some (WrongKind step.section)
 
--- a step of a rule: its section is there, is not that of an earlier step, and is of the move's kind; its letters are letters of the section
+-- a step of a rule: its section is there, is not that of an earlier step, and is of a kind to which the move belongs; its letters are letters of the section
 abbrev pub step_fault : List SectionText → List MoveText → MoveText → Option ModelFault
 step_fault sections earlier step =
     option_or (unknown (section_names sections) step.section)

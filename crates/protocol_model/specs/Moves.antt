@@ -5,7 +5,7 @@ use Rattle.protocol_syntax.specs.declared.protocol.Region.{Region}
 use Rattle.protocol_syntax.specs.declared.protocol.Region.TheVariants.{Left, Right, Others}
 use Rattle.protocol_model.specs.declared.system.Guard.{Guard}
 use Rattle.protocol_model.specs.declared.system.Move.{Move}
-use Rattle.protocol_model.specs.declared.system.Move.TheVariants.{At, Pair, Ring, Two, Set, Send, Recv, Stack}
+use Rattle.protocol_model.specs.declared.system.Move.TheVariants.{At, Pair, Ring, Two, Set, Send, Recv, Stack, Spawn, Exit, Lose}
 
 -- whether the letter is in the set
 abbrev pub is_in : List ℕ → ℕ → Bool
@@ -73,6 +73,19 @@ pub record IsStackMove (pop : Option ℕ) (push old new : List ℕ) : Type 0 whe
   pub was : old ≡ popped pop ++ below
   pub becomes : new ≡ push ++ below
 
+-- a letter leaves the list, wherever it stands
+pub record IsCut (a : ℕ) (old new : List ℕ) : Type 0 where
+  pub before : List ℕ
+  pub after : List ℕ
+  pub was : old ≡ before ++ a ∷ after
+  pub becomes : new ≡ before ++ after
+
+-- a letter of the set leaves the list, wherever it stands
+pub record IsLoss (letters old new : List ℕ) : Type 0 where
+  pub letter : ℕ
+  pub listed : IsTrue (is_in letters letter)
+  pub cut : IsCut letter old new
+
 -- the move leads from one list to the other
 abbrev pub IsMove : Move → List ℕ → List ℕ → Type 0
 IsMove (At f t guards table) old new = IsAtMove f t guards table old new
@@ -83,3 +96,6 @@ IsMove (Set a b) old new = (old ≡ a ∷ []) × (new ≡ b ∷ [])
 IsMove (Send a) old new = new ≡ old ++ a ∷ []
 IsMove (Recv a) old new = old ≡ a ∷ new
 IsMove (Stack pop push) old new = IsStackMove pop push old new
+IsMove (Spawn a) old new = new ≡ old ++ a ∷ []
+IsMove (Exit a) old new = IsCut a old new
+IsMove (Lose letters) old new = IsLoss letters old new

@@ -22,7 +22,7 @@ use Rattle.protocol_model.specs.declared.system.Pattern.{Pattern}
 use Rattle.protocol_model.specs.declared.system.Row.{Row}
 use Rattle.protocol_model.specs.declared.system.Guard.{Guard}
 use Rattle.protocol_model.specs.declared.system.Move.{Move}
-use Rattle.protocol_model.specs.declared.system.Move.TheVariants.{At, Pair, Ring, Two, Set, Send, Recv, Stack}
+use Rattle.protocol_model.specs.declared.system.Move.TheVariants.{At, Pair, Ring, Two, Set, Send, Recv, Stack, Spawn, Exit, Lose}
 use Rattle.protocol_model.specs.declared.system.Rule.{Rule}
 use Rattle.protocol_model.specs.System.{SystemData, data_of}
 
@@ -50,7 +50,7 @@ letters_named sections name = option_map_or (λ section. texts_of section.letter
 abbrev pub section_of : SectionText → Section
 section_of section = record { name = section.name.text; kind = section.kind; letters = texts_of section.letters }
 
--- the letters of an atom: one, those of a set, or all letters of the section
+-- the letters of an atom, or of those that may be lost: one, those of a set, or all letters of the section
 abbrev pub base_numbers : List (List ℕ) → BaseText → List ℕ
 base_numbers letters (Letter name) = number_of letters name ∷ []
 base_numbers letters (SetText names) = map (number_of letters) names
@@ -90,6 +90,9 @@ move_of_text letters (text.Send a) = Send (number_of letters a)
 move_of_text letters (text.Recv a) = Recv (number_of letters a)
 move_of_text letters (text.Stack pop push) =
     Stack (option_map (number_of letters) pop) (map (number_of letters) push)
+move_of_text letters (text.Spawn a) = Spawn (number_of letters a)
+move_of_text letters (text.Exit a) = Exit (number_of letters a)
+move_of_text letters (text.Lose base) = Lose (base_numbers letters base)
 
 abbrev pub step_of : List SectionText → MoveText → ℕ × Move
 step_of sections step =

@@ -2,7 +2,7 @@
 use Rattle.std.specs.Prelude.{◌==◌, ◌&&◌, ◌||◌, ℕ, Bool, true, false, List, [], ◌∷◌, length, nat_lt, unwrap_or, slice_get}
 use Rattle.std.specs.List.{list_all, list_any}
 use Rattle.protocol_syntax.specs.declared.protocol.Kind.{Kind}
-use Rattle.protocol_syntax.specs.declared.protocol.Kind.TheVariants.{Cell, Array, Channel, Stack}
+use Rattle.protocol_syntax.specs.declared.protocol.Kind.TheVariants.{Cell, Array, Channel, Stack, LossyChannel}
 use Rattle.protocol_syntax.specs.declared.protocol.Many.{Many}
 use Rattle.protocol_syntax.specs.declared.protocol.Many.TheVariants.{One, Star, Plus}
 use Rattle.protocol_model.specs.declared.system.Section.{Section}
@@ -44,6 +44,7 @@ has_any_length Cell = false
 has_any_length Array = true
 has_any_length Channel = true
 has_any_length Stack = true
+has_any_length LossyChannel = true
 
 -- whether the list has letters of the section alone, and exactly one where the section is a cell
 abbrev pub list_fits : Section → List ℕ → Bool

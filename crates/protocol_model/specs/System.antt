@@ -1,16 +1,16 @@
 -- Systems as data, and when a system is valid.
-use Rattle.std.specs.Prelude.{◌≡◌, ◌≢◌, ◌<◌, ◌≤◌, ℕ, List, [], ◌∷◌, Option, None, Some, length, slice_get}
+use Rattle.std.specs.Prelude.{◌≡◌, ◌≢◌, ◌<◌, ◌≤◌, ◌||◌, ℕ, Bool, true, false, IsTrue, List, [], ◌∷◌, Option, None, Some, length, slice_get}
 use Rattle.std.specs.Prelude.{AllPairs, sum_by}
 use Rattle.std.specs.List.{AllByRecursion}
 use Rattle.protocol_syntax.specs.declared.protocol.Kind.{Kind}
-use Rattle.protocol_syntax.specs.declared.protocol.Kind.TheVariants.{Cell, Array, Channel, Stack as StackKind}
+use Rattle.protocol_syntax.specs.declared.protocol.Kind.TheVariants.{Cell, Array, Channel, Stack as StackKind, LossyChannel}
 use Rattle.protocol_model.specs.Names.{IsName}
 use Rattle.protocol_model.specs.declared.system.Section.{Section}
 use Rattle.protocol_model.specs.declared.system.Pattern.{Pattern}
 use Rattle.protocol_model.specs.declared.system.Row.{Row}
 use Rattle.protocol_model.specs.declared.system.Guard.{Guard}
 use Rattle.protocol_model.specs.declared.system.Move.{Move}
-use Rattle.protocol_model.specs.declared.system.Move.TheVariants.{At, Pair, Ring, Two, Set, Send, Recv, Stack}
+use Rattle.protocol_model.specs.declared.system.Move.TheVariants.{At, Pair, Ring, Two, Set, Send, Recv, Stack, Spawn, Exit, Lose}
 use Rattle.protocol_model.specs.declared.system.Rule.{Rule}
 
 -- a protocol with its names replaced by numbers
@@ -88,23 +88,38 @@ IsValidMove count (Set a b) = AllBelow count (a ∷ b ∷ [])
 IsValidMove count (Send a) = a < count
 IsValidMove count (Recv a) = a < count
 IsValidMove count (Stack pop push) = IsValidStack count pop push
+IsValidMove count (Spawn a) = a < count
+IsValidMove count (Exit a) = a < count
+IsValidMove count (Lose letters) = AllBelow count letters
 
--- the kind of the sections to which a move belongs
-abbrev pub kind_of_move : Move → Kind
-kind_of_move (At f t guards table) = Array
-kind_of_move (Pair a b c d) = Array
-kind_of_move (Ring a b c d) = Array
-kind_of_move (Two a b c d) = Array
-kind_of_move (Set a b) = Cell
-kind_of_move (Send a) = Channel
-kind_of_move (Recv a) = Channel
-kind_of_move (Stack pop push) = StackKind
+-- whether two kinds are the same
+abbrev pub same_kind : Kind → Kind → Bool
+same_kind Cell Cell = true
+same_kind Array Array = true
+same_kind Channel Channel = true
+same_kind StackKind StackKind = true
+same_kind LossyChannel LossyChannel = true
+same_kind _ _ = false
+
+-- whether the move belongs to sections of the kind
+abbrev pub belongs_to : Move → Kind → Bool
+belongs_to (At f t guards table) kind = same_kind Array kind
+belongs_to (Pair a b c d) kind = same_kind Array kind
+belongs_to (Ring a b c d) kind = same_kind Array kind
+belongs_to (Two a b c d) kind = same_kind Array kind
+belongs_to (Set a b) kind = same_kind Cell kind
+belongs_to (Send a) kind = same_kind Channel kind || same_kind LossyChannel kind
+belongs_to (Recv a) kind = same_kind Channel kind || same_kind LossyChannel kind
+belongs_to (Stack pop push) kind = same_kind StackKind kind
+belongs_to (Spawn a) kind = same_kind Array kind
+belongs_to (Exit a) kind = same_kind Array kind
+belongs_to (Lose letters) kind = same_kind LossyChannel kind
 
 -- the move of a rule's part belongs to its section's kind, and has letters of this section
 pub record IsValidPart (sections : List Section) (part : ℕ × Move) : Type 0 where
   pub section : Section
   pub is_there : slice_get sections part.0 ≡ Some section
-  pub of_kind : kind_of_move part.1 ≡ section.kind
+  pub of_kind : IsTrue (belongs_to part.1 section.kind)
   pub valid_move : IsValidMove (letter_count section) part.1
 
 -- a rule has a name, and names existing sections, each once at most, with valid moves of their kinds

@@ -156,6 +156,12 @@ fn copy_move(alloc: Global, source: &Move) -> Result<Move, AllocError>
             let push = copy_numbers(alloc, push)?;
             Ok(Move::Stack { pop: *pop, push })
         }
+        Move::Spawn { letter } => Ok(Move::Spawn { letter: *letter }),
+        Move::Exit { letter } => Ok(Move::Exit { letter: *letter }),
+        Move::Lose { letters } => {
+            let letters = copy_numbers(alloc, letters)?;
+            Ok(Move::Lose { letters })
+        }
     }
 }
 

@@ -51,7 +51,7 @@ impl Section {
     {
         match self.kind {
             Kind::Cell => false,
-            Kind::Array | Kind::Channel | Kind::Stack => true,
+            Kind::Array | Kind::Channel | Kind::Stack | Kind::LossyChannel => true,
         }
     }
 }

@@ -19,6 +19,8 @@ pub use fault::ModelFault;
 pub use law::texts_say_allowed_protocols;
 pub use names::{is_name, is_word};
 pub use resolution::resolve;
+pub use rows::resolve_row;
+pub use sections::{Sections, copy_text};
 pub use system::{Atom, Configuration, Guard, Move, Pattern, Row, Rule, Run, Section, System};
 
 /// Asks for a type that threads may share and that may be moved between them.

@@ -17,8 +17,8 @@ use protocol_syntax::{AtomText, BaseText, Name, PartText, RowText};
 use sequence::Sequence;
 use std::alloc::Global;
 
-/// The letters of an atom.
-fn resolve_base(
+/// The letters of an atom, or of those that may be lost.
+pub fn resolve_base(
     alloc: Global,
     letters: &Names,
     base: &BaseText,
@@ -91,8 +91,8 @@ fn resolve_part(
     Ok((found.number, Pattern { atoms }))
 }
 
-/// A row.
-fn resolve_row(alloc: Global, sections: &Sections, row: &RowText) -> Result<Row, ModelFault>
+/// A row by number, or its first fault: `Unknown` or `Duplicate`, with the name at which it stands.
+pub fn resolve_row(alloc: Global, sections: &Sections, row: &RowText) -> Result<Row, ModelFault>
     ensures { IsOutcome (row_fault sections.now row.now) (row_of sections.now row.now) result }
 {
     let parts = row.parts.as_slice();

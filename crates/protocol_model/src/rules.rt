@@ -6,7 +6,7 @@ ghost use Rattle.std.specs.Prelude.{◌≡◌, ◌≤◌, [], length, map};
 ghost use Rattle.std.specs.List.{list_any};
 ghost use Rattle.std.specs.Str.{bytes_eq};
 ghost use Rattle.protocol_model.specs.Numbering.{number_of, guard_of, entry_of, move_of_text, step_of, rule_of};
-ghost use Rattle.protocol_model.specs.Faults.{letters_fault, four_fault, entry_fault, body_fault, same_kind, kind_of_body, step_fault, rule_fault, first_fault_of};
+ghost use Rattle.protocol_model.specs.Faults.{letters_fault, four_fault, entry_fault, body_fault, body_belongs_to, step_fault, rule_fault, first_fault_of};
 ghost use Rattle.protocol_syntax.specs.declared.protocol.MoveBody.TheVariants as text;
 ghost use Rattle.protocol_model.specs.Outcome.{IsOutcome, IsFault};
 ghost use Rattle.protocol_model.specs.declared.fault.ModelFault.TheVariants as fault;
@@ -14,6 +14,7 @@ ghost use Rattle.protocol_model.specs.declared.fault.ModelFault.TheVariants as f
 use crate::fault::ModelFault;
 use crate::letters::{letter_number, letter_numbers, two_numbers};
 use crate::names::Names;
+use crate::rows::resolve_base;
 use crate::sections::{Sections, copy_name, copy_text, duplicate_name, unknown_name};
 use crate::system::{Guard, Move, Rule};
 use protocol_syntax::{GuardText, Kind, MoveBody, MoveText, Name, RuleText};
@@ -177,30 +178,42 @@ fn resolve_body(alloc: Global, letters: &Names, body: &MoveBody) -> Result<Move,
             let (from, to) = two_numbers(alloc, letters, from, to)?;
             Ok(Move::Set { from, to })
         }
-        MoveBody::Send { letter } => {
-            let letter = letter_number(alloc, letters, letter)?;
-            Ok(Move::Send { letter })
-        }
-        MoveBody::Recv { letter } => {
-            let letter = letter_number(alloc, letters, letter)?;
-            Ok(Move::Recv { letter })
-        }
+        MoveBody::Send { letter } => Ok(Move::Send {
+            letter: letter_number(alloc, letters, letter)?,
+        }),
+        MoveBody::Recv { letter } => Ok(Move::Recv {
+            letter: letter_number(alloc, letters, letter)?,
+        }),
         MoveBody::Stack { pop, push } => resolve_stack(alloc, letters, pop, push.as_slice()),
+        MoveBody::Spawn { letter } => Ok(Move::Spawn {
+            letter: letter_number(alloc, letters, letter)?,
+        }),
+        MoveBody::Exit { letter } => Ok(Move::Exit {
+            letter: letter_number(alloc, letters, letter)?,
+        }),
+        MoveBody::Lose { base } => Ok(Move::Lose {
+            letters: resolve_base(alloc, letters, base)?,
+        }),
     }
 }
 
 /// Whether the move belongs to sections of this kind.
 fn is_of_kind(body: &MoveBody, kind: Kind) -> bool
-    ensures { result ≡ same_kind (kind_of_body body.now) kind }
+    ensures { result ≡ body_belongs_to body.now kind }
 {
     match body {
         MoveBody::At { .. }
         | MoveBody::Pair { .. }
         | MoveBody::Ring { .. }
-        | MoveBody::Two { .. } => kind == Kind::Array,
+        | MoveBody::Two { .. }
+        | MoveBody::Spawn { .. }
+        | MoveBody::Exit { .. } => kind == Kind::Array,
         MoveBody::Set { .. } => kind == Kind::Cell,
-        MoveBody::Send { .. } | MoveBody::Recv { .. } => kind == Kind::Channel,
+        MoveBody::Send { .. } | MoveBody::Recv { .. } => {
+            kind == Kind::Channel || kind == Kind::LossyChannel
+        }
         MoveBody::Stack { .. } => kind == Kind::Stack,
+        MoveBody::Lose { .. } => kind == Kind::LossyChannel,
     }
 }
 

@@ -121,6 +121,21 @@ pub enum Move {
         /// The letters that are pushed.
         push: Sequence<u32>,
     },
+    /// Of an array: a position with the letter is added at the right.
+    Spawn {
+        /// The letter of the new position.
+        letter: u32,
+    },
+    /// Of an array: a position with the letter is removed, wherever it stands.
+    Exit {
+        /// The letter of the position that is removed.
+        letter: u32,
+    },
+    /// Of a lossy channel: a letter of the set is removed, wherever it stands.
+    Lose {
+        /// The letters that may be lost.
+        letters: Sequence<u32>,
+    },
 }
 
 /// A rule: its name, and a move for each section that it names. Every other section stays.

@@ -12,10 +12,10 @@ never h = (λ e. absurd (false_true e), λ p. absurd (h p))
     false_true : false ≡ true → ⊥
     false_true e = cc
 
-head_of : (x y : ℕ) (xs ys : List ℕ) → x ∷ xs ≡ y ∷ ys → x ≡ y
+pub head_of : (x y : ℕ) (xs ys : List ℕ) → x ∷ xs ≡ y ∷ ys → x ≡ y
 head_of x y xs ys e = cc
 
-tail_of : (x y : ℕ) (xs ys : List ℕ) → x ∷ xs ≡ y ∷ ys → xs ≡ ys
+pub tail_of : (x y : ℕ) (xs ys : List ℕ) → x ∷ xs ≡ y ∷ ys → xs ≡ ys
 tail_of x y xs ys e = cc
 
 pub length_last : (xs : List ℕ) (x : ℕ) → length (xs ++ x ∷ []) ≡ suc (length xs)
@@ -33,7 +33,7 @@ last_injective (w ∷ xs) (z ∷ ys) x y e =
     let rest = last_injective xs ys x y (tail_of w z (xs ++ x ∷ []) (ys ++ y ∷ []) e) in
     (ap (λ v. v ∷ xs) (head_of w z (xs ++ x ∷ []) (ys ++ y ∷ []) e) ∙ ap (λ vs. z ∷ vs) rest.0, rest.1)
 
-eq_of : (x y : ℕ) → (x == y) ≡ true → x ≡ y
+pub eq_of : (x y : ℕ) → (x == y) ≡ true → x ≡ y
 eq_of x y h = (Decides-eqb x y).0 h
 
 to_eq : (x y : ℕ) → x ≡ y → (x == y) ≡ true

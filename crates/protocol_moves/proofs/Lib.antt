@@ -8,3 +8,4 @@ pub mod EndMove
 pub mod Gathered
 pub mod Positions
 pub mod EnabledMoves
+pub mod Losses

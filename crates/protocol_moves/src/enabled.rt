@@ -2,7 +2,8 @@
 //! The positions are tried one after the other, and for a move of two positions the first only where its letter stands; no memory is taken.
 
 ghost use Rattle.std.specs.Prelude.{◌≡◌, ◌≤◌, ◌<◌, ◌-◌, ◌+◌, ◌↔◌, ◌++◌, ◌∷◌, [], ℕ, List, IsTrue, length};
-ghost use Rattle.protocol_model.specs.Moves.{popped};
+ghost use Rattle.std.specs.List.{list_any};
+ghost use Rattle.protocol_model.specs.Moves.{is_in as is_listed, popped};
 ghost use Rattle.protocol_moves.specs.Limits.{HasFewGuards};
 ghost use Rattle.protocol_moves.specs.Results.{IsEnabled};
 ghost use Rattle.protocol_moves.specs.Gathering.{some_below, can_change_at, can_change_two};
@@ -93,6 +94,13 @@ fn has_top(pop: Option<u32>, list: &[u32]) -> bool
     }
 }
 
+/// Whether the list has a letter of the set.
+fn has_any(letters: &[u32], list: &[u32]) -> bool
+    ensures { result ≡ list_any (is_listed letters.now) list.now }
+{
+    list.iter().any(|letter| is_in(letters, *letter))
+}
+
 /// Whether the move leads from the list to some list, in time proportional to the list. It takes no memory.
 pub fn is_enabled(step: &Move, list: &[u32]) -> bool
     requires { HasFewGuards step.now }
@@ -112,5 +120,8 @@ pub fn is_enabled(step: &Move, list: &[u32]) -> bool
         Move::Send { letter: _ } => true,
         Move::Recv { letter } => has_top(Some(*letter), list),
         Move::Stack { pop, push: _ } => has_top(*pop, list),
+        Move::Spawn { letter: _ } => true,
+        Move::Exit { letter } => has_any(&[*letter], list),
+        Move::Lose { letters } => has_any(letters.as_slice(), list),
     }
 }

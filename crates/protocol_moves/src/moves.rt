@@ -3,11 +3,12 @@
 
 ghost use Rattle.std.specs.Prelude.{◌≡◌, ◌≤◌, ◌↔◌, [], ◌∷◌, ◌++◌, IsTrue, length, map};
 ghost use Rattle.std.specs.Bool.{Decides};
-ghost use Rattle.protocol_model.specs.Moves.{IsAtMove, IsPairMove, IsTwoMove, IsRingMove, IsStackMove, IsMove};
+ghost use Rattle.protocol_model.specs.Moves.{IsAtMove, IsPairMove, IsTwoMove, IsRingMove, IsStackMove, IsLoss, IsMove};
 ghost use Rattle.protocol_moves.specs.Extents.{is_hit as hits, is_region_hit as hits_region, holds_at as holds, changes, IsExtent, HaveExtents, all_hold};
 ghost use Rattle.protocol_moves.specs.Limits.{HasFewGuards};
 
 use crate::extent::Extent;
+use crate::results::below;
 use protocol_model::{Guard, Move, is_in, table_value};
 use protocol_syntax::Region;
 
@@ -247,6 +248,23 @@ fn is_stack_move(pop: &Option<u32>, push: &[u32], old: &[u32], new: &[u32]) -> b
     }
 }
 
+/// Whether the shorter list is the longer one without a letter of the set; in time proportional to the lists. Where the lists go apart, or
+/// at the end of the shorter one, is the letter that is missing, or the last of a run of it.
+fn is_loss(letters: &[u32], longer: &[u32], shorter: &[u32]) -> bool
+    ensures { IsTrue result ↔ IsLoss letters.now longer.now shorter.now }
+{
+    let mut left = longer;
+    let mut kept = shorter;
+    'same: while let Some((first, rest)) = left.split_first() {
+        let Some(others) = below(Some(*first), kept) else {
+            return is_in(letters, *first) & is_equal(rest, kept);
+        };
+        left = rest;
+        kept = others;
+    }
+    false
+}
+
 /// Whether the move leads from one list to the other.
 pub fn is_move(step: &Move, old: &[u32], new: &[u32]) -> bool
     requires { HasFewGuards step.now }
@@ -266,5 +284,8 @@ pub fn is_move(step: &Move, old: &[u32], new: &[u32]) -> bool
         Move::Send { letter } => is_send_move(*letter, old, new),
         Move::Recv { letter } => is_recv_move(*letter, old, new),
         Move::Stack { pop, push } => is_stack_move(pop, push.as_slice(), old, new),
+        Move::Spawn { letter } => is_send_move(*letter, old, new),
+        Move::Exit { letter } => is_loss(&[*letter], old, new),
+        Move::Lose { letters } => is_loss(letters.as_slice(), old, new),
     }
 }

@@ -1,4 +1,5 @@
 mod Letters
 pub mod Told
+pub mod Within
 pub mod Lexing
 pub mod Printed

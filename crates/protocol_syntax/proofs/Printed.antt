@@ -16,7 +16,7 @@ use Rattle.forms.specs.declared.symbol.Keyword.TheVariants as Words
 use Rattle.forms.specs.declared.symbol.Symbol.{Symbol}
 use Rattle.forms.specs.declared.symbol.Symbol.TheVariants.{Unreserved, Reserved}
 use Rattle.forms.specs.Symbol.{Source, keyword_of, spelling, spelled, symbol, symbol_of_kind, symbol_of_keyword}
-use Rattle.forms.specs.Grammar.{Grammar, sign, name, one_of, gives, ◌>>=◌, ◌or◌, optional, many, many_by, item, up_to, means, SaysMany, IsAt, name_of}
+use Rattle.forms.specs.Grammar.{Grammar, sign, name, one_of, gives, ◌>>=◌, ◌or◌, optional, many, many_by, item, only, up_to, means, SaysMany, IsAt, name_of}
 use Rattle.protocol_syntax.proofs.Lexing.{kind_of, kind_of_word, is_word, IsToken, IsToken-word, AreWords}
 use Rattle.forms.proofs.MayMean.{MayMean, AllAfter, IsName}
 use Rattle.forms.proofs.SaidWithin.{SaysWithin}
@@ -120,6 +120,11 @@ prints_bind {A} {B} {x} {y} {P} {Q} {us} {vs} one two =
           (second.0, (parts.0, first.0, first.1, second.1), second.2);
     }
 
+-- a form that says this alone, and what follows it
+pub prints_fixed : {A B : Type 0} {x : Grammar A} {y : A → Grammar B} {Q : B → Type 0} {us vs : List (List ℕ)} (a : A)
+    → Prints x (λ b. b ≡ a) us → Prints (y a) Q vs → Prints (x >>= y) Q (us ++ vs)
+prints_fixed {A} {B} {x} {y} {Q} {us} {vs} a one two = prints_bind one (λ b e. subst (λ (c : A). Prints (y c) Q vs) (sym e) two)
+
 -- a form, and what takes no words after it
 pub prints_last : {A B : Type 0} {x : Grammar A} {y : A → Grammar B} {P : A → Type 0} {Q : B → Type 0} {us : List (List ℕ)}
     → Prints x P us → ((a : A) → P a → Prints (y a) Q []) → Prints (x >>= y) Q us
@@ -149,6 +154,10 @@ prints_present absent r = record { tokens = r.tokens; some = r.some; says = λ s
 pub prints_item : {A : Type 0} {x : Grammar A} {P : A → Type 0} {ws : List (List ℕ)} (full : Bool) (what : What) → full ≡ false → Prints x P ws
     → Prints (item full what x) P ws
 prints_item full what room r = record { tokens = r.tokens; some = r.some; says = λ s i k h. let t = r.says s i k h in (t.0, (room, t.1), t.2) }
+
+pub prints_only : {A : Type 0} {x : Grammar A} {P : A → Type 0} {ws : List (List ℕ)} (allowed : Bool) → allowed ≡ true → Prints x P ws
+    → Prints (only allowed x) P ws
+prints_only allowed is r = record { tokens = r.tokens; some = r.some; says = λ s i k h. let t = r.says s i k h in (t.0, (is, t.1), t.2) }
 
 pub prints_means : {A : Type 0} {P : A → Type 0} (k : Keyword) (a : A) → P a → Prints (means (Reserved k) a) P (spelling k ∷ [])
 prints_means k a p = prints_after (prints_keyword k) (prints_gives a p)

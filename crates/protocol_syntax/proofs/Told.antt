@@ -1,29 +1,31 @@
--- In protocol texts the next symbol always tells how to go on.
+-- In texts of protocols and of properties the next symbol always tells how to go on.
 use Rattle.std.proofs.Common.{◌≡◌, ℕ, true, refl}
 use Rattle.protocol_syntax.specs.declared.protocol.SectionText.{SectionText}
 use Rattle.forms.specs.declared.symbol.Keyword.{Keyword}
 use Rattle.forms.specs.declared.symbol.Keyword.TheVariants as Words
 use Rattle.forms.specs.Grammar.{up_to}
 use Rattle.forms.specs.Shape.{IsUniform, shape, is_told, code, code_of_keyword, code_of_sign}
-use Rattle.protocol_syntax.specs.Grammar.{kind, section, more_sections, set, letter_base, set_base, base, count, atom, atoms, pattern, part, row, quantifier, region, guard, entry, table, at_move, four_names, pair_move, ring_move, two_move, set_move, send_move, recv_move, pushed, pop_move, push_move, channel_or_stack_move, any_move, step, rule, protocol}
+use Rattle.protocol_syntax.specs.Grammar.{common_kind, lossy_kind, kind, section, more_sections, set, letter_base, set_base, base, count, atom, atoms, pattern, part, row_body, row, quantifier, region, guard, entry, table, at_move, four_names, pair_move, ring_move, two_move, set_move, send_move, recv_move, pushed, pop_move, push_move, channel_or_stack_move, common_move, spawn_move, exit_move, lose_move, later_move, any_move, step, rule, second_language, protocol}
+use Rattle.protocol_syntax.specs.Properties.{block, properties}
 
 pub protocol_is_told : is_told (shape protocol) ≡ true
-unfolding kind section more_sections set letter_base set_base base count atom atoms pattern part row quantifier region guard entry table
-    at_move four_names pair_move ring_move two_move set_move send_move recv_move pushed pop_move push_move channel_or_stack_move
-    any_move step rule protocol up_to code code_of_keyword code_of_sign
+unfolding common_kind lossy_kind kind section more_sections set letter_base set_base base count atom atoms pattern part row_body row quantifier region
+    guard entry table at_move four_names pair_move ring_move two_move set_move send_move recv_move pushed pop_move push_move
+    channel_or_stack_move common_move spawn_move exit_move lose_move later_move any_move step rule second_language protocol up_to
+    code code_of_keyword code_of_sign
 protocol_is_told = refl
 
-kind_is_uniform : IsUniform kind
-unfolding kind
-kind_is_uniform = search depth 40 parts 40
+kind_is_uniform : (language : ℕ) → IsUniform (kind language)
+unfolding kind common_kind lossy_kind
+kind_is_uniform language = search depth 40 parts 40
 
-section_is_uniform : (used : ℕ) → IsUniform (section used)
+section_is_uniform : (language used : ℕ) → IsUniform (section language used)
 unfolding section up_to
-section_is_uniform used = search kind_is_uniform depth 40 parts 40
+section_is_uniform language used = search kind_is_uniform depth 40 parts 40
 
-more_sections_is_uniform : (first : SectionText) → IsUniform (more_sections first)
+more_sections_is_uniform : (language : ℕ) (first : SectionText) → IsUniform (more_sections language first)
 unfolding more_sections section up_to
-more_sections_is_uniform first = search kind_is_uniform depth 40 parts 40
+more_sections_is_uniform language first = search kind_is_uniform depth 40 parts 40
 
 set_is_uniform : IsUniform set
 unfolding set
@@ -45,9 +47,13 @@ pattern_is_uniform : IsUniform pattern
 unfolding pattern atoms up_to
 pattern_is_uniform = search atom_is_uniform depth 40 parts 40
 
+row_body_is_uniform : IsUniform row_body
+unfolding row_body part
+row_body_is_uniform = search pattern_is_uniform depth 40 parts 40
+
 row_is_uniform : (word : Keyword) → IsUniform (row word)
-unfolding row part
-row_is_uniform word = search pattern_is_uniform depth 40 parts 40
+unfolding row
+row_is_uniform word = search row_body_is_uniform depth 40 parts 40
 
 guard_is_uniform : IsUniform guard
 unfolding guard quantifier region
@@ -69,29 +75,48 @@ pushed_is_uniform : IsUniform pushed
 unfolding pushed up_to
 pushed_is_uniform = search depth 40 parts 40
 
-any_move_is_uniform : IsUniform any_move
-unfolding any_move pair_move ring_move two_move set_move channel_or_stack_move send_move recv_move pop_move push_move
-any_move_is_uniform = search (at_move_is_uniform, four_names_is_uniform, pushed_is_uniform) depth 40 parts 40
+common_move_is_uniform : IsUniform common_move
+unfolding common_move pair_move ring_move two_move set_move channel_or_stack_move send_move recv_move pop_move push_move
+common_move_is_uniform = search (at_move_is_uniform, four_names_is_uniform, pushed_is_uniform) depth 40 parts 40
 
-rule_is_uniform : IsUniform rule
+any_move_is_uniform : (language : ℕ) → IsUniform (any_move language)
+unfolding any_move later_move spawn_move exit_move lose_move
+any_move_is_uniform language = search (common_move_is_uniform, base_is_uniform) depth 40 parts 40
+
+rule_is_uniform : (language : ℕ) → IsUniform (rule language)
 unfolding rule step
-rule_is_uniform = search any_move_is_uniform depth 40 parts 40
+rule_is_uniform language = search any_move_is_uniform depth 40 parts 40
+
+second_language_is_uniform : IsUniform second_language
+unfolding second_language
+second_language_is_uniform = search depth 40 parts 40
 
 pub protocol_is_uniform : IsUniform protocol
-unfolding protocol more_sections section up_to
+unfolding protocol more_sections section kind any_move step rule up_to
 protocol_is_uniform = (
   refl,
   λ _. (
     tt,
     λ _. (
-      section_is_uniform 0,
-      λ first. (
-        more_sections_is_uniform first,
-        λ _. (
-          λ _. row_is_uniform Words.Init,
-          λ _. (λ _. rule_is_uniform, λ _. (λ _. row_is_uniform Words.Bad, λ _. tt)),
+      second_language_is_uniform,
+      λ language. (
+        section_is_uniform language 0,
+        λ first. (
+          more_sections_is_uniform language first,
+          λ _. (
+            λ _. row_is_uniform Words.Init,
+            λ _. (λ _. rule_is_uniform language, λ _. (λ _. row_is_uniform Words.Bad, λ _. tt)),
+          ),
         ),
       ),
     ),
   ),
 )
+
+pub properties_are_told : is_told (shape properties) ≡ true
+unfolding set letter_base set_base base count atom atoms pattern part row_body block properties up_to code code_of_keyword code_of_sign
+properties_are_told = refl
+
+pub properties_are_uniform : IsUniform properties
+unfolding properties block up_to
+properties_are_uniform = search row_body_is_uniform depth 40 parts 40

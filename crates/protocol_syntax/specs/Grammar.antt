@@ -1,5 +1,6 @@
--- The grammar of protocol texts, production by production, with the limits of each.
-use Rattle.std.specs.Prelude.{ℕ, ◌-◌, Bool, true, false, List, [], ◌∷◌, length, Some, None, nat_le, sum_by}
+-- The grammar of protocol texts, production by production, with the limits of each. A production that is given a language stands for texts
+-- of that language.
+use Rattle.std.specs.Prelude.{ℕ, ◌-◌, Bool, true, false, List, [], ◌∷◌, length, Some, None, codes, nat_le, sum_by}
 use Rattle.protocol_lexer.specs.declared.TokenKind.TheVariants.{BraceLeft, BraceRight, Colon, Semicolon, Star, Plus, Arrow}
 use Rattle.forms.specs.declared.fault.What.TheVariants as Limits
 use Rattle.forms.specs.declared.fault.SyntaxFault.{SyntaxFault}
@@ -26,21 +27,36 @@ use Rattle.forms.specs.declared.symbol.Keyword.{Keyword}
 use Rattle.forms.specs.declared.symbol.Keyword.TheVariants as Words
 use Rattle.forms.specs.declared.symbol.Symbol.TheVariants.{Reserved, Sign}
 use Rattle.forms.specs.FirstFault.{IsMeaning, IsFault}
-use Rattle.forms.specs.Grammar.{Grammar, name, sign, gives, ◌>>=◌, ◌or◌, optional, many, many_by, item, up_to, means}
+use Rattle.forms.specs.Grammar.{Grammar, name, one_of, sign, gives, ◌>>=◌, ◌or◌, optional, many, many_by, item, up_to, only, means}
 use Rattle.protocol_syntax.specs.declared.limits.TheConstants.{MAX_SECTIONS, MAX_LETTERS, MAX_ROWS, MAX_RULES, MAX_ATOMS, MAX_GUARDS, MAX_PUSHED}
 
--- kind = "cell" | "array" | "channel" | "stack"
-unfoldable pub kind : Grammar Kind
-kind =
+-- what came with language 2 stands in texts of this language alone
+abbrev pub since_2 : {A : Type 0} → ℕ → Grammar A → Grammar A
+since_2 language x = only (nat_le 2 language) x
+
+-- "cell" | "array" | "channel" | "stack"
+unfoldable pub common_kind : Grammar Kind
+common_kind =
     means (Reserved Words.Cell) Kinds.Cell
     or (means (Reserved Words.Array) Kinds.Array
     or (means (Reserved Words.Channel) Kinds.Channel
     or means (Reserved Words.Stack) Kinds.Stack))
 
+-- "lossy" "channel"
+unfoldable pub lossy_kind : Grammar Kind
+lossy_kind = do
+  lossy ← sign (Reserved Words.Lossy)
+  channel ← sign (Reserved Words.Channel)
+  gives Kinds.LossyChannel
+
+-- kind = "cell" | "array" | "channel" | "stack" | "lossy" "channel", the last in language 2 alone
+unfoldable pub kind : ℕ → Grammar Kind
+kind language = common_kind or since_2 language lossy_kind
+
 -- section = kind name "{" name { name } "}", where the earlier sections have so many letters; there are no more letters than MAX_LETTERS
-unfoldable pub section : ℕ → Grammar SectionText
-section used = do
-  kind ← kind
+unfoldable pub section : ℕ → ℕ → Grammar SectionText
+section language used = do
+  kind ← kind language
   title ← name
   brace ← sign (Sign BraceLeft)
   letter ← item (nat_le MAX_LETTERS used) Limits.Letters name
@@ -53,8 +69,9 @@ abbrev pub letters_of : List SectionText → ℕ
 letters_of sections = sum_by (λ s. length s.letters) sections
 
 -- section { section }, and no more than MAX_SECTIONS
-unfoldable pub more_sections : SectionText → Grammar (List SectionText)
-more_sections first = many_by (λ before. item (nat_le (MAX_SECTIONS - 1) (length before)) Limits.Sections (section (letters_of (first ∷ before))))
+unfoldable pub more_sections : ℕ → SectionText → Grammar (List SectionText)
+more_sections language first =
+    many_by (λ before. item (nat_le (MAX_SECTIONS - 1) (length before)) Limits.Sections (section language (letters_of (first ∷ before))))
 
 -- set = "{" { name } "}"
 unfoldable pub set : Grammar (List Name)
@@ -109,14 +126,19 @@ part = do
   end ← sign (Sign Semicolon)
   gives (record { section = section; atoms = atoms })
 
--- init = "init" "{" { part } "}" and bad = "bad" "{" { part } "}"
-unfoldable pub row : Keyword → Grammar RowText
-row word = do
-  head ← sign (Reserved word)
+-- "{" { part } "}"
+unfoldable pub row_body : Grammar RowText
+row_body = do
   brace ← sign (Sign BraceLeft)
   parts ← many part
   close ← sign (Sign BraceRight)
   gives (record { parts = parts })
+
+-- init = "init" "{" { part } "}" and bad = "bad" "{" { part } "}"
+unfoldable pub row : Keyword → Grammar RowText
+row word = do
+  head ← sign (Reserved word)
+  row_body
 
 -- "all" | "some"
 unfoldable pub quantifier : Grammar Bool
@@ -243,45 +265,83 @@ push_move = do
 unfoldable pub channel_or_stack_move : Grammar MoveBody
 channel_or_stack_move = send_move or (recv_move or (pop_move or push_move))
 
--- move: each begins with a word of its own
-unfoldable pub any_move : Grammar MoveBody
-any_move =
+-- the moves of every language
+unfoldable pub common_move : Grammar MoveBody
+common_move =
     at_move
     or (pair_move
     or (ring_move
     or (two_move
     or (set_move or channel_or_stack_move))))
 
+-- "spawn" name
+unfoldable pub spawn_move : Grammar MoveBody
+spawn_move = do
+  word ← sign (Reserved Words.Spawn)
+  letter ← name
+  gives (Moves.Spawn letter)
+
+-- "exit" name
+unfoldable pub exit_move : Grammar MoveBody
+exit_move = do
+  word ← sign (Reserved Words.Exit)
+  letter ← name
+  gives (Moves.Exit letter)
+
+-- "lose" base
+unfoldable pub lose_move : Grammar MoveBody
+lose_move = do
+  word ← sign (Reserved Words.Lose)
+  base ← base
+  gives (Moves.Lose base)
+
+-- the moves that came with language 2
+unfoldable pub later_move : Grammar MoveBody
+later_move = spawn_move or (exit_move or lose_move)
+
+-- move: each begins with a word of its own
+unfoldable pub any_move : ℕ → Grammar MoveBody
+any_move language = since_2 language later_move or common_move
+
 -- step = name ":" move ";"
-unfoldable pub step : Grammar MoveText
-step = do
+unfoldable pub step : ℕ → Grammar MoveText
+step language = do
   section ← name
   colon ← sign (Sign Colon)
-  body ← any_move
+  body ← any_move language
   end ← sign (Sign Semicolon)
   gives (record { section = section; body = body })
 
 -- rule = "rule" name "{" { step } "}"
-unfoldable pub rule : Grammar RuleText
-rule = do
+unfoldable pub rule : ℕ → Grammar RuleText
+rule language = do
   word ← sign (Reserved Words.Rule)
   title ← name
   brace ← sign (Sign BraceLeft)
-  moves ← many step
+  moves ← many (step language)
   close ← sign (Sign BraceRight)
   gives (record { name = title; moves = moves })
 
--- protocol = "protocol" name section { section } { init } { rule } { bad }, with no more rows of either kind than MAX_ROWS, and no more rules than MAX_RULES
+-- "language" "2"
+unfoldable pub second_language : Grammar ℕ
+second_language = do
+  word ← sign (Reserved Words.Language)
+  number ← one_of (codes "2" ∷ [])
+  gives 2
+
+-- protocol = "protocol" name [ "language" "2" ] section { section } { init } { rule } { bad }, with no more rows of either kind than MAX_ROWS,
+-- and no more rules than MAX_RULES
 unfoldable pub protocol : Grammar Protocol
 protocol = do
   word ← sign (Reserved Words.Protocol)
   title ← name
-  first ← section 0
-  sections ← more_sections first
+  language ← optional 1 second_language
+  first ← section language 0
+  sections ← more_sections language first
   init ← up_to MAX_ROWS Limits.InitRows (row Words.Init)
-  rules ← up_to MAX_RULES Limits.Rules rule
+  rules ← up_to MAX_RULES Limits.Rules (rule language)
   bad ← up_to MAX_ROWS Limits.BadRows (row Words.Bad)
-  gives (record { name = title; sections = first ∷ sections; init = init; rules = rules; bad = bad })
+  gives (record { name = title; language = language; sections = first ∷ sections; init = init; rules = rules; bad = bad })
 
 -- the text is a protocol within the limits, and says this one
 abbrev pub IsProtocol : List ℕ → Protocol → Type 0

@@ -1,3 +1,4 @@
 pub mod Grammar
+pub mod Properties
 pub mod Spacing
 pub mod OneReading

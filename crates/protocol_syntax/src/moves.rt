@@ -3,14 +3,17 @@
 
 ghost use Rattle.forms.specs.Symbol.{source_of};
 ghost use Rattle.forms.specs.Reading.{IsRead};
-ghost use Rattle.protocol_syntax.specs.Grammar.{any_move, at_move, channel_or_stack_move, entry, four_names, pair_move, pop_move, push_move, pushed, recv_move, ring_move, rule, send_move, set_move, step, table, two_move};
+ghost use Rattle.protocol_syntax.specs.Grammar.{any_move, at_move, channel_or_stack_move, common_move, entry, exit_move, four_names, later_move};
+ghost use Rattle.protocol_syntax.specs.Grammar.{lose_move, pair_move, pop_move, push_move, pushed, recv_move, ring_move, rule, send_move};
+ghost use Rattle.protocol_syntax.specs.Grammar.{set_move, spawn_move, step, table, two_move};
 
 use crate::guards::GUARDS;
 use crate::limits::MAX_PUSHED;
 use crate::protocol::{MoveBody, MoveText, RuleText};
+use crate::rows::Base;
 use forms::{
-    ARROW, AnyName, BRACE_LEFT, BRACE_RIGHT, COLON, Form, Keyword, Many, Name, OrEmpty, SEMICOLON,
-    Sign, Source, Symbol, SyntaxFault, UpTo, What, with_first,
+    ARROW, AnyName, BRACE_LEFT, BRACE_RIGHT, COLON, Form, Keyword, Many, Name, Only, OrEmpty,
+    SEMICOLON, Sign, Source, Symbol, SyntaxFault, UpTo, What, with_first,
 };
 use sequence::Sequence;
 
@@ -33,6 +36,12 @@ const RECV: Sign = Sign(Symbol::Reserved(Keyword::Recv));
 const POP: Sign = Sign(Symbol::Reserved(Keyword::Pop));
 
 const PUSH: Sign = Sign(Symbol::Reserved(Keyword::Push));
+
+const SPAWN: Sign = Sign(Symbol::Reserved(Keyword::Spawn));
+
+const EXIT: Sign = Sign(Symbol::Reserved(Keyword::Exit));
+
+const LOSE: Sign = Sign(Symbol::Reserved(Keyword::Lose));
 
 const RULE: Sign = Sign(Symbol::Reserved(Keyword::Rule));
 
@@ -252,10 +261,10 @@ fn channel_or_stack_move(source: &Source<'_>, at: &mut usize) -> Result<MoveBody
     push_move(source, at)
 }
 
-/// A move.
-#[tactic(auto, unfolding(crate::specs::Grammar::any_move, crate::specs::Grammar::at_move, crate::specs::Grammar::pair_move, crate::specs::Grammar::ring_move, crate::specs::Grammar::two_move, crate::specs::Grammar::four_names, crate::specs::Grammar::set_move, forms::specs::Reading::read_or))]
-fn any_move(source: &Source<'_>, at: &mut usize) -> Result<MoveBody, SyntaxFault>
-    ensures { IsRead any_move (source_of source.now.text.now source.now.tokens.now) at.old at.new result }
+/// A move of every language.
+#[tactic(auto, unfolding(crate::specs::Grammar::common_move, crate::specs::Grammar::at_move, crate::specs::Grammar::pair_move, crate::specs::Grammar::ring_move, crate::specs::Grammar::two_move, crate::specs::Grammar::four_names, crate::specs::Grammar::set_move, forms::specs::Reading::read_or))]
+fn common_move(source: &Source<'_>, at: &mut usize) -> Result<MoveBody, SyntaxFault>
+    ensures { IsRead common_move (source_of source.now.text.now source.now.tokens.now) at.old at.new result }
 {
     if AT.opens(source, *at) {
         return at_move(source, at);
@@ -275,14 +284,87 @@ fn any_move(source: &Source<'_>, at: &mut usize) -> Result<MoveBody, SyntaxFault
     channel_or_stack_move(source, at)
 }
 
-/// A step of a rule.
+/// A position is added to an array.
+#[tactic(auto, unfolding(crate::specs::Grammar::spawn_move, forms::specs::Reading::read_then))]
+fn spawn_move(source: &Source<'_>, at: &mut usize) -> Result<MoveBody, SyntaxFault>
+    ensures { IsRead spawn_move (source_of source.now.text.now source.now.tokens.now) at.old at.new result }
+{
+    SPAWN.read(source, at)?;
+    let letter = AnyName.read(source, at)?;
+    Ok(MoveBody::Spawn { letter })
+}
+
+/// A position leaves an array.
+#[tactic(auto, unfolding(crate::specs::Grammar::exit_move, forms::specs::Reading::read_then))]
+fn exit_move(source: &Source<'_>, at: &mut usize) -> Result<MoveBody, SyntaxFault>
+    ensures { IsRead exit_move (source_of source.now.text.now source.now.tokens.now) at.old at.new result }
+{
+    EXIT.read(source, at)?;
+    let letter = AnyName.read(source, at)?;
+    Ok(MoveBody::Exit { letter })
+}
+
+/// A letter is lost.
+#[tactic(auto, unfolding(crate::specs::Grammar::lose_move, forms::specs::Reading::read_then))]
+fn lose_move(source: &Source<'_>, at: &mut usize) -> Result<MoveBody, SyntaxFault>
+    ensures { IsRead lose_move (source_of source.now.text.now source.now.tokens.now) at.old at.new result }
+{
+    LOSE.read(source, at)?;
+    let base = Base.read(source, at)?;
+    Ok(MoveBody::Lose { base })
+}
+
+/// A move that came with language 2.
 #[derive(Clone, Copy)]
-pub struct Step;
+struct LaterMove;
+
+impl Form for LaterMove {
+    type Meaning = MoveBody;
+
+    ghost grammar = { λ _. later_move };
+
+    #[tactic(auto, unfolding(crate::specs::Grammar::later_move, crate::specs::Grammar::spawn_move, crate::specs::Grammar::exit_move, crate::specs::Grammar::lose_move))]
+    fn opens(&self, source: &Source<'_>, at: usize) -> bool {
+        SPAWN.opens(source, at) || (EXIT.opens(source, at) || LOSE.opens(source, at))
+    }
+
+    #[tactic(auto, unfolding(crate::specs::Grammar::later_move, crate::specs::Grammar::spawn_move, crate::specs::Grammar::exit_move, forms::specs::Reading::read_or))]
+    fn read(&self, source: &Source<'_>, at: &mut usize) -> Result<MoveBody, SyntaxFault> {
+        if SPAWN.opens(source, *at) {
+            return spawn_move(source, at);
+        }
+        if EXIT.opens(source, *at) {
+            return exit_move(source, at);
+        }
+        lose_move(source, at)
+    }
+}
+
+/// A move.
+#[tactic(auto, unfolding(crate::specs::Grammar::any_move, forms::specs::Reading::read_or))]
+fn any_move(language: u32, source: &Source<'_>, at: &mut usize) -> Result<MoveBody, SyntaxFault>
+    ensures { IsRead (any_move language) (source_of source.now.text.now source.now.tokens.now) at.old at.new result }
+{
+    let later = Only {
+        allowed: 2 <= language,
+        form: LaterMove,
+    };
+    if later.opens(source, *at) {
+        return later.read(source, at);
+    }
+    common_move(source, at)
+}
+
+/// A step of a rule, in a text of this language.
+#[derive(Clone, Copy)]
+pub struct Step {
+    pub language: u32,
+}
 
 impl Form for Step {
     type Meaning = MoveText;
 
-    ghost grammar = { λ _. step };
+    ghost grammar = { λ x. step x.language };
 
     #[tactic(auto, unfolding(crate::specs::Grammar::step))]
     fn opens(&self, source: &Source<'_>, at: usize) -> bool {
@@ -293,20 +375,22 @@ impl Form for Step {
     fn read(&self, source: &Source<'_>, at: &mut usize) -> Result<MoveText, SyntaxFault> {
         let section = AnyName.read(source, at)?;
         COLON.read(source, at)?;
-        let body = any_move(source, at)?;
+        let body = any_move(self.language, source, at)?;
         SEMICOLON.read(source, at)?;
         Ok(MoveText { section, body })
     }
 }
 
-/// A rule.
+/// A rule, in a text of this language.
 #[derive(Clone, Copy)]
-pub struct Rule;
+pub struct Rule {
+    pub language: u32,
+}
 
 impl Form for Rule {
     type Meaning = RuleText;
 
-    ghost grammar = { λ _. rule };
+    ghost grammar = { λ x. rule x.language };
 
     #[tactic(auto, unfolding(crate::specs::Grammar::rule))]
     fn opens(&self, source: &Source<'_>, at: usize) -> bool {
@@ -318,7 +402,10 @@ impl Form for Rule {
         RULE.read(source, at)?;
         let name = AnyName.read(source, at)?;
         BRACE_LEFT.read(source, at)?;
-        let moves = Many(Step).read(source, at)?;
+        let step = Step {
+            language: self.language,
+        };
+        let moves = Many(step).read(source, at)?;
         BRACE_RIGHT.read(source, at)?;
         Ok(RuleText { name, moves })
     }

@@ -1,7 +1,7 @@
 //! Reading rows and their patterns.
 //! What stands before an atom's count is told by one token.
 
-ghost use Rattle.protocol_syntax.specs.Grammar.{atom, base, part, pattern, row};
+ghost use Rattle.protocol_syntax.specs.Grammar.{atom, base, part, pattern, row, row_body};
 ghost use Rattle.forms.specs.Symbol.{source_of};
 ghost use Rattle.forms.specs.Reading.{IsRead};
 
@@ -119,6 +119,17 @@ impl Form for Part {
     }
 }
 
+/// The parts of a row.
+#[tactic(auto, unfolding(crate::specs::Grammar::row_body, forms::specs::Reading::read_then))]
+pub fn row_body(source: &Source<'_>, at: &mut usize) -> Result<RowText, SyntaxFault>
+    ensures { IsRead row_body (source_of source.now.text.now source.now.tokens.now) at.old at.new result }
+{
+    BRACE_LEFT.read(source, at)?;
+    let parts = Many(Part).read(source, at)?;
+    BRACE_RIGHT.read(source, at)?;
+    Ok(RowText { parts })
+}
+
 /// A row, which begins with this word.
 #[derive(Clone, Copy)]
 pub struct Row(pub Keyword);
@@ -136,9 +147,6 @@ impl Form for Row {
     #[tactic(auto, unfolding(crate::specs::Grammar::row, forms::specs::Reading::read_then))]
     fn read(&self, source: &Source<'_>, at: &mut usize) -> Result<RowText, SyntaxFault> {
         Sign(Symbol::Reserved(self.0)).read(source, at)?;
-        BRACE_LEFT.read(source, at)?;
-        let parts = Many(Part).read(source, at)?;
-        BRACE_RIGHT.read(source, at)?;
-        Ok(RowText { parts })
+        row_body(source, at)
     }
 }

@@ -5,16 +5,16 @@ ghost use Rattle.std.specs.Prelude.{◌≡◌, ◌-◌, ◌∷◌, length, min, 
 ghost use Rattle.forms.specs.declared.fault.What.TheVariants as Limits;
 ghost use Rattle.forms.specs.Grammar.{item};
 ghost use Rattle.protocol_syntax.specs.declared.limits.TheConstants.{MAX_SECTIONS, MAX_LETTERS};
-ghost use Rattle.protocol_syntax.specs.Grammar.{letters_of, section};
+ghost use Rattle.protocol_syntax.specs.Grammar.{kind, letters_of, lossy_kind, section};
 
 use crate::limits::{MAX_LETTERS, MAX_SECTIONS};
 use crate::protocol::{Kind, SectionText};
 use forms::{
-    AnyName, BRACE_LEFT, BRACE_RIGHT, Form, Item, Items, Keyword, Means, Or, Source, Symbol,
-    SyntaxFault, UpTo, What, with_first,
+    AnyName, BRACE_LEFT, BRACE_RIGHT, Form, Item, Items, Keyword, Means, Only, Or, Sign, Source,
+    Symbol, SyntaxFault, UpTo, What, with_first,
 };
 
-const KIND: Or<Means<Kind>, Or<Means<Kind>, Or<Means<Kind>, Means<Kind>>>> = Or(
+const COMMON_KIND: Or<Means<Kind>, Or<Means<Kind>, Or<Means<Kind>, Means<Kind>>>> = Or(
     Means(Symbol::Reserved(Keyword::Cell), Kind::Cell),
     Or(
         Means(Symbol::Reserved(Keyword::Array), Kind::Array),
@@ -25,25 +25,91 @@ const KIND: Or<Means<Kind>, Or<Means<Kind>, Or<Means<Kind>, Means<Kind>>>> = Or(
     ),
 );
 
-/// A section, where the earlier sections have so many letters together.
+const LOSSY: Sign = Sign(Symbol::Reserved(Keyword::Lossy));
+
+const CHANNEL: Sign = Sign(Symbol::Reserved(Keyword::Channel));
+
+/// The kind of channels that lose.
+#[derive(Clone, Copy)]
+struct LossyKind;
+
+impl Form for LossyKind {
+    type Meaning = Kind;
+
+    ghost grammar = { λ _. lossy_kind };
+
+    #[tactic(auto, unfolding(crate::specs::Grammar::lossy_kind))]
+    fn opens(&self, source: &Source<'_>, at: usize) -> bool {
+        LOSSY.opens(source, at)
+    }
+
+    #[tactic(auto, unfolding(crate::specs::Grammar::lossy_kind, forms::specs::Reading::read_then))]
+    fn read(&self, source: &Source<'_>, at: &mut usize) -> Result<Kind, SyntaxFault> {
+        LOSSY.read(source, at)?;
+        CHANNEL.read(source, at)?;
+        Ok(Kind::LossyChannel)
+    }
+}
+
+/// The kind of a section.
+#[derive(Clone, Copy)]
+struct SectionKind {
+    language: u32,
+}
+
+impl Form for SectionKind {
+    type Meaning = Kind;
+
+    ghost grammar = { λ x. kind x.language };
+
+    #[tactic(auto, unfolding(crate::specs::Grammar::kind, crate::specs::Grammar::common_kind))]
+    fn opens(&self, source: &Source<'_>, at: usize) -> bool {
+        let lossy = Only {
+            allowed: 2 <= self.language,
+            form: LossyKind,
+        };
+        COMMON_KIND.opens(source, at) || lossy.opens(source, at)
+    }
+
+    #[tactic(auto, unfolding(crate::specs::Grammar::kind, crate::specs::Grammar::common_kind, forms::specs::Reading::read_or))]
+    fn read(&self, source: &Source<'_>, at: &mut usize) -> Result<Kind, SyntaxFault> {
+        if COMMON_KIND.opens(source, *at) {
+            return COMMON_KIND.read(source, at);
+        }
+        let lossy = Only {
+            allowed: 2 <= self.language,
+            form: LossyKind,
+        };
+        lossy.read(source, at)
+    }
+}
+
+/// A section of a text of this language, where the earlier sections have so many letters together.
 #[derive(Clone, Copy)]
 pub struct Section {
+    pub language: u32,
     pub used: usize,
 }
 
 impl Form for Section {
     type Meaning = SectionText;
 
-    ghost grammar = { λ x. section x.used };
+    ghost grammar = { λ x. section x.language x.used };
 
-    #[tactic(auto, unfolding(crate::specs::Grammar::section, crate::specs::Grammar::kind))]
+    #[tactic(auto, unfolding(crate::specs::Grammar::section))]
     fn opens(&self, source: &Source<'_>, at: usize) -> bool {
-        KIND.opens(source, at)
+        let kind = SectionKind {
+            language: self.language,
+        };
+        kind.opens(source, at)
     }
 
-    #[tactic(auto, unfolding(crate::specs::Grammar::section, crate::specs::Grammar::kind, forms::specs::Reading::read_then))]
+    #[tactic(auto, unfolding(crate::specs::Grammar::section, forms::specs::Reading::read_then))]
     fn read(&self, source: &Source<'_>, at: &mut usize) -> Result<SectionText, SyntaxFault> {
-        let kind = KIND.read(source, at)?;
+        let any_kind = SectionKind {
+            language: self.language,
+        };
+        let kind = any_kind.read(source, at)?;
         let name = AnyName.read(source, at)?;
         BRACE_LEFT.read(source, at)?;
         let one = Item {
@@ -67,9 +133,10 @@ impl Form for Section {
     }
 }
 
-/// The sections behind the first.
+/// The sections behind the first, in a text of this language.
 #[derive(Clone, Copy)]
 pub struct MoreSections<'a> {
+    pub language: u32,
     pub first: &'a SectionText,
 }
 
@@ -77,11 +144,14 @@ impl<'a> Items for MoreSections<'a> {
     type Item = SectionText;
 
     ghost next = { λ x before. item (nat_le (MAX_SECTIONS - 1) (length before)) Limits.Sections
-        (section (letters_of (x.first.now ∷ before))) };
+        (section x.language (letters_of (x.first.now ∷ before))) };
 
-    #[tactic(auto, unfolding(crate::specs::Grammar::section, crate::specs::Grammar::kind))]
+    #[tactic(auto, unfolding(crate::specs::Grammar::section))]
     fn opens_next(&self, _before: &[SectionText], source: &Source<'_>, at: usize) -> bool {
-        KIND.opens(source, at)
+        let kind = SectionKind {
+            language: self.language,
+        };
+        kind.opens(source, at)
     }
 
     fn read_next(
@@ -96,7 +166,10 @@ impl<'a> Items for MoreSections<'a> {
         let next = Item {
             full: MAX_SECTIONS - 1 <= before.len(),
             what: What::Sections,
-            form: Section { used },
+            form: Section {
+                language: self.language,
+                used,
+            },
         };
         next.read(source, at)
     }

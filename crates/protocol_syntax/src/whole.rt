@@ -2,7 +2,7 @@
 //! A form is read by recursive descent with one token of lookahead; time is linear in the tokens.
 
 ghost use Rattle.std.specs.Prelude.{◌≡◌, ◌≢◌, ◌↔◌, IfErr, IfOk};
-ghost use Rattle.protocol_syntax.specs.Grammar.{IsFirstFault, IsProtocol, protocol};
+ghost use Rattle.protocol_syntax.specs.Grammar.{IsFirstFault, IsProtocol, protocol, second_language};
 
 use crate::limits::{MAX_ROWS, MAX_RULES};
 use crate::moves::Rule;
@@ -10,11 +10,16 @@ use crate::protocol::Protocol;
 use crate::rows::Row;
 use crate::sections::{MoreSections, Section};
 use forms::{
-    AnyName, Form, Keyword, Sign, Source, Symbol, SyntaxFault, UpTo, What, read_many, with_first,
+    AnyName, Form, Keyword, OneOf, Optional, Sign, Source, Symbol, SyntaxFault, UpTo, What,
+    read_many, with_first,
 };
+use sequence::Text;
 use std::alloc::Global;
+use std::slice::from_ref;
 
 const PROTOCOL: Sign = Sign(Symbol::Reserved(Keyword::Protocol));
+
+const LANGUAGE: Sign = Sign(Symbol::Reserved(Keyword::Language));
 
 const INIT: UpTo<Row> = UpTo {
     limit: MAX_ROWS,
@@ -22,17 +27,35 @@ const INIT: UpTo<Row> = UpTo {
     form: Row(Keyword::Init),
 };
 
-const RULES: UpTo<Rule> = UpTo {
-    limit: MAX_RULES,
-    what: What::Rules,
-    form: Rule,
-};
-
 const BAD: UpTo<Row> = UpTo {
     limit: MAX_ROWS,
     what: What::BadRows,
     form: Row(Keyword::Bad),
 };
+
+/// What the head of a text of language 2 says behind the name.
+#[derive(Clone, Copy)]
+struct SecondLanguage;
+
+impl Form for SecondLanguage {
+    type Meaning = u32;
+
+    ghost grammar = { λ _. second_language };
+
+    #[tactic(auto, unfolding(crate::specs::Grammar::second_language))]
+    fn opens(&self, source: &Source<'_>, at: usize) -> bool {
+        LANGUAGE.opens(source, at)
+    }
+
+    #[tactic(auto, unfolding(crate::specs::Grammar::second_language, forms::specs::Reading::read_then))]
+    fn read(&self, source: &Source<'_>, at: &mut usize) -> Result<u32, SyntaxFault> {
+        let two = String::from_str(source.alloc, "2").map_err(|_| SyntaxFault::Memory)?;
+        let number = Text::from_string(two);
+        LANGUAGE.read(source, at)?;
+        OneOf(from_ref(&number)).read(source, at)?;
+        Ok(2)
+    }
+}
 
 /// A whole protocol.
 #[derive(Clone, Copy)]
@@ -52,13 +75,25 @@ impl Form for WholeProtocol {
     fn read(&self, source: &Source<'_>, at: &mut usize) -> Result<Protocol, SyntaxFault> {
         PROTOCOL.read(source, at)?;
         let name = AnyName.read(source, at)?;
-        let first = Section { used: 0 }.read(source, at)?;
-        let more = read_many(&MoreSections { first: &first }, source, at)?;
+        let language = Optional(SecondLanguage, 1u32).read(source, at)?;
+        let one = Section { language, used: 0 };
+        let first = one.read(source, at)?;
+        let others = MoreSections {
+            language,
+            first: &first,
+        };
+        let more = read_many(&others, source, at)?;
         let init = INIT.read(source, at)?;
-        let rules = RULES.read(source, at)?;
+        let each_rule = UpTo {
+            limit: MAX_RULES,
+            what: What::Rules,
+            form: Rule { language },
+        };
+        let rules = each_rule.read(source, at)?;
         let bad = BAD.read(source, at)?;
         Ok(Protocol {
             name,
+            language,
             sections: with_first(first, more.into_vec())?,
             init,
             rules,

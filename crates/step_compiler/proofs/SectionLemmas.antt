@@ -1,21 +1,22 @@
 -- What the transducers of moves and of copies relate, as steps of one section.
-use Rattle.std.proofs.Common.{◌≡◌, ◌==◌, ◌||◌, ◌↔◌, ℕ, ◌+◌, ◌-◌, ◌<◌, ◌≤◌, Bool, List, [], ◌∷◌, Option, None, Some}
+use Rattle.std.proofs.Common.{◌≡◌, ◌==◌, ◌||◌, ◌↔◌, ℕ, ◌+◌, ◌-◌, ◌<◌, ◌≤◌, Bool, false, List, [], ◌∷◌, Option, None, Some}
 use Rattle.std.proofs.Common.{length, nat_lt, refl, sym, ap, ◌∙◌, subst, arith, IsTrue, All, eqb-true}
 use Rattle.std.specs.List.{list_all}
-use Rattle.std.proofs.lemmas.Bool.{and_parts, and_from}
+use Rattle.std.proofs.lemmas.Bool.{and_parts, and_from, or_left, or_right}
 use Rattle.std.proofs.lemmas.List.Elements.{All-nil, All-cons, All-head, All-tail}
 use Rattle.protocol_syntax.specs.declared.Kind.{Kind}
 use Rattle.protocol_syntax.specs.declared.Kind.TheVariants.{Cell}
 use Rattle.protocol_model.specs.declared.system.Section.{Section}
 use Rattle.protocol_model.specs.declared.system.Move.{Move}
-use Rattle.protocol_model.specs.declared.system.Move.TheVariants.{At, Pair, Ring, Two, Set, Send, Recv, Stack}
-use Rattle.protocol_model.specs.System.{AllBelow, kind_of_move, letter_count}
+use Rattle.protocol_model.specs.declared.system.Move.TheVariants.{At, Pair, Ring, Two, Set, Send, Recv, Stack, Spawn, Exit, Lose}
+use Rattle.protocol_model.specs.System.{AllBelow, belongs_to, letter_count}
 use Rattle.protocol_model.specs.Moves.{IsMove}
 use Rattle.protocol_model.specs.Patterns.{has_any_length}
 use Rattle.protocol_model.specs.Raised.{IsRaisedMove}
 use Rattle.protocol_model.specs.Steps.{ChangesBy}
 use Rattle.protocol_model.specs.Words.{raised}
 use Rattle.protocol_model.proofs.Below.{AllBelow-from_test, test_from_AllBelow}
+use Rattle.protocol_model.proofs.KindLemmas.{any_length}
 use Rattle.transducers.specs.Transducer.{Transducer, Relates}
 use Rattle.step_compiler.specs.Sections.{Stays, IsMoveOf, IsSectionStep, IsSectionTransducer}
 
@@ -56,19 +57,28 @@ section_step section move P offset count same there back u w = (
 )
 
 -- the lists of a move have the lengths that its kind allows
-one_letter : (a : ℕ) (xs : List ℕ) → xs ≡ a ∷ [] → IsTrue (has_length Cell xs)
-one_letter a xs e = ap (λ l. length l == 1) e
+one_letter : (kind : Kind) (a : ℕ) (xs : List ℕ) → xs ≡ a ∷ [] → IsTrue (has_length kind xs)
+one_letter kind a xs e = or_right (has_any_length kind) (length xs == 1) (ap (λ l. length l == 1) e)
 
-move_lengths : (m : Move) (old new : List ℕ) → IsMove m old new → IsTrue (has_length (kind_of_move m) old)
-    × IsTrue (has_length (kind_of_move m) new)
-move_lengths (At f t guards table) old new h = (refl, refl)
-move_lengths (Pair a b c d) old new h = (refl, refl)
-move_lengths (Ring a b c d) old new h = (refl, refl)
-move_lengths (Two a b c d) old new h = (refl, refl)
-move_lengths (Set a b) old new h = (one_letter a old h.0, one_letter b new h.1)
-move_lengths (Send a) old new h = (refl, refl)
-move_lengths (Recv a) old new h = (refl, refl)
-move_lengths (Stack pop push) old new h = (refl, refl)
+any_lengths : (m : Move) (kind : Kind) (old new : List ℕ) → belongs_to m Cell ≡ false → IsTrue (belongs_to m kind)
+    → IsTrue (has_length kind old) × IsTrue (has_length kind new)
+any_lengths m kind old new no_cell e =
+    let any = any_length (belongs_to m) kind no_cell e in
+    (or_left (has_any_length kind) (length old == 1) any, or_left (has_any_length kind) (length new == 1) any)
+
+move_lengths : (m : Move) (kind : Kind) (old new : List ℕ) → IsTrue (belongs_to m kind) → IsMove m old new
+    → IsTrue (has_length kind old) × IsTrue (has_length kind new)
+move_lengths (At f t guards table) kind old new e h = any_lengths (At f t guards table) kind old new refl e
+move_lengths (Pair a b c d) kind old new e h = any_lengths (Pair a b c d) kind old new refl e
+move_lengths (Ring a b c d) kind old new e h = any_lengths (Ring a b c d) kind old new refl e
+move_lengths (Two a b c d) kind old new e h = any_lengths (Two a b c d) kind old new refl e
+move_lengths (Set a b) kind old new e h = (one_letter kind a old h.0, one_letter kind b new h.1)
+move_lengths (Send a) kind old new e h = any_lengths (Send a) kind old new refl e
+move_lengths (Recv a) kind old new e h = any_lengths (Recv a) kind old new refl e
+move_lengths (Stack pop push) kind old new e h = any_lengths (Stack pop push) kind old new refl e
+move_lengths (Spawn a) kind old new e h = any_lengths (Spawn a) kind old new refl e
+move_lengths (Exit a) kind old new e h = any_lengths (Exit a) kind old new refl e
+move_lengths (Lose letters) kind old new e h = any_lengths (Lose letters) kind old new refl e
 
 -- a transducer of the section, from its move or from none
 pub moved_transducer : (section : Section) (m : Move) (move : Option Move) (letters offset count : ℕ) (t : Transducer)
@@ -77,11 +87,7 @@ pub moved_transducer : (section : Section) (m : Move) (move : Option Move) (lett
 moved_transducer section m move letters offset count t e same of same_letters related =
     let lengths : (old new : List ℕ) → IsMove m old new → IsMove m old new × IsTrue (has_length section.kind old)
     × IsTrue (has_length section.kind new) =
-    λ old new h. let both = move_lengths m old new h in (
-      h,
-      subst (λ k. IsTrue (has_length k old)) of.of_kind both.0,
-      subst (λ k. IsTrue (has_length k new)) of.of_kind both.1,
-    ) in
+    λ old new h. let both = move_lengths m section.kind old new of.of_kind h in (h, both.0, both.1) in
     let steps = section_step section (Some m) (IsMove m) offset count same lengths (λ old new h g. h) in
     subst (λ o. IsSectionTransducer section o letters offset t) (sym e) (record {
       same_letters = same_letters;

@@ -3,7 +3,7 @@ use Rattle.std.specs.Prelude.{◌≡◌, ◌==◌, ◌||◌, ◌+◌, ◌↔◌,
 use Rattle.protocol_syntax.specs.declared.protocol.Kind.{Kind}
 use Rattle.protocol_model.specs.declared.system.Section.{Section}
 use Rattle.protocol_model.specs.declared.system.Move.{Move}
-use Rattle.protocol_model.specs.System.{kind_of_move, IsValidMove, letter_count}
+use Rattle.protocol_model.specs.System.{belongs_to, IsValidMove, letter_count}
 use Rattle.protocol_model.specs.Patterns.{has_any_length, list_fits}
 use Rattle.protocol_model.specs.Steps.{ChangesBy, move_of}
 use Rattle.protocol_model.specs.Words.{raised}
@@ -15,7 +15,7 @@ Stays kind old new = (old ≡ new) × IsTrue (has_any_length kind || (length old
 
 -- the move belongs to the section's kind, and has letters of this section
 pub record IsMoveOf (section : Section) (move : Move) : Type 0 where
-  pub of_kind : kind_of_move move ≡ section.kind
+  pub of_kind : IsTrue (belongs_to move section.kind)
   pub valid : IsValidMove (letter_count section) move
 
 -- the words are two lists that fit the section, with each letter raised by the offset; the list moves where there is a move, else it stays

@@ -93,11 +93,16 @@ fn compile_move(
 {
     match step {
         Move::Set { from, to } => compile_cell(alloc, *from, *to, alphabet),
-        Move::Send { .. } | Move::Recv { .. } => compile_channel(alloc, step, alphabet),
-        Move::Stack { .. } => compile_stack(alloc, step, alphabet),
-        Move::At { .. } | Move::Pair { .. } | Move::Ring { .. } | Move::Two { .. } => {
-            compile_array(alloc, step, alphabet)
+        Move::Send { .. } | Move::Recv { .. } | Move::Lose { .. } => {
+            compile_channel(alloc, step, alphabet)
         }
+        Move::Stack { .. } => compile_stack(alloc, step, alphabet),
+        Move::At { .. }
+        | Move::Pair { .. }
+        | Move::Ring { .. }
+        | Move::Two { .. }
+        | Move::Spawn { .. }
+        | Move::Exit { .. } => compile_array(alloc, step, alphabet),
     }
 }
 
@@ -114,7 +119,7 @@ fn compile_copy(
 {
     match kind {
         Kind::Cell => copy_one(alloc, alphabet.letters, alphabet.offset, alphabet.count),
-        Kind::Array | Kind::Channel | Kind::Stack => {
+        Kind::Array | Kind::Channel | Kind::Stack | Kind::LossyChannel => {
             copy_any(alloc, alphabet.letters, alphabet.offset, alphabet.count)
         }
     }

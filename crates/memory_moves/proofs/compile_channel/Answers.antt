@@ -3,7 +3,7 @@ use Rattle.std.proofs.lemmas.Result.{IfOk-weaker}
 use Rattle.transducers.specs.Transducer.{Relates}
 use Rattle.protocol_model.specs.declared.system.Move.TheVariants.{Send, Recv}
 use Rattle.protocol_model.specs.System.{IsValidMove}
-use Rattle.protocol_model.specs.Moves.{IsMove}
+use Rattle.protocol_model.specs.Moves.{IsMove, IsLoss}
 use Rattle.protocol_model.specs.Raised.{IsRaisedMove}
 use Rattle.memory_moves.specs.Machine.{IsCopiedBetween, reading, writing}
 use Rattle.memory_moves.proofs.MoveLemmas.{send_relates, receive_relates}
@@ -37,3 +37,11 @@ returns-in-Recv-clause-relates c =
     (λ t h u w. joined (h u w) (receive_relates alphabet.offset alphabet.count u w a valid))
     (subst (λ label. IfOk result (λ t. (u w : List ℕ) → Relates t u w
     ↔ IsCopiedBetween (label ∷ []) None alphabet.offset alphabet.count u w)) c.reading-received.ensures c.copy_between-in-Recv.ensures.relates))
+
+pub returns-in-Lose-clause-relates : goal.returns-in-Lose-clause-relates
+returns-in-Lose-clause-relates c =
+    let alphabet = c.args.alphabet in
+    subst (λ m. IfOk c.compile_cut.result (λ t. (u w : List ℕ) → Relates t u w ↔ IsRaisedMove (IsMove m) alphabet.offset alphabet.count u w))
+    (sym c.in-Lose.is)
+    (subst (λ set. IfOk c.compile_cut.result (λ t. (u w : List ℕ) → Relates t u w ↔ IsRaisedMove (IsLoss set) alphabet.offset alphabet.count u w))
+    c.as_slice.ensures c.compile_cut.ensures.relates)

@@ -1,7 +1,10 @@
 use Rattle.std.proofs.Common.{◌↔◌, ◌∙◌, ◌∷◌, [], ◌++◌, ap, sym, subst, refl, true, length, IsTrue}
+use Rattle.std.specs.List.{list_any}
+use Rattle.protocol_model.specs.Moves.{is_in}
 use Rattle.protocol_moves.specs.Results.{IsEnabled}
 use Rattle.protocol_moves.specs.Gathering.{some_below, can_change_at}
 use Rattle.protocol_moves.proofs.EnabledMoves.{test_is, at_enabled, pair_enabled, ring_enabled, two_enabled, set_enabled, stack_enabled}
+use Rattle.protocol_moves.proofs.Losses.{cut_enabled, loss_enabled}
 use Rattle.protocol_moves.proofs.enabled.is_enabled.Goals as goal
 
 pub returns-in-At : goal.returns-in-At
@@ -47,3 +50,21 @@ pub returns-in-Stack : goal.returns-in-Stack
 returns-in-Stack c =
     subst (λ move. IsTrue c.has_top-in-Stack.result ↔ IsEnabled move c.args.list.now) (sym c.in-Stack.is)
     (stack_enabled c.in-Stack.pop c.in-Stack.push c.args.list.now c.has_top-in-Stack.result c.has_top-in-Stack.ensures)
+
+pub returns-in-Spawn : goal.returns-in-Spawn
+returns-in-Spawn c =
+    subst (λ move. IsTrue true ↔ IsEnabled move c.args.list.now) (sym c.in-Spawn.is)
+    (λ h. (c.args.list.now ++ c.in-Spawn.letter ∷ [], refl), λ m. refl)
+
+pub returns-in-Exit : goal.returns-in-Exit
+returns-in-Exit c =
+    subst (λ move. IsTrue c.has_any.result ↔ IsEnabled move c.args.list.now) (sym c.in-Exit.is)
+    (test_is c.has_any.result _ _ c.has_any.ensures (cut_enabled c.in-Exit.letter c.args.list.now))
+
+pub returns-in-Lose : goal.returns-in-Lose
+returns-in-Lose c =
+    let list = c.args.list.now in
+    let m = c.in-Lose in
+    let is = c.has_any-in-Lose.ensures ∙ ap (λ letters. list_any (is_in letters) list) c.as_slice-in-Lose.ensures in
+    subst (λ move. IsTrue c.has_any-in-Lose.result ↔ IsEnabled move list) (sym m.is)
+    (test_is c.has_any-in-Lose.result _ _ is (loss_enabled m.letters list))

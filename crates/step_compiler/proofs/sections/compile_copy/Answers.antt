@@ -22,7 +22,10 @@ returns-in-Array c =
     let any : IsTrue (has_any_length c.args.kind) =
     elim c.in-Array.is [
       | inl e ↦ ap has_any_length e
-      | inr others ↦ elim others [ inl e ↦ ap has_any_length e | inr e ↦ ap has_any_length e ]
+      | inr others ↦ elim others [
+        | inl e ↦ ap has_any_length e
+        | inr last ↦ elim last [ inl e ↦ ap has_any_length e | inr e ↦ ap has_any_length e ]
+      ]
     ] in
     record {
       letters = c.copy_any.ensures.letters;

@@ -17,4 +17,4 @@ returns c =
     let room : min c.min-used.result MAX_LETTERS ≡ min (letters_of (first ∷ before)) MAX_LETTERS =
     omega (arith, sum, c.min-used.ensures, c.saturating_add.ensures, c.len.ensures, c.used_letters.ensures) in
     subst (λ (r : Reader SectionText). Gives (r c.args.at.now) c.read.new.at c.read.result)
-    (section_same s (nat_le (MAX_SECTIONS - 1) (length before)) c.min-used.result (letters_of (first ∷ before)) room) c.read.ensures
+    (section_same s c.args.self.now.language (nat_le (MAX_SECTIONS - 1) (length before)) c.min-used.result (letters_of (first ∷ before)) room) c.read.ensures
