@@ -1,0 +1,4 @@
+pub mod Apart
+pub mod Written
+pub mod Named
+pub mod AllowedTexts
