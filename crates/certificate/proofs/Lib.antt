@@ -3,7 +3,12 @@ mod AlphabetLemmas
 mod FaultLemmas
 mod HasFaultLemmas
 mod IndexLemmas
+mod IndexedLineLemmas
+mod IndexedMeaningLemmas
+mod IndexedTextLemmas
 mod LayoutLemmas
+mod LetterIndexLemmas
+mod LetterTableLemmas
 mod LineLemmas
 mod NextLemmas
 mod NumberLemmas

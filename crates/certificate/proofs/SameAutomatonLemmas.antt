@@ -11,14 +11,14 @@ use Rattle.certificate.specs.declared.lines.Line.{Line}
 use Rattle.certificate.specs.SafeText.{IsAutomatonOf}
 
 -- where the letter of the first edge leads, and other letters
-first_target : (edge : ℕ × ℕ) (edges : List (ℕ × ℕ)) (a : ℕ) → edge.0 ≡ a → find_target (edge ∷ edges) a ≡ Some edge.1
+pub first_target : (edge : ℕ × ℕ) (edges : List (ℕ × ℕ)) (a : ℕ) → edge.0 ≡ a → find_target (edge ∷ edges) a ≡ Some edge.1
 first_target edge edges a e = cond-true (eqb edge.0 a) (Some edge.1) (find_target edges a) (eq-eqb edge.0 a e)
 
-later_target : (edge : ℕ × ℕ) (edges : List (ℕ × ℕ)) (a : ℕ) → edge.0 ≢ a → find_target (edge ∷ edges) a ≡ find_target edges a
+pub later_target : (edge : ℕ × ℕ) (edges : List (ℕ × ℕ)) (a : ℕ) → edge.0 ≢ a → find_target (edge ∷ edges) a ≡ find_target edges a
 later_target edge edges a differ = cond-false (eqb edge.0 a) (Some edge.1) (find_target edges a) (ne_eqb edge.0 a differ)
 
 -- a letter below those of all edges leads nowhere
-below_target : (edges : List (ℕ × ℕ)) (a : ℕ) → All (λ later. a < later.0) edges → find_target edges a ≡ None
+pub below_target : (edges : List (ℕ × ℕ)) (a : ℕ) → All (λ later. a < later.0) edges → find_target edges a ≡ None
 below_target [] a below = refl
 below_target (edge ∷ edges) a below =
     let above : a < edge.0 = All-head (λ (later : ℕ × ℕ). a < later.0) edge edges below in

@@ -6,6 +6,7 @@ use Rattle.std.proofs.lemmas.List.Concat.{flat_map-append}
 use Rattle.word_automata.specs.Path.{Node, edges_of, is_accepting}
 use Rattle.word_automata.specs.Automaton.{Automaton}
 use Rattle.protocol_model.specs.System.{SystemData}
+use Rattle.certificate.specs.declared.lines.Line.{Line}
 use Rattle.certificate.specs.declared.lines.Line.TheVariants.{Final}
 use Rattle.certificate.specs.SafeText.{line_text}
 use Rattle.certificate.specs.Reading.{body_text}
@@ -64,6 +65,17 @@ finals_text : (s : SystemData) (states : List ℕ) → lines_text s (map Final s
 finals_text s [] = refl
 finals_text s (q ∷ states) = ap (λ text. final_text q ++ text) (finals_text s states)
 
+-- the text of lines of accepting states and of later lines, and of the line `end`
+pub body_text-is : (s : SystemData) (states : List ℕ) (later : List Line)
+    → body_text s (map Final states ++ later) ≡ (flat_map final_text states ++ lines_text s later) ++ (codes "end" ++ 10 ∷ [])
+body_text-is s states later =
+    let end : List ℕ = codes "end" ++ 10 ∷ [] in
+    ap (body_text s) (sym (append-nil (map Final states ++ later)))
+    ∙ body_text-append s (map Final states ++ later) []
+    ∙ ap (λ text. text ++ end)
+    (flat_map-append (λ x. line_text s x ++ 10 ∷ []) (map Final states) later
+    ∙ ap (λ text. text ++ lines_text s later) (finals_text s states))
+
 -- the pieces of the text of an automaton under a first line
 pub automaton_text-is : (first : List ℕ) (s : SystemData) (m : Automaton)
     → (((first ++ (10 ∷ codes "states " ++ decimal (length m.states) ++ 10 ∷ [])) ++ flat_map final_text (final_states 0 m.states))
@@ -75,15 +87,8 @@ automaton_text-is first s m =
     let finals = flat_map final_text (final_states 0 m.states) in
     let edges = lines_text s (edge_lines 0 m.states) in
     let end : List ℕ = codes "end" ++ 10 ∷ [] in
-    let all_lines : lines_text s (written_lines m) ≡ finals ++ edges =
-    flat_map-append (λ x. line_text s x ++ 10 ∷ []) (map Final (final_states 0 m.states)) (edge_lines 0 m.states)
-    ∙ ap (λ text. text ++ edges) (finals_text s (final_states 0 m.states)) in
-    let body : body_text s (written_lines m) ≡ (finals ++ edges) ++ end =
-    ap (body_text s) (sym (append-nil (written_lines m)))
-    ∙ body_text-append s (written_lines m) []
-    ∙ ap (λ text. text ++ end) all_lines in
     ap (λ text. text ++ end) (append_assoc opening finals edges)
     ∙ append_assoc opening (finals ++ edges) end
-    ∙ ap (λ text. opening ++ text) (sym body)
+    ∙ ap (λ text. opening ++ text) (sym (body_text-is s (final_states 0 m.states) (edge_lines 0 m.states)))
     ∙ append_assoc first states (body_text s (written_lines m))
     ∙ sym (append_assoc first (10 ∷ []) ((codes "states " ++ decimal (length m.states) ++ 10 ∷ []) ++ body_text s (written_lines m)))

@@ -1,38 +1,39 @@
 -- The lines that are written of an automaton mean it.
 use Rattle.std.proofs.Common.{◌≡◌, ℕ, zero, suc, ◌+◌, ◌<◌, ◌≤◌, Bool, true, false, List, [], ◌∷◌, ◌++◌, Some, All, AllPairs, Contains}
 use Rattle.std.proofs.Common.{length, map}
-use Rattle.std.proofs.Common.{if◌then◌else◌, refl, sym, ap, subst, ◌∙◌, arith, inl, inr}
+use Rattle.std.proofs.Common.{if◌then◌else◌, ◌↔◌, refl, sym, ap, subst, ◌∙◌, arith, inl, inr}
 use Rattle.std.specs.List.{AllByRecursion}
 use Rattle.std.proofs.lemmas.List.Elements.{All-nil, All-head, All-tail, All-append, All-map, All-weaker, All-contains}
 use Rattle.std.proofs.lemmas.List.Elements.{Contains-append_left, Contains-append_right, Contains-append_cases}
 use Rattle.std.proofs.lemmas.List.Kept.{AllPairs-cons}
 use Rattle.word_automata.specs.Path.{Node, edges_of, is_accepting}
-use Rattle.word_automata.specs.Automaton.{Automaton, find_target, HasIncreasingLetters, IsValid}
+use Rattle.word_automata.specs.Automaton.{Automaton, find_target, target, HasIncreasingLetters, IsValid}
 use Rattle.word_automata.proofs.Members.{Contains-here, Contains-there, Contains-cases, Contains-none, Contains-map, Contains-map_cases}
 use Rattle.word_automata.proofs.Edges.{found_edge, edge_found}
 use Rattle.protocol_model.specs.System.{SystemData}
 use Rattle.protocol_model.specs.Words.{automata_letters}
 use Rattle.certificate.specs.declared.lines.Line.{Line}
 use Rattle.certificate.specs.declared.lines.Line.TheVariants.{Final, Edge, Edges}
+use Rattle.certificate.specs.declared.version.Version.{Version}
 use Rattle.certificate.specs.declared.version.Version.TheVariants.{One}
 use Rattle.certificate.specs.SafeText.{IsInRange, AreNoTwoEdges, IsAutomatonOf, MeansAutomaton, all_said}
 use Rattle.certificate.specs.Writing.{final_states, lines_from, edge_lines, written_lines, written_text}
 
-AllByRecursion-append : {X : Type 0} (P : X → Type 0) (xs ys : List X) → AllByRecursion P xs → AllByRecursion P ys
+pub AllByRecursion-append : {X : Type 0} (P : X → Type 0) (xs ys : List X) → AllByRecursion P xs → AllByRecursion P ys
     → AllByRecursion P (xs ++ ys)
 AllByRecursion-append P [] ys h k = k
 AllByRecursion-append P (x ∷ xs) ys h k = (h.0, AllByRecursion-append P xs ys h.1 k)
 
 -- states, letters and targets are in range
 module _ (letters count : ℕ) where
-  finals_in_range : (q : ℕ) (nodes : List (Node ℕ)) → q + length nodes ≤ count
-      → AllByRecursion (IsInRange One letters count) (map Final (final_states q nodes))
-  finals_in_range q [] fits = tt
-  finals_in_range q (node ∷ nodes) fits =
-      by node.accepting (final_states (q + 1) nodes) (finals_in_range (q + 1) nodes (omega arith))
+  pub finals_in_range : (v : Version) (q : ℕ) (nodes : List (Node ℕ)) → q + length nodes ≤ count
+      → AllByRecursion (IsInRange v letters count) (map Final (final_states q nodes))
+  finals_in_range v q [] fits = tt
+  finals_in_range v q (node ∷ nodes) fits =
+      by node.accepting (final_states (q + 1) nodes) (finals_in_range v (q + 1) nodes (omega arith))
     where
-      by : (b : Bool) (rest : List ℕ) → AllByRecursion (IsInRange One letters count) (map Final rest)
-          → AllByRecursion (IsInRange One letters count) (map Final (if b then q ∷ rest else rest))
+      by : (b : Bool) (rest : List ℕ) → AllByRecursion (IsInRange v letters count) (map Final rest)
+          → AllByRecursion (IsInRange v letters count) (map Final (if b then q ∷ rest else rest))
       by true rest h = (omega arith, h)
       by false rest h = h
 
@@ -96,7 +97,7 @@ edge_pairs q (node ∷ nodes) sorted =
     (edges_from (q + 1) (q + 1) nodes (omega arith))
     (edge_pairs (q + 1) nodes (All-tail (λ node. HasIncreasingLetters node.edges) node nodes sorted))
 
-final_pairs : (states : List ℕ) (lines : List Line) → AllPairs AreNoTwoEdges lines → AllPairs AreNoTwoEdges (map Final states ++ lines)
+pub final_pairs : (states : List ℕ) (lines : List Line) → AllPairs AreNoTwoEdges lines → AllPairs AreNoTwoEdges (map Final states ++ lines)
 final_pairs [] lines pairs = pairs
 final_pairs (q ∷ states) lines pairs =
     AllPairs-cons AreNoTwoEdges (Final q) (map Final states ++ lines) (λ k d within. tt) (final_pairs states lines pairs)
@@ -185,12 +186,13 @@ all_said_themselves size count (Final q ∷ lines) h = ap (λ rest. Final q ∷ 
 all_said_themselves size count (Edge p a q ∷ lines) h = ap (λ rest. Edge p a q ∷ rest) (all_said_themselves size count lines h.1)
 all_said_themselves size count (Edges p q indices ∷ lines) h = absurd h.0.4
 
--- the automaton is that of its lines
+-- the automaton is that of the lines of its accepting states and of lines that have just its edges
 module _ (m : Automaton) (valid : IsValid m) where
-  written_automaton : IsAutomatonOf m.letters (length m.states) (written_lines m) m
-  written_automaton =
+  pub automaton_of_lines : (edges : List Line) → ((q : ℕ) → Contains edges (Final q) → ⊥)
+      → ((p a r : ℕ) → (target m p a ≡ Some r) ↔ Contains edges (Edge p a r))
+      → IsAutomatonOf m.letters (length m.states) (map Final (final_states 0 m.states) ++ edges) m
+  automaton_of_lines edges no_final each =
       let finals = final_states 0 m.states in
-      let edges = edge_lines 0 m.states in
       record {
         valid = valid;
         letters_are = refl;
@@ -207,20 +209,14 @@ module _ (m : Automaton) (valid : IsValid m) where
                 let accepting = finals_are 0 m.states found.0 found.1 in
                 subst (λ r. is_accepting m.states r ≡ true) (let same : accepting.0 ≡ q = omega (arith, accepting.1, state) in
                 same) accepting.2
-            | inr edge ↦ absurd (All-contains (IsFrom 0) edges (Final q) (edges_from 0 0 m.states (omega arith)) edge)
+            | inr edge ↦ absurd (no_final q edge)
           ],
         );
         edge_lines = λ p a r. (
-          λ leads.
-              Contains-append_right (map Final finals) edges (Edge p a r)
-              (subst (λ state. Contains edges (Edge state a r)) (let same : 0 + p ≡ p = omega arith in same)
-              (edges_have 0 m.states p a r leads)),
+          λ leads. Contains-append_right (map Final finals) edges (Edge p a r) ((each p a r).0 leads),
           λ among. elim (Contains-append_cases (map Final finals) edges (Edge p a r) among) [
             | inl final ↦ absurd (finals_have_no_edge finals p a r final)
-            | inr own ↦
-                let found = edges_are 0 m.states valid.ordered p a r own in
-                subst (λ state. find_target (edges_of m.states state) a ≡ Some r) (let same : found.0 ≡ p = omega (arith, found.1) in
-                same) found.2
+            | inr own ↦ (each p a r).1 own
           ],
         );
       }
@@ -228,13 +224,28 @@ module _ (m : Automaton) (valid : IsValid m) where
       same_final : (x q : ℕ) → Final x ≡ Final q → x ≡ q
       same_final x q e = cc
 
+  written_automaton : IsAutomatonOf m.letters (length m.states) (written_lines m) m
+  written_automaton =
+      let edges = edge_lines 0 m.states in
+      automaton_of_lines edges
+      (λ q edge. All-contains (IsFrom 0) edges (Final q) (edges_from 0 0 m.states (omega arith)) edge)
+      (λ p a r. (
+        λ leads.
+            subst (λ state. Contains edges (Edge state a r)) (let same : 0 + p ≡ p = omega arith in same)
+            (edges_have 0 m.states p a r leads),
+        λ own.
+            let found = edges_are 0 m.states valid.ordered p a r own in
+            subst (λ state. find_target (edges_of m.states state) a ≡ Some r) (let same : found.0 ≡ p = omega (arith, found.1) in
+            same) found.2,
+      ))
+
   -- the text of an automaton means it
   pub written_means : (s : SystemData) → m.letters ≡ automata_letters s → length m.states ≤ 1000000 → MeansAutomaton s (written_text s m) m
   written_means s letters limit =
       let in_range : AllByRecursion (IsInRange One (automata_letters s) (length m.states)) (written_lines m) =
       subst (λ size. AllByRecursion (IsInRange One size (length m.states)) (written_lines m)) letters
       (AllByRecursion-append (IsInRange One m.letters (length m.states)) (map Final (final_states 0 m.states)) (edge_lines 0 m.states)
-      (finals_in_range m.letters (length m.states) 0 m.states (omega arith))
+      (finals_in_range m.letters (length m.states) One 0 m.states (omega arith))
       (edges_in_range m.letters (length m.states) 0 m.states (omega arith) valid.letters_in_range valid.targets_in_range)) in
       let same = all_said_themselves (automata_letters s) (length m.states) (written_lines m) in_range in
       record {

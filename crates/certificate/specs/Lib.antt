@@ -1,6 +1,8 @@
 pub mod Alphabet
 pub mod Bytes
 pub mod Faults
+pub mod IndexedWriting
+pub mod IndexedWritingParts
 pub mod LayoutParts
 pub mod LineLayout
 pub mod Meaning

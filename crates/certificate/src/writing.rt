@@ -71,7 +71,7 @@ pub fn write_counted(
 }
 
 /// Adds the lines of all accepting states.
-fn push_final_states(text: &mut Vec<u8>, proof: &Dfa) -> Result<(), AllocError>
+pub fn push_final_states(text: &mut Vec<u8>, proof: &Dfa) -> Result<(), AllocError>
     ensures { OnOk result (text.new.items ≡ text.old.items ++ flat_map final_text (final_states 0 proof.now.states)) }
 {
     'states: for state in 0..proof.states() {
@@ -142,7 +142,7 @@ fn push_edge(
 }
 
 /// Adds a number in decimal.
-fn push_number(text: &mut Vec<u8>, number: usize) -> Result<(), AllocError>
+pub fn push_number(text: &mut Vec<u8>, number: usize) -> Result<(), AllocError>
     ensures { OnOk result (text.new.items ≡ text.old.items ++ decimal number) }
 {
     let mut buffer = Buffer::new();
