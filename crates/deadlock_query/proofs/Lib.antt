@@ -1,0 +1,4 @@
+mod RuleSources
+mod Remainders
+mod FreeConfigurations
+mod StuckWords

@@ -1,0 +1,4 @@
+pub mod StuckConfigurations
+pub mod DeadlockTask
+pub mod FreeRows
+pub mod Together
