@@ -234,7 +234,12 @@ taken_is form words formed heads none =
 
 pub formed : (name : Name) → IsFormed (form_of name)
 formed names.Check = record { built_is = refl; is_simple = refl; places = (refl, refl, refl); flags_are = one_flag (codes "report") refl }
+formed names.Back = record { built_is = refl; is_simple = refl; places = (refl, refl, refl); flags_are = no_flag refl }
+formed names.Deadlock = record { built_is = refl; is_simple = refl; places = (refl, refl, refl); flags_are = no_flag refl }
+formed names.Past = record { built_is = refl; is_simple = refl; places = (refl, refl, refl); flags_are = no_flag refl }
+formed names.CheckAll = record { built_is = refl; is_simple = refl; places = (refl, refl, (refl, refl, refl)); flags_are = no_flag refl }
 formed names.Verify = record { built_is = refl; is_simple = refl; places = (refl, refl, (refl, refl, refl)); flags_are = no_flag refl }
+formed names.Migrate = record { built_is = refl; is_simple = refl; places = (refl, refl, (refl, refl, refl)); flags_are = no_flag refl }
 formed names.Show = record { built_is = refl; is_simple = refl; places = (refl, refl, refl); flags_are = no_flag refl }
 formed names.Steps = record { built_is = refl; is_simple = refl; places = (refl, refl, (refl, refl, refl)); flags_are = no_flag refl }
 formed names.Generate = record { built_is = refl; is_simple = refl; places = (refl, refl, refl); flags_are = no_flag refl }

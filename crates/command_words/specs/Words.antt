@@ -8,7 +8,7 @@ use Rattle.command_words.specs.declared.Limits.{Limits}
 use Rattle.command_words.specs.declared.Method.{Method}
 use Rattle.command_words.specs.declared.Method.TheVariants.{Predicates, Length}
 use Rattle.command_words.specs.declared.Query.{Query}
-use Rattle.command_words.specs.declared.Query.TheVariants.{Check}
+use Rattle.command_words.specs.declared.Query.TheVariants.{Check, Back, Deadlock, Past}
 use Rattle.command_words.specs.declared.Settings.{Settings}
 use Rattle.command_words.specs.declared.Start.{Start}
 use Rattle.command_words.specs.declared.Start.TheVariants.{Bad, Nothing}
@@ -18,9 +18,11 @@ use Rattle.command_words.specs.declared.forms.Name.TheVariants as names
 -- a command with the names of its texts
 pub data Command : Type 0 where
   verify : List ℕ → List ℕ → Command
+  migrate : List ℕ → List ℕ → Command
   steps : List ℕ → List ℕ → Command
   show : List ℕ → Command
   searching : List ℕ → Query → Limits → Command
+  checking_all : List ℕ → List ℕ → Limits → Command
   generate : ℕ → ℕ → Command
 
 -- ---- the ranges of numbers
@@ -54,6 +56,9 @@ pub record IsSettings (settings : Settings) : Type 0 where
 
 abbrev pub IsQuery : Query → Type 0
 IsQuery (Check settings) = IsSettings settings
+IsQuery Back = Unit {0}
+IsQuery Deadlock = Unit {0}
+IsQuery (Past bound) = bound ≤ most_bound
 
 pub record IsSearching (query : Query) (limits : Limits) : Type 0 where
   pub query_in : IsQuery query
@@ -67,9 +72,11 @@ pub record IsGenerate (number workers : ℕ) : Type 0 where
 -- the numbers of the command are in range
 abbrev pub IsInRange : Command → Type 0
 IsInRange (verify file certificate) = Unit {0}
+IsInRange (migrate file certificate) = Unit {0}
 IsInRange (steps file configuration) = Unit {0}
 IsInRange (show file) = Unit {0}
 IsInRange (searching file query limits) = IsSearching query limits
+IsInRange (checking_all file properties limits) = IsLimits limits
 IsInRange (generate number workers) = IsGenerate number workers
 
 -- ---- what one word is
@@ -238,11 +245,16 @@ settings_given bindings = settings_from (method_given bindings) (start_given bin
 abbrev pub name_of : List ℕ → Option Name
 name_of word =
     if bytes_eq word (codes "check") then Some names.Check
+    else (if bytes_eq word (codes "back") then Some names.Back
+    else (if bytes_eq word (codes "deadlock") then Some names.Deadlock
+    else (if bytes_eq word (codes "past") then Some names.Past
+    else (if bytes_eq word (codes "checkall") then Some names.CheckAll
     else (if bytes_eq word (codes "verify") then Some names.Verify
+    else (if bytes_eq word (codes "migrate") then Some names.Migrate
     else (if bytes_eq word (codes "show") then Some names.Show
     else (if bytes_eq word (codes "steps") then Some names.Steps
     else (if bytes_eq word (codes "gen") then Some names.Generate
-    else None))))
+    else None)))))))))
 
 -- the form of the words after each name
 abbrev pub form_of : Name → Form
@@ -251,7 +263,20 @@ form_of names.Check = record {
   flags = codes "report" ∷ [];
   positionals = codes "FILE" ∷ [];
 }
+form_of names.Back = record { valued = codes "budget" ∷ (codes "workers" ∷ []); flags = []; positionals = codes "FILE" ∷ [] }
+form_of names.Deadlock = record { valued = codes "budget" ∷ (codes "workers" ∷ []); flags = []; positionals = codes "FILE" ∷ [] }
+form_of names.Past = record {
+  valued = codes "bound" ∷ (codes "budget" ∷ (codes "workers" ∷ []));
+  flags = [];
+  positionals = codes "FILE" ∷ [];
+}
+form_of names.CheckAll = record {
+  valued = codes "budget" ∷ (codes "workers" ∷ []);
+  flags = [];
+  positionals = codes "FILE" ∷ (codes "PROPS" ∷ []);
+}
 form_of names.Verify = record { valued = []; flags = []; positionals = codes "FILE" ∷ (codes "CERT" ∷ []) }
+form_of names.Migrate = record { valued = []; flags = []; positionals = codes "FILE" ∷ (codes "CERT" ∷ []) }
 form_of names.Show = record { valued = []; flags = []; positionals = codes "FILE" ∷ [] }
 form_of names.Steps = record { valued = []; flags = []; positionals = codes "FILE" ∷ (codes "CONFIGURATION" ∷ []) }
 form_of names.Generate = record { valued = codes "workers" ∷ []; flags = []; positionals = codes "N" ∷ [] }
@@ -268,6 +293,10 @@ abbrev pub two_of : (List ℕ → List ℕ → Command) → Option (List ℕ) �
 two_of command (Some file) (Some other) = Some (command file other)
 two_of command _ _ = None
 
+abbrev pub checking_all_of : List Binding → Limits → Option Command
+checking_all_of bound limits =
+    two_of (λ file properties. checking_all file properties limits) (value_of (codes "FILE") bound) (value_of (codes "PROPS") bound)
+
 abbrev pub generate_of : Option ℕ → Option ℕ → Option Command
 generate_of (Some number) (Some workers) = Some (generate number workers)
 generate_of _ _ = None
@@ -275,7 +304,12 @@ generate_of _ _ = None
 -- the command of this name, from what the words after it bind
 abbrev pub command_given : Name → List Binding → Option Command
 command_given names.Check bound = searching_given bound (option_map Check (settings_given bound))
+command_given names.Back bound = searching_given bound (Some Back)
+command_given names.Deadlock bound = searching_given bound (Some Deadlock)
+command_given names.Past bound = searching_given bound (option_map Past (bound_given bound))
+command_given names.CheckAll bound = option_and_then (checking_all_of bound) (limits_given bound)
 command_given names.Verify bound = two_of verify (value_of (codes "FILE") bound) (value_of (codes "CERT") bound)
+command_given names.Migrate bound = two_of migrate (value_of (codes "FILE") bound) (value_of (codes "CERT") bound)
 command_given names.Show bound = option_map show (value_of (codes "FILE") bound)
 command_given names.Steps bound = two_of steps (value_of (codes "FILE") bound) (value_of (codes "CONFIGURATION") bound)
 command_given names.Generate bound =
@@ -299,7 +333,9 @@ command_of (word ∷ words) = if list_any is_empty (word ∷ words) then None el
 -- the command that a value of the program stands for
 abbrev pub said : CommandWords → Command
 said (words.Verify file certificate) = verify file.now certificate.now
+said (words.Migrate file certificate) = migrate file.now certificate.now
 said (words.Steps file configuration) = steps file.now configuration.now
 said (words.Show file) = show file.now
 said (words.Search file query limits) = searching file.now query limits
+said (words.CheckAll file properties limits) = checking_all file.now properties.now limits
 said (words.Generate number workers) = generate number workers

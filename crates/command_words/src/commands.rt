@@ -1,14 +1,15 @@
 //! The command that the matches of `clap` mean, by the command's name. Every searching command has its query, and the file and the limits
 //! are read once for all of them. Each value is looked at once.
 
-ghost use Rattle.std.specs.Prelude.{List, ◌≡◌, false, codes, option_map, IfSome};
-ghost use Rattle.command_words.specs.declared.Query.TheVariants.{Check};
+ghost use Rattle.std.specs.Prelude.{List, ℕ, ◌≡◌, false, codes, option_map, IfSome};
+ghost use Rattle.command_words.specs.declared.Query.TheVariants.{Check, Past};
 ghost use Rattle.command_words.specs.declared.forms.Name.TheVariants as names;
 ghost use Rattle.command_words.specs.Parsing.{Gives, GivesInRange, GivesValues};
-ghost use Rattle.command_words.specs.Words.{Binding, Form as FormData, IsQuery, command_given, form_of, is_among, searching_given, settings_given};
+ghost use Rattle.command_words.specs.Words.{Binding, Command as CommandData, Form as FormData, IsQuery, bound_given, command_given};
+ghost use Rattle.command_words.specs.Words.{form_of, is_among, searching_given, settings_given, two_of, value_of};
 
 use crate::forms::Name;
-use crate::values::{generated_in, limits_in, settings_in, value_in, workers_in};
+use crate::values::{bound_in, generated_in, limits_in, settings_in, value_in, workers_in};
 use crate::{Command, Query};
 use clap::ArgMatches;
 
@@ -20,6 +21,18 @@ fn check_query_in(matches: &ArgMatches<'_>) -> Option<Query>
 {
     let settings = settings_in(matches)?;
     Some(Query::Check(settings))
+}
+
+// The query of `past`.
+fn past_query_in(matches: &ArgMatches<'_>) -> Option<Query>
+    ensures query { (bound : List Binding) → GivesValues (form_of names.Past) bound matches.now
+        → result ≡ option_map Past (bound_given bound) }
+    ensures in_range { IfSome result IsQuery }
+{
+    let bound = bound_in(matches)?;
+    Some(Query::Past {
+        bound: u64::from(bound),
+    })
 }
 
 // The searching command of this query, if there is one.
@@ -40,15 +53,51 @@ fn search_in<'a>(matches: &ArgMatches<'a>, query: Option<Query>) -> Option<Comma
     })
 }
 
+// The value of FILE and that of another name, which are no options without a value, if there are both.
+fn two_in<'a>(matches: &ArgMatches<'a>, other: &str) -> Option<(&'a str, &'a str)>
+    ensures { (form : FormData) (bound : List Binding) → GivesValues form bound matches.now
+        → is_among (codes "FILE") form.flags ≡ false → is_among other.now form.flags ≡ false
+        → (command : List ℕ → List ℕ → CommandData) → option_map (λ words. command words.0.now words.1.now) result
+        ≡ two_of command (value_of (codes "FILE") bound) (value_of other.now bound) }
+{
+    let file = value_in(matches, "FILE")?;
+    let other = value_in(matches, other)?;
+    Some((file, other))
+}
+
+// The command of `checkall`.
+fn check_all_in<'a>(matches: &ArgMatches<'a>) -> Option<Command<'a>>
+    ensures command { (bound : List Binding) → GivesValues (form_of names.CheckAll) bound matches.now
+        → Gives result (command_given names.CheckAll bound) }
+    ensures in_range { GivesInRange result }
+{
+    let limits = limits_in(matches)?;
+    let (file, properties) = two_in(matches, "PROPS")?;
+    Some(Command::CheckAll {
+        file,
+        properties,
+        limits,
+    })
+}
+
 // The command of `verify`.
 fn verify_in<'a>(matches: &ArgMatches<'a>) -> Option<Command<'a>>
     ensures command { (bound : List Binding) → GivesValues (form_of names.Verify) bound matches.now
         → Gives result (command_given names.Verify bound) }
     ensures in_range { GivesInRange result }
 {
-    let file = value_in(matches, "FILE")?;
-    let certificate = value_in(matches, "CERT")?;
+    let (file, certificate) = two_in(matches, "CERT")?;
     Some(Command::Verify { file, certificate })
+}
+
+// The command of `migrate`.
+fn migrate_in<'a>(matches: &ArgMatches<'a>) -> Option<Command<'a>>
+    ensures command { (bound : List Binding) → GivesValues (form_of names.Migrate) bound matches.now
+        → Gives result (command_given names.Migrate bound) }
+    ensures in_range { GivesInRange result }
+{
+    let (file, certificate) = two_in(matches, "CERT")?;
+    Some(Command::Migrate { file, certificate })
 }
 
 // The command of `show`.
@@ -67,8 +116,7 @@ fn steps_in<'a>(matches: &ArgMatches<'a>) -> Option<Command<'a>>
         → Gives result (command_given names.Steps bound) }
     ensures in_range { GivesInRange result }
 {
-    let file = value_in(matches, "FILE")?;
-    let configuration = value_in(matches, "CONFIGURATION")?;
+    let (file, configuration) = two_in(matches, "CONFIGURATION")?;
     Some(Command::Steps {
         file,
         configuration,
@@ -93,7 +141,12 @@ pub(crate) fn command_in<'a>(name: Name, matches: &ArgMatches<'a>) -> Option<Com
 {
     match name {
         Name::Check => search_in(matches, check_query_in(matches)),
+        Name::Back => search_in(matches, Some(Query::Back)),
+        Name::Deadlock => search_in(matches, Some(Query::Deadlock)),
+        Name::Past => search_in(matches, past_query_in(matches)),
+        Name::CheckAll => check_all_in(matches),
         Name::Verify => verify_in(matches),
+        Name::Migrate => migrate_in(matches),
         Name::Show => show_in(matches),
         Name::Steps => steps_in(matches),
         Name::Generate => generate_in(matches),

@@ -10,8 +10,18 @@ ghost use Rattle.command_words.specs.Words.{form_of as form_of_words, name_of as
 pub(crate) enum Name {
     /// `check`
     Check,
+    /// `back`
+    Back,
+    /// `deadlock`
+    Deadlock,
+    /// `past`
+    Past,
+    /// `checkall`
+    CheckAll,
     /// `verify`
     Verify,
+    /// `migrate`
+    Migrate,
     /// `show`
     Show,
     /// `steps`
@@ -38,8 +48,43 @@ const CHECK: Form<'static> = Form {
     positionals: &["FILE"],
 };
 
+/// The form of `back`.
+const BACK: Form<'static> = Form {
+    valued: &["budget", "workers"],
+    flags: &[],
+    positionals: &["FILE"],
+};
+
+/// The form of `deadlock`.
+const DEADLOCK: Form<'static> = Form {
+    valued: &["budget", "workers"],
+    flags: &[],
+    positionals: &["FILE"],
+};
+
+/// The form of `past`.
+const PAST: Form<'static> = Form {
+    valued: &["bound", "budget", "workers"],
+    flags: &[],
+    positionals: &["FILE"],
+};
+
+/// The form of `checkall`.
+const CHECK_ALL: Form<'static> = Form {
+    valued: &["budget", "workers"],
+    flags: &[],
+    positionals: &["FILE", "PROPS"],
+};
+
 /// The form of `verify`.
 const VERIFY: Form<'static> = Form {
+    valued: &[],
+    flags: &[],
+    positionals: &["FILE", "CERT"],
+};
+
+/// The form of `migrate`.
+const MIGRATE: Form<'static> = Form {
     valued: &[],
     flags: &[],
     positionals: &["FILE", "CERT"],
@@ -72,8 +117,18 @@ pub(crate) fn name_of(word: &str) -> Option<Name>
 {
     if word == "check" {
         Some(Name::Check)
+    } else if word == "back" {
+        Some(Name::Back)
+    } else if word == "deadlock" {
+        Some(Name::Deadlock)
+    } else if word == "past" {
+        Some(Name::Past)
+    } else if word == "checkall" {
+        Some(Name::CheckAll)
     } else if word == "verify" {
         Some(Name::Verify)
+    } else if word == "migrate" {
+        Some(Name::Migrate)
     } else if word == "show" {
         Some(Name::Show)
     } else if word == "steps" {
@@ -91,7 +146,12 @@ pub(crate) fn form_of(name: Name) -> Form<'static>
 {
     match name {
         Name::Check => CHECK,
+        Name::Back => BACK,
+        Name::Deadlock => DEADLOCK,
+        Name::Past => PAST,
+        Name::CheckAll => CHECK_ALL,
         Name::Verify => VERIFY,
+        Name::Migrate => MIGRATE,
         Name::Show => SHOW,
         Name::Steps => STEPS,
         Name::Generate => GENERATE,

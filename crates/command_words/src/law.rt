@@ -3,8 +3,8 @@
 
 ghost use Rattle.command_words.specs.PlainForms.{PlainFormsMean};
 
-/// `show FILE`, `check FILE`, `verify FILE CERT` and `steps FILE CONFIGURATION`, with words that are not empty and no options, mean these
-/// commands with these words, `check` with the default settings; `check FILE --budget N` has N as its budget, where it is in range.
+/// Each command but `gen`, with words that are not empty and no options, means this command with these words, a search with the default
+/// settings and limits; `check FILE --budget N` has N as its budget and `past FILE --bound N` as its bound, where it is in range.
 pub fn plain_forms_mean()
     ensures { PlainFormsMean }
 {}

@@ -68,6 +68,15 @@ pub struct Limits {
 pub enum Query {
     /// A proof or a bad run.
     Check(Settings),
+    /// The same, searched from the bad configurations backward.
+    Back,
+    /// A proof that no run leads to a deadlock, or a run to one.
+    Deadlock,
+    /// A proof or a bad run, with states merged by the words that lead into them.
+    Past {
+        /// The first bound on the length of words, from 0 to 64.
+        bound: u64,
+    },
 }
 
 /// What is asked for, with the names of its texts.
@@ -75,6 +84,13 @@ pub enum Query {
 pub enum Command<'a> {
     /// Judge the certificate for the protocol.
     Verify {
+        /// The name of the protocol's text.
+        file: &'a str,
+        /// The name of the certificate's text.
+        certificate: &'a str,
+    },
+    /// Turn the certificate for the protocol into one of the later version of its text.
+    Migrate {
         /// The name of the protocol's text.
         file: &'a str,
         /// The name of the certificate's text.
@@ -99,6 +115,15 @@ pub enum Command<'a> {
         /// What is searched for.
         query: Query,
         /// What the search may take.
+        limits: Limits,
+    },
+    /// Search the protocol's system for each property of a text of properties, as `check` does by default.
+    CheckAll {
+        /// The name of the protocol's text.
+        file: &'a str,
+        /// The name of the text of properties.
+        properties: &'a str,
+        /// What each search may take, with the number of threads for all searches together.
         limits: Limits,
     },
     /// Make a protocol from a number, and search its system as `check` does by default.
@@ -137,8 +162,10 @@ fn command_called<'a>(
 
 /// The command that the words mean, which are those after the program's name; none where they mean none. The first word names the command:
 /// `check FILE [--method predicates|length] [--start bad|none] [--bound N] [--budget N] [--workers N] [--report]`, `verify FILE CERT`,
-/// `show FILE`, `steps FILE CONFIGURATION` or `gen N [--workers N]`. Options stand anywhere after it, each at most once, as `--x V` or
-/// `--x=V`, and a word `--` ends them. No word is empty. A number is one to seven digits, and in its range.
+/// `show FILE`, `steps FILE CONFIGURATION`, `gen N [--workers N]`, `migrate FILE CERT`, `back FILE [--budget N] [--workers N]`,
+/// `deadlock FILE [--budget N] [--workers N]`, `past FILE [--bound N] [--budget N] [--workers N]` or
+/// `checkall FILE PROPS [--budget N] [--workers N]`. Options stand anywhere after it, each at most once, as `--x V` or `--x=V`, and a word
+/// `--` ends them. No word is empty. A number is one to seven digits, and in its range.
 ///
 /// Errors: `AllocError`, only where memory runs out.
 pub fn command_of<'a>(alloc: Global, words: &'a [String]) -> Result<Option<Command<'a>>, AllocError>

@@ -1,5 +1,5 @@
-use Rattle.std.proofs.Common.{rules, ◌∙◌, sym, ap, ap₂, refl, option_map, codes}
-use Rattle.command_words.specs.Words.{form_of, two_of, steps, value_of}
+use Rattle.std.proofs.Common.{rules, ◌∙◌, sym, ap, refl, option_map}
+use Rattle.command_words.specs.Words.{form_of, steps}
 use Rattle.command_words.specs.declared.forms.Name.TheVariants as names
 use Rattle.command_words.proofs.Given.{gives_none}
 use Rattle.command_words.proofs.commands.steps_in.Goals as goal
@@ -7,15 +7,8 @@ use Rattle.command_words.proofs.commands.steps_in.Goals as goal
 pub returns-in_err-file-clause-command : goal.returns-in_err-file-clause-command
 returns-in_err-file-clause-command c bound has =
     gives_none c.from_residual.result _ (search rules)
-    (ap (λ x. two_of steps x (value_of (codes "CONFIGURATION") bound)) (sym (c.value_in.ensures (form_of names.Steps) bound has refl) ∙ ap (option_map (λ s. s.now)) c.in_err-file.was))
-
-pub returns-in_err-configuration-clause-command : goal.returns-in_err-configuration-clause-command
-returns-in_err-configuration-clause-command c bound has =
-    gives_none c.from_residual-in_err-configuration.result _ (search rules)
-    (ap₂ (two_of steps) (sym (c.value_in.ensures (form_of names.Steps) bound has refl) ∙ ap (option_map (λ s. s.now)) c.in_ok-file.was)
-    (sym (c.value_in-2.ensures (form_of names.Steps) bound has refl) ∙ ap (option_map (λ s. s.now)) c.in_err-configuration.was))
+    (sym (c.two_in.ensures (form_of names.Steps) bound has refl refl steps) ∙ ap (option_map (λ words. steps words.0.now words.1.now)) c.in_err-file.was)
 
 pub returns-clause-command : goal.returns-clause-command
 returns-clause-command c bound has =
-    ap₂ (two_of steps) (sym (c.value_in.ensures (form_of names.Steps) bound has refl) ∙ ap (option_map (λ s. s.now)) c.in_ok-file.was)
-    (sym (c.value_in-2.ensures (form_of names.Steps) bound has refl) ∙ ap (option_map (λ s. s.now)) c.in_ok-configuration.was)
+    sym (c.two_in.ensures (form_of names.Steps) bound has refl refl steps) ∙ ap (option_map (λ words. steps words.0.now words.1.now)) c.in_ok-file.was
