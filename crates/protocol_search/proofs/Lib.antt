@@ -1,7 +1,9 @@
 pub mod StepLemmas
 pub mod RunsTo
 pub mod ProofLemmas
-pub mod ByAnalysis
 pub mod OneRun
+pub mod TaskVerdicts
+pub mod ForProblems
+pub mod ByAnalysis
 pub mod Rounds
 pub mod Budgets

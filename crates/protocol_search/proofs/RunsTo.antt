@@ -11,7 +11,7 @@ use Rattle.safety_problem.specs.Task.{Task}
 use Rattle.trace_replay.specs.Runs.{IsBadChain, IsChainToBad}
 use Rattle.refinement.specs.Laws.{LeadsToBad}
 use Rattle.certificate_checker.proofs.WordFacts.{word_of-injective}
-use Rattle.protocol_search.specs.Runs.{AreStepWords, AreStepsThrough, IsRunThrough}
+use Rattle.protocol_search.specs.Runs.{IsRunTo, AreStepWords, AreStepsThrough, IsRunThrough}
 use Rattle.protocol_search.proofs.StepLemmas.{initial-fits, initial-word}
 
 -- the problem of a system from its initial words to those of configurations of this kind
@@ -22,12 +22,6 @@ task_to s is_end = record {
   is_bad = λ w. (c : Configuration) × is_end c × (w ≡ word_of s c);
   steps = IsWordStep s;
 }
-
--- the run begins in an initial configuration, goes by steps, and ends in a configuration of this kind
-pub record IsRunTo (s : SystemData) (is_end : Configuration → Type 0) (run : Run) : Type 0 where
-  pub begins : IsTrue (is_initial s run.first)
-  pub goes : AreSteps s run.first run.steps
-  pub ends : is_end (last_of run.first run.steps)
 
 module _ (s : SystemData) (is_end : Configuration → Type 0) (end-fits : (c : Configuration) → is_end c → IsTrue (fits s c)) where
   -- the configuration of a word of this kind is of this kind

@@ -1,5 +1,6 @@
 pub mod Runs
 pub mod Methods
+pub mod Deadlocks
 pub mod Analyses
 pub mod Verdicts
 pub mod OneVerdict

@@ -6,13 +6,15 @@ use Rattle.search_history.specs.declared.log.LogEnd.TheVariants.{Spent}
 use Rattle.refinement.specs.Verdicts.{IsSound}
 use Rattle.refinement.specs.declared.verdict.Verdict.{Verdict}
 use Rattle.refinement.specs.declared.verdict.Verdict.TheVariants.{Safe, Unsafe, Unknown}
-use Rattle.protocol_search.specs.Analyses.{task_for, VerdictShows, IsVerdictText, TextShows}
+use Rattle.protocol_search.specs.Analyses.{task_for, proof_limit, VerdictShows, IsVerdictText, TextShows}
 use Rattle.protocol_search.specs.Verdicts.{IsVerdictOf, end_of}
 use Rattle.protocol_search.specs.declared.search.Search.{Search}
 
--- each verdict is sound for its problem: an automaton that it carries is an invariant with fewer states than the budget of its search
+-- each verdict is sound for its problem: an automaton that it carries is an invariant with fewer states than the limit of its search
 abbrev pub VerdictsAreSound : Type 0
-VerdictsAreSound = (s : SystemData) (search : Search) (v : Verdict) → IsVerdictOf s search v → IsSound (task_for search.analysis s) search.budget v
+VerdictsAreSound =
+    (s : SystemData) (search : Search) (v : Verdict) → IsVerdictOf s search v
+    → IsSound (task_for search.analysis s) (proof_limit search.analysis search.budget) v
 
 -- each verdict shows of the system what it says
 abbrev pub VerdictsShow : Type 0

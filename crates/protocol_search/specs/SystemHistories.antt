@@ -17,18 +17,18 @@ use Rattle.refinement.specs.Bounds.{HoldOfRounds}
 use Rattle.refinement.specs.Exclusion.{AreRefutedOnce}
 use Rattle.refinement.specs.Verdicts.{log_in}
 use Rattle.refinement.specs.declared.verdict.Verdict.{Verdict}
-use Rattle.protocol_search.specs.Analyses.{task_for, IsCounterexample}
+use Rattle.protocol_search.specs.Analyses.{searched_task, IsCounterexample}
 use Rattle.protocol_search.specs.Methods.{search_method, first_key, IsByPredicates, signature_length}
 use Rattle.protocol_search.specs.Verdicts.{IsVerdictOf, end_of}
 use Rattle.protocol_search.specs.declared.first.FirstAbstraction.{FirstAbstraction}
 use Rattle.protocol_search.specs.declared.search.Search.{Search}
 
 -- the rounds of the search for the system, and the sum of their counted states; the first key of predicates of the bad words is the canonical
--- automaton of the problem's own bad words
+-- automaton of the bad words of the rounds' problem
 pub record IsHistoryOf (s : SystemData) (search : Search) (rounds : List SearchRound) (sum : ℕ) : Type 0 where
   pub bad : Automaton
-  pub is_bad : IsAutomatonOf (task_for search.analysis s).letters (task_for search.analysis s).is_bad bad
-  pub history : History (task_for search.analysis s) (search_method search.first) search.budget (first_key search.first bad) 0 rounds sum
+  pub is_bad : IsAutomatonOf (searched_task search.analysis s).letters (searched_task search.analysis s).is_bad bad
+  pub history : History (searched_task search.analysis s) (search_method search.first) search.budget (first_key search.first bad) 0 rounds sum
 
 -- the log and the end of the search are those of its history: the sizes of the automata of its rounds with their sum, and the end of the last round
 pub record IsFromHistory (s : SystemData) (search : Search) (log : Log) (end : LogEnd) : Type 0 where
@@ -67,7 +67,7 @@ SearchRefutesOnce = (s : SystemData) (search : Search) (rounds : List SearchRoun
 -- each round is bounded by its key
 abbrev pub SearchIsBoundedByKeys : Type 0
 SearchIsBoundedByKeys = (s : SystemData) (search : Search) (rounds : List SearchRound) (sum : ℕ) → (h : IsHistoryOf s search rounds sum)
-    → HoldOfRounds (search_method search.first) (IsBoundedByKey (task_for search.analysis s).letters search.first) (first_key search.first h.bad) rounds
+    → HoldOfRounds (search_method search.first) (IsBoundedByKey (searched_task search.analysis s).letters search.first) (first_key search.first h.bad) rounds
 
 -- where some run of n steps is a counterexample, no round has an index above n, and none ends closed
 abbrev pub SearchIsBoundedByRuns : Type 0

@@ -3,12 +3,17 @@
 /// Which abstraction a search begins with.
 #[derive(Clone, Copy, Debug, Drop)]
 pub enum FirstAbstraction {
-    /// By the predicates of the automaton of the bad words.
+    /// By the predicates of the automaton of the words that the rounds lead to: of the bad ones, and backward of the initial ones.
     BadPredicates,
     /// By predicates, of which there is none at first.
     NoPredicates,
-    /// By the words of at most `bound` letters.
+    /// By the words of at most `bound` letters that states accept.
     Lengths {
+        /// The bound on the number of letters.
+        bound: u64,
+    },
+    /// By the words of at most `bound` letters that lead into states.
+    Pasts {
         /// The bound on the number of letters.
         bound: u64,
     },

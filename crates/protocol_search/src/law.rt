@@ -24,7 +24,7 @@ pub fn verdicts_have_histories()
 {}
 
 /// Each verdict shows of the system what it says, and so does its text: that an automaton proves it, and then no run is a counterexample,
-/// or that some run is one. The automaton of a safe verdict has fewer states than the budget of its search.
+/// or that some run is one. The automaton of a safe verdict has fewer states than the budget of its search, and backward at most as many.
 pub fn verdicts_show()
     ensures sound { VerdictsAreSound }
     ensures verdicts { VerdictsShow }

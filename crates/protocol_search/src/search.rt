@@ -2,11 +2,15 @@
 
 use crate::first::FirstAbstraction;
 
-/// Which problem of a system is searched.
+/// Which problem of a system is searched, and from which end.
 #[derive(Clone, Copy, Debug, Drop)]
 pub enum Analysis {
     /// From the initial configurations by steps to a bad one.
     Forward,
+    /// The same, by rounds from the bad configurations back to an initial one.
+    Backward,
+    /// From the initial configurations by steps to one from which no rule leads.
+    Stuck,
 }
 
 /// What is searched.

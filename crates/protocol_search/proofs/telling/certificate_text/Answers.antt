@@ -9,7 +9,7 @@ use Rattle.protocol_search.proofs.telling.certificate_text.Goals as goal
 pub run_through-requires : goal.run_through-requires
 run_through-requires c =
     let s = c.args.system.now in
-    let sound = subst (λ v. IsSound (task_of s) c.args.budget v) c.in-Unsafe.is c.requires.sound in
+    let sound = subst (λ v. IsSound (task_of s) c.args.limit v) c.in-Unsafe.is c.requires.sound in
     subst (AreStepWords s) (sym c.as_slice.ensures) (told-words s c.in-Unsafe.words sound)
 
 pub write_unsafe-requires : goal.write_unsafe-requires

@@ -1,0 +1,144 @@
+-- What holds of the verdict of a history of a problem, and of the verdict of a search backward.
+use Rattle.std.proofs.Common.{◌≡◌, ◌≢◌, ◌≤◌, ◌∙◌, ℕ, List, None, Option, Some, refl, sym, ap, subst, arith}
+use Rattle.std.specs.List.{last_or}
+use Rattle.word_automata.specs.Automaton.{Automaton}
+use Rattle.safety_problem.specs.Task.{Task}
+use Rattle.safety_problem.specs.Reversal.{reversed}
+use Rattle.abstraction.specs.Merging.{Key}
+use Rattle.search_history.specs.Histories.{Method, SearchRound, IsSearchRound, History, ends, goes_on, log_of}
+use Rattle.search_history.specs.declared.log.Log.{Log}
+use Rattle.search_history.specs.declared.log.LogEnd.{LogEnd}
+use Rattle.search_history.specs.declared.log.LogEnd.TheVariants.{Spent}
+use Rattle.refinement.specs.Verdicts.{IsVerdict, IsVerdictOfRound, IsSound, log_in}
+use Rattle.refinement.specs.declared.verdict.Verdict.{Verdict}
+use Rattle.refinement.specs.declared.verdict.Verdict.TheVariants.{Safe, Unsafe, Unknown}
+use Rattle.refinement.proofs.Bounds.{history-larger}
+use Rattle.refinement.proofs.DecisionLemmas.{closed-round}
+use Rattle.refinement.proofs.RealRuns.{round-run}
+use Rattle.refinement.proofs.RoundLemmas.{round-proof}
+use Rattle.backward_search.specs.BackwardVerdicts.{IsBackwardVerdict, IsToldBackward}
+use Rattle.protocol_search.specs.SearchLaws.{with_logged_budget, logged_within}
+use Rattle.protocol_search.specs.Verdicts.{end_of}
+
+ends-so : (t : Task) (round : SearchRound) (v : Verdict) → IsVerdictOfRound t round v → round.end ≡ end_of v
+ends-so t round (Safe proof log) h = h.0
+ends-so t round (Unsafe words log) h = h.0
+ends-so t round (Unknown log) h = h
+
+-- the log and the end are those of a history
+pub record IsFromRounds (t : Task) (method : Method) (key : Key) (budget : ℕ) (log : Log) (end : LogEnd) : Type 0 where
+  pub rounds : List SearchRound
+  pub sum : ℕ
+  pub history : History t method budget key 0 rounds sum
+  pub log_is : log ≡ log_of budget rounds sum
+  pub last_round : SearchRound
+  pub is_last : last_or None rounds ≡ Some last_round
+  pub ends : last_round.end ≡ end
+
+pub from-rounds : (t : Task) (method : Method) (key : Key) (budget : ℕ) (v : Verdict) → IsVerdict t method key budget v
+    → IsFromRounds t method key budget (log_in v) (end_of v)
+from-rounds t method key budget v h = record {
+  rounds = h.rounds;
+  sum = h.sum;
+  history = h.history;
+  log_is = h.log_is;
+  last_round = h.last_round;
+  is_last = h.is_last;
+  ends = ends-so t h.last_round v h.verdict_of;
+}
+
+-- the last round of a history is one of the search by some key
+record IsOneOf (t : Task) (method : Method) (budget : ℕ) (round : SearchRound) : Type 0 where
+  key : Key
+  before : ℕ
+  after : ℕ
+  searched : IsSearchRound t (method.related key) budget before round after
+
+pub same-round : (a b : SearchRound) → Some a ≡ Some b → a ≡ b
+same-round a b h = cc h
+
+last-of : (t : Task) (method : Method) (budget : ℕ) (o : Option SearchRound) (last : SearchRound) {key : Key} {s z : ℕ} {rounds : List SearchRound}
+    → History t method budget key s rounds z → last_or o rounds ≡ Some last → IsOneOf t method budget last
+last-of t method budget o last (ends {key = key} {s = s} {sum = z} {round = round} h open_end) is =
+    subst (IsOneOf t method budget) (same-round round last is) (record { key = key; before = s; after = z; searched = h })
+last-of t method budget o last (goes_on {round = round} h refuted at rest) is = last-of t method budget (Some round) last rest is
+
+module _ (t : Task) (method : Method) (own : (key : Key) (a : Automaton) (p : ℕ) → method.related key a p p) (budget : ℕ) where
+  sound-last : (round : SearchRound) (v : Verdict) → IsOneOf t method budget round → IsVerdictOfRound t round v → IsSound t budget v
+  sound-last round (Safe proof log) one h =
+      round-proof t (method.related one.key) budget one.before one.after round.n round.m (own one.key)
+      (closed-round t (method.related one.key) budget one.before one.after round one.searched h.0) proof h.1
+  sound-last round (Unsafe words log) one h = round-run t (method.related one.key) budget one.before one.after round one.searched h.0 words h.1
+  sound-last round (Unknown log) one h = tt
+
+  pub verdict-is-sound : (key : Key) (v : Verdict) → IsVerdict t method key budget v → IsSound t budget v
+  verdict-is-sound key v h = sound-last h.last_round v (last-of t method budget None h.last_round h.history h.is_last) h.verdict_of
+
+-- ---- a larger budget
+
+logged : (budget : ℕ) (v : Verdict) → log_in (with_logged_budget budget v) ≡ logged_within budget (log_in v)
+logged budget (Safe proof log) = refl
+logged budget (Unsafe words log) = refl
+logged budget (Unknown log) = refl
+
+round-stays : (t : Task) (round : SearchRound) (budget : ℕ) (v : Verdict) → IsVerdictOfRound t round v → IsVerdictOfRound t round (with_logged_budget budget v)
+round-stays t round budget (Safe proof log) h = h
+round-stays t round budget (Unsafe words log) h = h
+round-stays t round budget (Unknown log) h = h
+
+pub verdict-stays : (t : Task) (method : Method) (key : Key) (budget larger : ℕ) (v : Verdict) → budget ≤ larger → end_of v ≢ Spent
+    → IsVerdict t method key budget v → IsVerdict t method key larger (with_logged_budget larger v)
+verdict-stays t method key budget larger v more decided h =
+    let unspent : h.last_round.end ≢ Spent = λ spent. decided (sym (ends-so t h.last_round v h.verdict_of) ∙ spent) in
+    record {
+      rounds = h.rounds;
+      sum = h.sum;
+      history = history-larger t budget larger more method None h.last_round unspent h.is_last h.history;
+      last_round = h.last_round;
+      is_last = h.is_last;
+      verdict_of = round-stays t h.last_round larger v h.verdict_of;
+      log_is = logged larger v ∙ ap (logged_within larger) h.log_is;
+    }
+
+sound-stays : (t : Task) (budget larger : ℕ) (v : Verdict) → budget ≤ larger → IsSound t budget v → IsSound t larger (with_logged_budget larger v)
+sound-stays t budget larger (Safe proof log) more sound = record {
+  invariant = sound.invariant;
+  canonical = sound.canonical;
+  same_letters = sound.same_letters;
+  few = let few = sound.few in omega (arith, few, more);
+}
+sound-stays t budget larger (Unsafe words log) more sound = sound
+sound-stays t budget larger (Unknown log) more sound = tt
+
+-- ---- searches backward
+
+told-log : (found v : Verdict) → IsToldBackward found v → log_in found ≡ log_in v
+told-log (Safe proof log) v (c, complement, told) = ap log_in (sym told)
+told-log (Unsafe words log) v told = ap log_in (sym told)
+told-log (Unknown log) v told = ap log_in (sym told)
+
+told-end : (found v : Verdict) → IsToldBackward found v → end_of found ≡ end_of v
+told-end (Safe proof log) v (c, complement, told) = ap end_of (sym told)
+told-end (Unsafe words log) v told = ap end_of (sym told)
+told-end (Unknown log) v told = ap end_of (sym told)
+
+pub from-rounds-back : (t : Task) (method : Method) (key : Key) (budget : ℕ) (v : Verdict) → IsBackwardVerdict t method key budget v
+    → IsFromRounds (reversed t) method key budget (log_in v) (end_of v)
+from-rounds-back t method key budget v h =
+    let from = from-rounds (reversed t) method key budget h.found h.is_found in
+    let logs = subst (λ log. IsFromRounds (reversed t) method key budget log (end_of h.found)) (told-log h.found v h.told) from in
+    subst (λ end. IsFromRounds (reversed t) method key budget (log_in v) end) (told-end h.found v h.told) logs
+
+told-stays : (larger : ℕ) (found v : Verdict) → IsToldBackward found v → IsToldBackward (with_logged_budget larger found) (with_logged_budget larger v)
+told-stays larger (Safe proof log) v (c, complement, told) = (c, complement, ap (with_logged_budget larger) told)
+told-stays larger (Unsafe words log) v told = ap (with_logged_budget larger) told
+told-stays larger (Unknown log) v told = ap (with_logged_budget larger) told
+
+pub verdict-stays-back : (t : Task) (method : Method) (key : Key) (budget larger : ℕ) (v : Verdict) → budget ≤ larger → end_of v ≢ Spent
+    → IsBackwardVerdict t method key budget v → IsBackwardVerdict t method key larger (with_logged_budget larger v)
+verdict-stays-back t method key budget larger v more decided h = record {
+  found = with_logged_budget larger h.found;
+  is_found = verdict-stays (reversed t) method key budget larger h.found more (λ spent. decided (sym (told-end h.found v h.told) ∙ spent)) h.is_found;
+  sound = sound-stays (reversed t) budget larger h.found more h.sound;
+  told = told-stays larger h.found v h.told;
+}
