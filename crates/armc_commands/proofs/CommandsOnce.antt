@@ -12,21 +12,21 @@ use Rattle.configuration_words.specs.OneReading as configuration
 use Rattle.certificate.specs.OneReading as certificate
 use Rattle.certificate_checker.specs.OneAnswer.{AnswerIsDetermined}
 use Rattle.certificate_checker.specs.Answers.{IsAnswer}
-use Rattle.command_words.specs.Words.{Command, verify, steps, show, searching, generate}
-use Rattle.command_words.specs.declared.Query.{Query}
-use Rattle.command_words.specs.declared.Query.TheVariants.{Check as ByCheck}
+use Rattle.command_words.specs.Words.{Command, verify, migrate, steps, show, searching, checking_all, generate}
 use Rattle.armc_commands.specs.declared.status.Status.TheVariants as status
 use Rattle.armc_commands.specs.declared.reply.Reply.{Reply}
 use Rattle.armc_commands.specs.Line.{line}
 use Rattle.armc_commands.specs.Reply.{on_out, on_err, RefusesCertificate}
 use Rattle.armc_commands.specs.Refusal.{configuration_refusal_text, certificate_refusal_text}
 use Rattle.armc_commands.specs.Reading.{IsFaultless}
-use Rattle.armc_commands.specs.Commands.{CommandReply, QueryReply}
+use Rattle.armc_commands.specs.Commands.{CommandReply}
 use Rattle.armc_commands.specs.declared.search_reply.Telling.{Telling}
 use Rattle.armc_commands.specs.declared.search_reply.Telling.TheVariants.{Summary}
 use Rattle.armc_commands.specs.SearchReply.{Part, IsSearchReply}
-use Rattle.armc_commands.specs.Commands.Check.{check_telling, check_parts}
+use Rattle.armc_commands.specs.Commands.CheckAll.{IsCheckAllReply}
 use Rattle.armc_commands.specs.Commands.Generate.{generate_parts}
+use Rattle.armc_commands.specs.Commands.Migrate.{IsMigrateReply, Migrates, migrated_text}
+use Rattle.armc_commands.specs.Commands.Queries.{telling_of, query_parts}
 use Rattle.armc_commands.specs.Commands.Steps.{IsStepsReply, ListsSuccessors, RefusesConfiguration, successors_text}
 use Rattle.armc_commands.specs.Commands.Verify.{IsVerifyReply, Judges, answer_status, answer_text}
 
@@ -57,11 +57,11 @@ module _ (configuration_once : configuration.ConfigurationIsDetermined) (fault_o
     ]
   ]
 
--- `verify`
+-- `verify` and `migrate`
 module _ (meaning : certificate.MeaningIsDetermined) (fault_once : certificate.FaultIsDetermined) (either : certificate.FaultExcludesMeaning)
-    (answer_once : AnswerIsDetermined) (s : SystemData) (valid : IsValid s) (text : List ℕ) where
-  judges_once : (r q : Reply) → Judges s text r → Judges s text q → r ≡ q
-  judges_once r q h k =
+    (s : SystemData) (valid : IsValid s) (text : List ℕ) where
+  judges_once : AnswerIsDetermined → (r q : Reply) → Judges s text r → Judges s text q → r ≡ q
+  judges_once answer_once r q h k =
       let same = meaning s valid text h.certificate k.certificate h.means k.means in
       let answers = answer_once s k.certificate h.answer k.answer (subst (λ c. IsAnswer s c h.answer) same h.is_answer) k.is_answer in
       h.reply_is ∙ ap (λ a. on_out (answer_status a) (line (answer_text s a))) answers ∙ sym k.reply_is
@@ -72,28 +72,42 @@ module _ (meaning : certificate.MeaningIsDetermined) (fault_once : certificate.F
       ∙ ap (λ fault. on_err status.CertificateRefused (line (certificate_refusal_text fault))) (fault_once s valid text h.fault k.fault h.is_first k.is_first)
       ∙ sym k.reply_is
 
-  pub verify_once : (r q : Reply) → IsVerifyReply s text r → IsVerifyReply s text q → r ≡ q
-  verify_once r q h k = elim h [
+  pub verify_once : AnswerIsDetermined → (r q : Reply) → IsVerifyReply s text r → IsVerifyReply s text q → r ≡ q
+  verify_once answer_once r q h k = elim h [
     | inl refuses ↦ elim k [
       | inl refuses_too ↦ refuses_certificate_once r q refuses refuses_too
       | inr judges ↦ absurd (either s valid text refuses.fault judges.certificate refuses.is_first judges.means)
     ]
     | inr judges ↦ elim k [
       | inl refuses ↦ absurd (either s valid text refuses.fault judges.certificate refuses.is_first judges.means)
-      | inr judges_too ↦ judges_once r q judges judges_too
+      | inr judges_too ↦ judges_once answer_once r q judges judges_too
     ]
   ]
 
--- a query
-module _ (search_once : (told : Telling) (parts : List Part) (r q : Reply) → IsSearchReply told parts r → IsSearchReply told parts q → r ≡ q) where
-  pub query_once : (query : Query) (budget : ℕ) (s : SystemData) (r q : Reply) → QueryReply query budget s r → QueryReply query budget s q → r ≡ q
-  query_once (ByCheck settings) budget s r q h k = search_once (check_telling settings) (check_parts s settings budget) r q h k
+  migrates_once : (r q : Reply) → Migrates s text r → Migrates s text q → r ≡ q
+  migrates_once r q h k =
+      let same = meaning s valid text h.same.certificate k.same.certificate h.same.means k.same.means in
+      h.reply_is ∙ ap (λ c. on_out status.Done (migrated_text s c)) same ∙ sym k.reply_is
+
+  pub migrate_once : (r q : Reply) → IsMigrateReply s text r → IsMigrateReply s text q → r ≡ q
+  migrate_once r q h k = elim h [
+    | inl refuses ↦ elim k [
+      | inl refuses_too ↦ refuses_certificate_once r q refuses refuses_too
+      | inr migrates ↦ absurd (either s valid text refuses.fault migrates.same.certificate refuses.is_first migrates.same.means)
+    ]
+    | inr migrates ↦ elim k [
+      | inl refuses ↦ absurd (either s valid text refuses.fault migrates.same.certificate refuses.is_first migrates.same.means)
+      | inr migrates_too ↦ migrates_once r q migrates migrates_too
+    ]
+  ]
 
 -- each command
 module _ (allowed : (text : List ℕ) (p : Protocol) → IsProtocol text p → IsAllowed p)
     (valid : (p : Protocol) → IsAllowed p → first_fault p ≡ None → IsValid (system_of p))
     (verify_reply_once : (s : SystemData) → IsValid s → (text : List ℕ) (r q : Reply) → IsVerifyReply s text r → IsVerifyReply s text q → r ≡ q)
+    (migrate_reply_once : (s : SystemData) → IsValid s → (text : List ℕ) (r q : Reply) → IsMigrateReply s text r → IsMigrateReply s text q → r ≡ q)
     (steps_reply_once : (s : SystemData) → IsValid s → (text : List ℕ) (r q : Reply) → IsStepsReply s text r → IsStepsReply s text q → r ≡ q)
+    (check_all_reply_once : (s : SystemData) (budget : ℕ) (text : List ℕ) (r q : Reply) → IsCheckAllReply s budget text r → IsCheckAllReply s budget text q → r ≡ q)
     (search_once : (told : Telling) (parts : List Part) (r q : Reply) → IsSearchReply told parts r → IsSearchReply told parts q → r ≡ q) where
   system_is_valid : (source : List ℕ) (p : Protocol) → IsFaultless source p → IsValid (system_of p)
   system_is_valid source p says = valid p (allowed source p says.is_protocol) says.no_fault
@@ -101,7 +115,10 @@ module _ (allowed : (text : List ℕ) (p : Protocol) → IsProtocol text p → I
   pub command_once : (command : Command) (source : List ℕ) (p : Protocol) (text : List ℕ) (r q : Reply) → IsFaultless source p
       → CommandReply command p text r → CommandReply command p text q → r ≡ q
   command_once (verify file certificate) source p text r q says h k = verify_reply_once (system_of p) (system_is_valid source p says) text r q h k
+  command_once (migrate file certificate) source p text r q says h k = migrate_reply_once (system_of p) (system_is_valid source p says) text r q h k
   command_once (steps file configuration) source p text r q says h k = steps_reply_once (system_of p) (system_is_valid source p says) text r q h k
   command_once (show file) source p text r q says h k = h ∙ sym k
-  command_once (searching file query limits) source p text r q says h k = query_once search_once query limits.budget (system_of p) r q h k
+  command_once (searching file query limits) source p text r q says h k =
+      search_once (telling_of query) (query_parts (system_of p) query limits.budget) r q h k
+  command_once (checking_all file properties limits) source p text r q says h k = check_all_reply_once (system_of p) limits.budget text r q h k
   command_once (generate number workers) source p text r q says h k = search_once (Summary number) (generate_parts (system_of p)) r q h k

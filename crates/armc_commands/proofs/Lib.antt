@@ -6,5 +6,10 @@ pub mod QuietReads
 pub mod CommandsOnce
 pub mod OneReplyLemmas
 pub mod SearchLemmas
+pub mod BackLemmas
+pub mod DeadlockLemmas
+pub mod QueryLemmas
+pub mod MigrateLemmas
+pub mod CheckAllLemmas
 pub mod Promised
 pub mod UsageLemmas

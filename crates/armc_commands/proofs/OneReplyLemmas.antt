@@ -2,11 +2,10 @@
 use Rattle.std.proofs.Common.{◌≡◌, ◌≢◌, ◌≤◌, ◌<◌, ◌⊎◌, inl, inr, ℕ, List, length, Option, None, Some, IfSome, Result, Ok, Err, refl, sym, ap, subst, ◌∙◌, arith, codes}
 use Rattle.std.specs.Prelude.{IsSome}
 use Rattle.protocol_syntax.specs.declared.protocol.Protocol.{Protocol}
+use Rattle.protocol_syntax.specs.Grammar.{protocol}
 use Rattle.protocol_syntax.specs.OneReading.{ProtocolIsDetermined, FaultIsDetermined, FaultExcludesProtocol}
 use Rattle.protocol_model.specs.Faults.{first_fault}
 use Rattle.command_words.specs.Words.{Command, command_of}
-use Rattle.armc_commands.specs.declared.refusal.Refusal.{Refusal}
-use Rattle.armc_commands.specs.declared.refusal.Refusal.TheVariants.{Syntax, Model}
 use Rattle.armc_commands.specs.declared.status.Status.TheVariants.{ProtocolRefused}
 use Rattle.armc_commands.specs.declared.reply.Reply.{Reply}
 use Rattle.armc_commands.specs.declared.failure.Failure.{Failure}
@@ -15,6 +14,7 @@ use Rattle.armc_commands.specs.Origin.{Told, Origin, named, given, generated, Is
 use Rattle.armc_commands.specs.Reads.{IsToldOrigin}
 use Rattle.armc_commands.specs.Reading.{IsFaultless}
 use Rattle.armc_commands.proofs.QuietReads.{first_told, second_told}
+use Rattle.armc_commands.proofs.Refused.{refusal_once, refused_or_faultless}
 use Rattle.armc_commands.specs.Refusal.{IsRefusalOf}
 use Rattle.armc_commands.specs.Reply.{refusal_reply}
 use Rattle.armc_commands.specs.Commands.{protocol_origin, second_origin, CommandReply}
@@ -41,24 +41,6 @@ module _ (told : Told) where
       let of_name = subst (λ o. IsTextFrom told o a) e h in
       not_longer (told name) a limit some of_name.whole of_name.within longer
 
--- the first fault of a protocol's text
-module _ (protocol_once : ProtocolIsDetermined) (fault_once : FaultIsDetermined) (fault_or_protocol : FaultExcludesProtocol) (text : List ℕ) where
-  refusal_once : (r q : Refusal) → IsRefusalOf text r → IsRefusalOf text q → r ≡ q
-  refusal_once (Syntax f) (Syntax g) h k = ap Syntax (fault_once text f g h k)
-  refusal_once (Syntax f) (Model g) h k = absurd (fault_or_protocol text f k.0 h k.1)
-  refusal_once (Model f) (Syntax g) h k = absurd (fault_or_protocol text g h.0 k h.1)
-  refusal_once (Model f) (Model g) h k =
-      let same : h.0 ≡ k.0 = protocol_once text h.0 k.0 h.1 k.1 in
-      let faults : Some f ≡ Some g = sym h.2 ∙ ap first_fault same ∙ k.2 in
-      ap Model (cc faults)
-
-  refused_or_faultless : (r : Refusal) (p : Protocol) → IsRefusalOf text r → IsFaultless text p → ⊥
-  refused_or_faultless (Syntax f) p h k = fault_or_protocol text f p h k.is_protocol
-  refused_or_faultless (Model f) p h k =
-      let same : h.0 ≡ p = protocol_once text h.0 p h.1 k.is_protocol in
-      let faults : Some f ≡ None = sym h.2 ∙ ap first_fault same ∙ k.no_fault in
-      cc faults
-
 module _ (protocol_once : ProtocolIsDetermined) (fault_once : FaultIsDetermined) (fault_or_protocol : FaultExcludesProtocol)
     (command_once : (command : Command) (source : List ℕ) (p : Protocol) (text : List ℕ) (r q : Reply) → IsFaultless source p
     → CommandReply command p text r → CommandReply command p text q → r ≡ q)
@@ -73,13 +55,13 @@ module _ (protocol_once : ProtocolIsDetermined) (fault_once : FaultIsDetermined)
     not_both : (p : Protocol) (reply : Reply) → RefusesProtocol told command reply → HasProtocol told command p → ⊥
     not_both p reply refuses has =
         let same = first_once refuses.text has.text refuses.is_text has.is_text in
-        refused_or_faultless protocol_once fault_once fault_or_protocol has.text refuses.refusal p
-        (subst (λ text. IsRefusalOf text refuses.refusal) same refuses.refused) has.says
+        refused_or_faultless protocol first_fault has.text (protocol_once has.text) (fault_once has.text) (fault_or_protocol has.text) refuses.refusal p
+        (subst (λ text. IsRefusalOf text refuses.refusal) same refuses.refused) has.says.is_protocol has.says.no_fault
 
     refused_once : (r q : Reply) → RefusesProtocol told command r → RefusesProtocol told command q → r ≡ q
     refused_once r q h k =
         let same = first_once h.text k.text h.is_text k.is_text in
-        let refusals = refusal_once protocol_once fault_once fault_or_protocol k.text h.refusal k.refusal
+        let refusals = refusal_once protocol first_fault k.text (protocol_once k.text) (fault_once k.text) (fault_or_protocol k.text) h.refusal k.refusal
         (subst (λ text. IsRefusalOf text h.refusal) same h.refused) k.refused in
         h.reply_is ∙ ap (refusal_reply (codes "protocol") ProtocolRefused) refusals ∙ sym k.reply_is
 

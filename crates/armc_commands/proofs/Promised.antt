@@ -3,15 +3,15 @@ use Rattle.std.proofs.Common.{◌≡◌, ◌⊎◌, ◌∙◌, ℕ, List, None, 
 use Rattle.protocol_syntax.specs.declared.protocol.Protocol.{Protocol}
 use Rattle.protocol_model.specs.System.{SystemData}
 use Rattle.protocol_model.specs.Numbering.{system_of}
-use Rattle.command_words.specs.Words.{Command, verify, steps, show, searching, generate, command_of}
+use Rattle.command_words.specs.Words.{Command, verify, migrate, steps, show, searching, checking_all, generate, command_of}
 use Rattle.command_words.specs.declared.Query.{Query}
-use Rattle.command_words.specs.declared.Query.TheVariants.{Check as ByCheck}
-use Rattle.command_words.specs.declared.Settings.{Settings}
 use Rattle.armc_commands.specs.declared.reply.Reply.{Reply}
 use Rattle.armc_commands.specs.Origin.{Told}
-use Rattle.armc_commands.specs.Commands.{CommandReply, QueryReply, QueryPromise, Promise}
-use Rattle.armc_commands.specs.Commands.Check.{IsCheckReply, CheckPromise}
+use Rattle.armc_commands.specs.Commands.{CommandReply, Promise}
+use Rattle.armc_commands.specs.Commands.CheckAll.{IsCheckAllReply, CheckAllPromise}
 use Rattle.armc_commands.specs.Commands.Generate.{IsGenerateReply, GeneratePromise}
+use Rattle.armc_commands.specs.Commands.Migrate.{IsMigrateReply, MigratePromise}
+use Rattle.armc_commands.specs.Commands.Queries.{QueryReply, QueryPromise}
 use Rattle.armc_commands.specs.Commands.Verify.{IsVerifyReply, VerifyPromise}
 use Rattle.armc_commands.specs.Outcome.{RefusesProtocol, RepliesToCommand, IsReply}
 use Rattle.armc_commands.specs.ReplyLaws.{KeepsItsPromise, RepliesKeepPromises}
@@ -40,14 +40,15 @@ promised keep words told command reply asked is = elim is [
 
 -- each reply keeps what its command promises
 module _ (verify_keeps : (s : SystemData) (text : List ℕ) (reply : Reply) → IsVerifyReply s text reply → VerifyPromise s text reply)
-    (check_keeps : (s : SystemData) (settings : Settings) (budget : ℕ) (reply : Reply) → IsCheckReply s settings budget reply → CheckPromise s settings budget reply)
+    (migrate_keeps : (s : SystemData) (text : List ℕ) (reply : Reply) → IsMigrateReply s text reply → MigratePromise s text reply)
+    (query_keeps : (query : Query) (budget : ℕ) (s : SystemData) (reply : Reply) → QueryReply query budget s reply → QueryPromise query budget s reply)
+    (check_all_keeps : (s : SystemData) (budget : ℕ) (text : List ℕ) (reply : Reply) → IsCheckAllReply s budget text reply → CheckAllPromise s budget text reply)
     (generate_keeps : (s : SystemData) (number : ℕ) (reply : Reply) → IsGenerateReply s number reply → GeneratePromise s number reply) where
-  query_keeps : (query : Query) (budget : ℕ) (s : SystemData) (reply : Reply) → QueryReply query budget s reply → QueryPromise query budget s reply
-  query_keeps (ByCheck settings) budget s reply h = check_keeps s settings budget reply h
-
   pub keeps : (command : Command) (p : Protocol) (text : List ℕ) (reply : Reply) → CommandReply command p text reply → Promise command p text reply
   keeps (verify file certificate) p text reply h = verify_keeps (system_of p) text reply h
+  keeps (migrate file certificate) p text reply h = migrate_keeps (system_of p) text reply h
   keeps (steps file configuration) p text reply h = tt
   keeps (show file) p text reply h = tt
   keeps (searching file query limits) p text reply h = query_keeps query limits.budget (system_of p) reply h
+  keeps (checking_all file properties limits) p text reply h = check_all_keeps (system_of p) limits.budget text reply h
   keeps (generate number workers) p text reply h = generate_keeps (system_of p) number reply h

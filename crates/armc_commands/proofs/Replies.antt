@@ -1,5 +1,5 @@
 -- What was read of a text and told of it is the reply.
-use Rattle.std.proofs.Common.{◌≡◌, ◌≢◌, ◌&&◌, ℕ, Bool, true, false, List, Result, Ok, Err, IfOk, OnOk, IsTrue, refl, inl, inr}
+use Rattle.std.proofs.Common.{◌≡◌, ◌≢◌, ◌&&◌, ℕ, Bool, true, false, List, Result, Ok, Err, IfOk, OnOk, IsTrue, refl, inr}
 use Rattle.protocol_model.specs.System.{SystemData}
 use Rattle.protocol_model.specs.Patterns.{fits}
 use Rattle.configuration_words.specs.declared.fault.ConfigFault.{ConfigFault}
@@ -17,10 +17,10 @@ use Rattle.certificate_checker.specs.declared.answer.Answer.TheVariants.{Valid, 
 use Rattle.armc_commands.specs.declared.status.Status.TheVariants as status
 use Rattle.armc_commands.specs.declared.reply.Reply.{Reply}
 use Rattle.armc_commands.specs.Line.{line}
-use Rattle.armc_commands.specs.Reply.{on_err}
+use Rattle.armc_commands.specs.Reply.{on_err, RefusesCertificate}
 use Rattle.armc_commands.specs.Refusal.{configuration_refusal_text, certificate_refusal_text}
 use Rattle.armc_commands.specs.Commands.Steps.{IsStepsReply}
-use Rattle.armc_commands.specs.Commands.Verify.{IsVerifyReply, ShowsFitting}
+use Rattle.armc_commands.specs.Commands.Verify.{ShowsFitting}
 
 first_true : (a b : Bool) → IsTrue (a && b) → IsTrue a
 first_true true b h = refl
@@ -56,8 +56,9 @@ steps_refused s text fault (Ok reply) is other first = inr (record { fault = fau
 steps_refused s text fault (Err e) is other first = tt
 
 -- the first fault of a certificate is told
-pub verify_refused : {E : Type 0} (s : SystemData) (text : List ℕ) (fault : CertFault) (r : Result Reply E)
+pub certificate_refused : {E : Type 0} (P : Reply → Type 0) (s : SystemData) (text : List ℕ) → ((reply : Reply) → RefusesCertificate s text reply → P reply)
+    → (fault : CertFault) (r : Result Reply E)
     → IfOk r (λ reply. reply ≡ on_err status.CertificateRefused (line (certificate_refusal_text fault))) → OnOk r (fault ≢ certificate_fault.Memory)
-    → (fault ≢ certificate_fault.Memory → HasFault s text fault) → IfOk r (IsVerifyReply s text)
-verify_refused s text fault (Ok reply) is other first = inl (record { fault = fault; is_first = first other; reply_is = is })
-verify_refused s text fault (Err e) is other first = tt
+    → (fault ≢ certificate_fault.Memory → HasFault s text fault) → IfOk r P
+certificate_refused P s text replies fault (Ok reply) is other first = replies reply (record { fault = fault; is_first = first other; reply_is = is })
+certificate_refused P s text replies fault (Err e) is other first = tt

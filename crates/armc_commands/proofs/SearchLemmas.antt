@@ -1,5 +1,5 @@
 -- The replies of commands that search.
-use Rattle.std.proofs.Common.{◌≡◌, ◌≢◌, ◌≤◌, ◌∙◌, ℕ, Bool, true, false, List, [], ◌∷◌, map, append-nil, refl, sym, ap, subst, if◌then◌else◌}
+use Rattle.std.proofs.Common.{◌≡◌, ◌≢◌, ◌≤◌, ◌∙◌, ℕ, Bool, true, false, List, [], ◌∷◌, map, Option, None, append-nil, refl, sym, ap, subst, if◌then◌else◌}
 use Rattle.std.specs.List.{list_any}
 use Rattle.protocol_model.specs.declared.system.Run.{Run}
 use Rattle.protocol_model.specs.System.{SystemData}
@@ -9,22 +9,23 @@ use Rattle.search_history.specs.declared.log.LogEnd.TheVariants.{Spent}
 use Rattle.refinement.specs.Verdicts.{log_in}
 use Rattle.refinement.specs.declared.verdict.Verdict.{Verdict}
 use Rattle.refinement.specs.declared.verdict.Verdict.TheVariants.{Safe, Unsafe, Unknown}
-use Rattle.protocol_search.specs.Analyses.{VerdictShows, TextShows}
+use Rattle.protocol_search.specs.Analyses.{VerdictShows, CertificateShows, TextShows}
 use Rattle.protocol_search.specs.OneVerdict.{VerdictIsDetermined, TextIsDetermined}
 use Rattle.protocol_search.specs.SearchLaws.{VerdictsAreSound, VerdictsShow, TextsShow, with_budget, with_logged_budget, LargerBudgetKeepsVerdict, LargerBudgetKeepsText}
 use Rattle.protocol_search.specs.SystemHistories.{VerdictsHaveHistories, SearchRefutesOnce, SearchIsBoundedByKeys, SearchIsBoundedByRuns}
 use Rattle.protocol_search.specs.Verdicts.{end_of}
+use Rattle.protocol_search.specs.declared.first.FirstAbstraction.{FirstAbstraction}
+use Rattle.protocol_search.specs.declared.search.Analysis.{Analysis}
 use Rattle.protocol_search.specs.declared.search.Analysis.TheVariants.{Forward}
-use Rattle.command_words.specs.declared.Settings.{Settings}
+use Rattle.search_report.specs.declared.method.Method.{Method}
 use Rattle.armc_commands.specs.declared.status.Status.{Status}
 use Rattle.armc_commands.specs.declared.status.Status.TheVariants as status
 use Rattle.armc_commands.specs.declared.reply.Reply.{Reply}
 use Rattle.armc_commands.specs.declared.search_reply.Telling.{Telling}
 use Rattle.armc_commands.specs.declared.search_reply.Telling.TheVariants.{Certificate, Summary}
 use Rattle.armc_commands.specs.Summary.{summary}
-use Rattle.armc_commands.specs.SearchReply.{Part, PartAnswer, IsTold, IsAnswerTo, HoldsOfParts, status_of, report_of, reply_of_answers, IsSearchReply, is_unsafe, is_unknown}
-use Rattle.armc_commands.specs.SearchPromise.{PartPromise, ToldShows, SearchPromise}
-use Rattle.armc_commands.specs.Commands.Check.{IsCheckReply, CheckPromise, check_parts, check_search, check_telling, ShowsSafe, ShowsUnsafe}
+use Rattle.armc_commands.specs.SearchReply.{Part, PartAnswer, IsTold, IsAnswerTo, HoldsOfParts, titled, status_of, report_of, reply_of_answers, IsSearchReply, is_unsafe, is_unknown}
+use Rattle.armc_commands.specs.SearchPromise.{PartPromise, ToldShows, SearchPromise, ShowsSafe, ShowsUnsafe, CertificatePromise}
 use Rattle.armc_commands.specs.Commands.Generate.{IsGenerateReply, GeneratePromise, generate_parts}
 use Rattle.armc_commands.specs.ReplyLaws.{part_within, SamePart, SameAnswer}
 
@@ -55,7 +56,7 @@ module _ (verdict-once : VerdictIsDetermined) (text-once : TextIsDetermined) whe
 
   pub search-once : (told : Telling) (parts : List Part) (r q : Reply) → IsSearchReply told parts r → IsSearchReply told parts q → r ≡ q
   search-once told parts r q h k =
-      h.reply_is ∙ ap (reply_of_answers told) (answers-once told parts h.answers k.answers h.are_answers k.are_answers) ∙ sym k.reply_is
+      h.reply_is ∙ ap (reply_of_answers told parts) (answers-once told parts h.answers k.answers h.are_answers k.are_answers) ∙ sym k.reply_is
 
 -- ---- what it promises
 
@@ -103,42 +104,48 @@ pub record IsOneAnswer (P : Part → PartAnswer → Type 0) (told : Telling) (pa
   pub answer : PartAnswer
   pub holds : P part answer
   pub status_is : reply.status ≡ status_of (answer.verdict ∷ [])
-  pub out_is : reply.out ≡ answer.text
+  pub out_is : reply.out ≡ titled part.title answer.text
 
 pub one-answer : (P : Part → PartAnswer → Type 0) (told : Telling) (part : Part) (reply : Reply) (answers : List PartAnswer)
-    → HoldsOfParts P (part ∷ []) answers → reply ≡ reply_of_answers told answers → IsOneAnswer P told part reply
+    → HoldsOfParts P (part ∷ []) answers → reply ≡ reply_of_answers told (part ∷ []) answers → IsOneAnswer P told part reply
 one-answer P told part reply [] h is = absurd h
 one-answer P told part reply (a ∷ []) h is = record {
   answer = a;
   holds = h.0;
   status_is = ap (λ (r : Reply). r.status) is;
-  out_is = ap (λ (r : Reply). r.out) is ∙ append-nil a.text;
+  out_is = ap (λ (r : Reply). r.out) is ∙ append-nil (titled part.title a.text);
 }
 one-answer P told part reply (a ∷ b ∷ xs) h is = absurd h.1
 
-certificate-safe : (s : SystemData) (v : Verdict) (text : List ℕ) → TextShows Forward s v text → status_of (v ∷ []) ≡ status.Done → ShowsSafe s text
+-- the part of one search
+abbrev pub part-of : SystemData → Analysis → FirstAbstraction → ℕ → Part
+part-of s analysis first budget = record { title = None; system = s; search = record { analysis = analysis; first = first; budget = budget } }
+
+certificate-safe : (s : SystemData) (v : Verdict) (text : List ℕ) → CertificateShows s v text → status_of (v ∷ []) ≡ status.Done → ShowsSafe s text
 certificate-safe s (Safe proof log) text h e = (proof, h.0, h.1, h.2)
 certificate-safe s (Unsafe words log) text h e = absurd (cc e)
 certificate-safe s (Unknown log) text h e = absurd (cc e)
 
-certificate-unsafe : (s : SystemData) (v : Verdict) (text : List ℕ) → TextShows Forward s v text → status_of (v ∷ []) ≡ status.Unsafe → ShowsUnsafe s text
+certificate-unsafe : (s : SystemData) (v : Verdict) (text : List ℕ) → CertificateShows s v text → status_of (v ∷ []) ≡ status.Unsafe → ShowsUnsafe s text
 certificate-unsafe s (Safe proof log) text h e = absurd (cc e)
 certificate-unsafe s (Unsafe words log) text h e = h
 certificate-unsafe s (Unknown log) text h e = absurd (cc e)
 
-pub check-promised : ((told : Telling) (parts : List Part) (reply : Reply) → IsSearchReply told parts reply → SearchPromise told parts reply)
-    → (s : SystemData) (settings : Settings) (budget : ℕ) (reply : Reply) → IsCheckReply s settings budget reply → CheckPromise s settings budget reply
-check-promised keep s settings budget reply h =
-    let told = check_telling settings in
-    let part : Part = record { system = s; search = check_search settings budget } in
-    let promise = keep told (check_parts s settings budget) reply h in
+pub certificate-promised : ((told : Telling) (parts : List Part) (reply : Reply) → IsSearchReply told parts reply → SearchPromise told parts reply)
+    → (s : SystemData) (analysis : Analysis) → ((v : Verdict) (text : List ℕ) → TextShows analysis s v text → CertificateShows s v text)
+    → (report : Option Method) (first : FirstAbstraction) (budget : ℕ) (reply : Reply)
+    → IsSearchReply (Certificate report) (part-of s analysis first budget ∷ []) reply
+    → CertificatePromise s (Certificate report) (part-of s analysis first budget ∷ []) reply
+certificate-promised keep s analysis certifies report first budget reply h =
+    let told : Telling = Certificate report in
+    let part = part-of s analysis first budget in
+    let promise = keep told (part ∷ []) reply h in
     let one = one-answer (PartPromise told) told part reply promise.answers promise.promised promise.reply_is in
+    let shows = certifies one.answer.verdict one.answer.text one.holds.text_shows in
     record {
       searched = promise;
-      safe = λ e. subst (ShowsSafe s) (sym one.out_is)
-          (certificate-safe s one.answer.verdict one.answer.text one.holds.text_shows (sym one.status_is ∙ e));
-      unsafe = λ e. subst (ShowsUnsafe s) (sym one.out_is)
-          (certificate-unsafe s one.answer.verdict one.answer.text one.holds.text_shows (sym one.status_is ∙ e));
+      safe = λ e. subst (ShowsSafe s) (sym one.out_is) (certificate-safe s one.answer.verdict one.answer.text shows (sym one.status_is ∙ e));
+      unsafe = λ e. subst (ShowsUnsafe s) (sym one.out_is) (certificate-unsafe s one.answer.verdict one.answer.text shows (sym one.status_is ∙ e));
     }
 
 safe-shown : (s : SystemData) (v : Verdict) → VerdictShows Forward s v → status_of (v ∷ []) ≡ status.Done → IsSafe s
@@ -198,18 +205,15 @@ module _ (keeps : LargerBudgetKeepsVerdict) (keeps-text : LargerBudgetKeepsText)
         text = told-stays told part larger one other more h decided k;
       }
 
-  pub check-stays : (s : SystemData) (settings : Settings) (budget larger : ℕ) (one other : Reply) → budget ≤ larger → IsCheckReply s settings budget one
-      → one.status ≢ status.Unknown → IsCheckReply s settings larger other → SameAnswer one other
-  check-stays s settings budget larger one other more h decided k =
-      let told = check_telling settings in
-      let part : Part = record { system = s; search = check_search settings budget } in
-      let wider : Part = record { system = s; search = check_search settings larger } in
+  pub reply-stays : (told : Telling) (part : Part) (larger : ℕ) (one other : Reply) → part.search.budget ≤ larger → IsSearchReply told (part ∷ []) one
+      → one.status ≢ status.Unknown → IsSearchReply told (part_within larger part ∷ []) other → SameAnswer one other
+  reply-stays told part larger one other more h decided k =
       let a = one-answer (IsAnswerTo told) told part one h.answers h.are_answers h.reply_is in
-      let b = one-answer (IsAnswerTo told) told wider other k.answers k.are_answers k.reply_is in
+      let b = one-answer (IsAnswerTo told) told (part_within larger part) other k.answers k.are_answers k.reply_is in
       let same = part-stays told part larger a.answer b.answer more a.holds (open-status a.answer.verdict (λ e. decided (a.status_is ∙ e))) b.holds in
       record {
         status = b.status_is ∙ same.status ∙ sym a.status_is;
-        out = b.out_is ∙ same.text ∙ sym a.out_is;
+        out = b.out_is ∙ ap (titled part.title) same.text ∙ sym a.out_is;
       }
 
 -- ---- the usage is no reply to a search

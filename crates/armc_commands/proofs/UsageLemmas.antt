@@ -5,20 +5,18 @@ use Rattle.armc_io.specs.Sink.{SinkState}
 use Rattle.protocol_syntax.specs.declared.protocol.Protocol.{Protocol}
 use Rattle.certificate_checker.specs.declared.answer.Answer.{Answer}
 use Rattle.certificate_checker.specs.declared.answer.Answer.TheVariants.{Valid, InitialMissing, BadHeld, Leaves, NotInitial, NotStep, NotBad}
-use Rattle.protocol_model.specs.System.{SystemData}
 use Rattle.protocol_model.specs.Numbering.{system_of}
-use Rattle.command_words.specs.Words.{Command, verify, steps, show, searching, generate, command_of}
-use Rattle.command_words.specs.declared.Query.{Query}
-use Rattle.command_words.specs.declared.Query.TheVariants.{Check as ByCheck}
+use Rattle.command_words.specs.Words.{Command, verify, migrate, steps, show, searching, checking_all, generate, command_of}
 use Rattle.armc_commands.specs.declared.status.Status.{Status}
 use Rattle.armc_commands.specs.declared.status.Status.TheVariants as status
 use Rattle.armc_commands.specs.declared.reply.Reply.{Reply}
 use Rattle.armc_commands.specs.declared.failure.Failure.{Failure}
 use Rattle.armc_commands.specs.declared.failure.Failure.TheVariants.{ReadFault, TooLong, Memory}
-use Rattle.armc_commands.specs.declared.search_reply.Telling.TheVariants.{Summary}
-use Rattle.armc_commands.specs.Commands.{CommandReply, QueryReply}
-use Rattle.armc_commands.specs.Commands.Check.{check_telling, check_parts}
+use Rattle.armc_commands.specs.declared.search_reply.Telling.TheVariants.{Certificate, Summary}
+use Rattle.armc_commands.specs.Commands.{CommandReply}
+use Rattle.armc_commands.specs.Commands.CheckAll.{property_parts}
 use Rattle.armc_commands.specs.Commands.Generate.{generate_parts}
+use Rattle.armc_commands.specs.Commands.Queries.{telling_of, query_parts}
 use Rattle.armc_commands.specs.Commands.Verify.{answer_status}
 use Rattle.armc_commands.specs.Outcome.{IsOutcome, IsReply}
 use Rattle.armc_commands.specs.Reply.{reply_of}
@@ -38,20 +36,26 @@ not_of_answer NotBad e = cc e
 status_in : (reply other : Reply) → reply ≡ other → reply.status ≡ status.Usage → other.status ≡ status.Usage
 status_in reply other same e = sym (ap (λ (r : Reply). r.status) same) ∙ e
 
-not_of_query : (query : Query) (budget : ℕ) (s : SystemData) (reply : Reply) → QueryReply query budget s reply → reply.status ≡ status.Usage → ⊥
-not_of_query (ByCheck settings) budget s reply h e = search-not-usage (check_telling settings) (check_parts s settings budget) reply h e
-
 not_of_command : (command : Command) (p : Protocol) (text : List ℕ) (reply : Reply) → CommandReply command p text reply → reply.status ≡ status.Usage → ⊥
 not_of_command (verify file certificate) p text reply h e = elim h [
   | inl refuses ↦ let f = status_in reply _ refuses.reply_is e in cc f
   | inr judges ↦ not_of_answer judges.answer (status_in reply _ judges.reply_is e)
+]
+not_of_command (migrate file certificate) p text reply h e = elim h [
+  | inl refuses ↦ let f = status_in reply _ refuses.reply_is e in cc f
+  | inr migrates ↦ let f = status_in reply _ migrates.reply_is e in cc f
 ]
 not_of_command (steps file configuration) p text reply h e = elim h [
   | inl lists ↦ let f = status_in reply _ lists.reply_is e in cc f
   | inr refuses ↦ let f = status_in reply _ refuses.reply_is e in cc f
 ]
 not_of_command (show file) p text reply h e = let f = status_in reply _ h e in cc f
-not_of_command (searching file query limits) p text reply h e = not_of_query query limits.budget (system_of p) reply h e
+not_of_command (searching file query limits) p text reply h e =
+    search-not-usage (telling_of query) (query_parts (system_of p) query limits.budget) reply h e
+not_of_command (checking_all file properties limits) p text reply h e = elim h [
+  | inl refuses ↦ let f = status_in reply _ refuses.reply_is e in cc f
+  | inr checks ↦ search-not-usage (Certificate None) (property_parts limits.budget checks.said) reply checks.replies e
+]
 not_of_command (generate number workers) p text reply h e = search-not-usage (Summary number) (generate_parts (system_of p)) reply h e
 
 module _ (words : List (List ℕ)) (l l' : LibraryState) (o o' e e' : SinkState) (result : Status) where

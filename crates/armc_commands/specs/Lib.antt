@@ -7,6 +7,7 @@ pub mod Summary
 pub mod SearchReply
 pub mod SearchPromise
 pub mod Commands
+pub mod PartTexts
 pub mod Outcome
 pub mod Reads
 pub mod Delivery

@@ -1,12 +1,13 @@
--- The first fault of a protocol, a configuration or a certificate, and how it is told.
-use Rattle.std.specs.Prelude.{◌≡◌, ℕ, List, [], ◌++◌, Some, codes, decimal}
+-- The first fault of a protocol, a text of properties, a configuration or a certificate, and how it is told.
+use Rattle.std.specs.Prelude.{◌≡◌, ℕ, List, [], ◌++◌, Option, Some, codes, decimal}
 use Rattle.protocol_lexer.specs.declared.Place.{Place}
 use Rattle.forms.specs.declared.fault.What.{What}
 use Rattle.forms.specs.declared.fault.What.TheVariants as Limits
 use Rattle.forms.specs.declared.fault.SyntaxFault.{SyntaxFault}
 use Rattle.forms.specs.declared.fault.SyntaxFault.TheVariants as syntax
-use Rattle.protocol_syntax.specs.declared.protocol.Protocol.{Protocol}
-use Rattle.protocol_syntax.specs.Grammar.{IsProtocol, IsFirstFault}
+use Rattle.forms.specs.FirstFault.{IsMeaning, IsFault}
+use Rattle.forms.specs.Grammar.{Grammar}
+use Rattle.protocol_syntax.specs.Grammar.{protocol}
 use Rattle.protocol_model.specs.declared.fault.ModelFault.{ModelFault}
 use Rattle.protocol_model.specs.declared.fault.ModelFault.TheVariants as model
 use Rattle.protocol_model.specs.Faults.{first_fault}
@@ -17,10 +18,14 @@ use Rattle.certificate.specs.declared.fault.CertFault.TheVariants as certificate
 use Rattle.armc_commands.specs.declared.refusal.Refusal.{Refusal}
 use Rattle.armc_commands.specs.declared.refusal.Refusal.TheVariants.{Syntax, Model}
 
--- this is the text's first fault: of its tokens and grammar, or else of the names of the protocol that it says
+-- this is the first fault of a text of this grammar: of its tokens and grammar, or else of the names in what it says
+abbrev pub IsRefusalIn : {T : Type 0} → Grammar T → (T → Option ModelFault) → List ℕ → Refusal → Type 0
+IsRefusalIn grammar names_fault text (Syntax fault) = IsFault grammar text fault
+IsRefusalIn {T} grammar names_fault text (Model fault) = (said : T) × IsMeaning grammar text said × (names_fault said ≡ Some fault)
+
+-- this is the first fault of the text of a protocol
 abbrev pub IsRefusalOf : List ℕ → Refusal → Type 0
-IsRefusalOf text (Syntax fault) = IsFirstFault text fault
-IsRefusalOf text (Model fault) = (p : Protocol) × IsProtocol text p × (first_fault p ≡ Some fault)
+IsRefusalOf text refusal = IsRefusalIn protocol first_fault text refusal
 
 -- what there is too much of
 abbrev pub what_word : What → List ℕ

@@ -23,7 +23,10 @@ on_err status text = record { status = status; out = []; err = text }
 abbrev pub usage_text : List ℕ
 usage_text =
     codes "armc: usage: check FILE [--method predicates|length] [--start bad|none] [--bound N] [--budget N] [--workers N] [--report]; "
-    ++ codes "verify FILE CERT; show FILE; steps FILE CONFIGURATION; gen N [--workers N]"
+    ++ codes "verify FILE CERT; show FILE; steps FILE CONFIGURATION; gen N [--workers N]; "
+    ++ codes "migrate FILE CERT; back FILE [--budget N] [--workers N]; deadlock FILE [--budget N] [--workers N]; "
+    ++ codes "past FILE [--bound N] [--budget N] [--workers N]; "
+    ++ codes "checkall FILE PROPS [--budget N] [--workers N]"
 
 -- the reply to words that mean no command
 abbrev pub usage : Reply

@@ -3,20 +3,19 @@ use Rattle.std.specs.Prelude.{◌≡◌, ◌≢◌, ◌≤◌, ◌⊎◌, ℕ, L
 use Rattle.protocol_syntax.specs.declared.protocol.Protocol.{Protocol}
 use Rattle.protocol_model.specs.declared.system.Run.{Run}
 use Rattle.protocol_model.specs.Numbering.{system_of}
-use Rattle.protocol_model.specs.Runs.{IsBadRun}
 use Rattle.search_history.specs.declared.log.LogEnd.TheVariants.{Spent}
+use Rattle.protocol_search.specs.Analyses.{IsCounterexample}
 use Rattle.protocol_search.specs.SearchLaws.{with_budget}
 use Rattle.protocol_search.specs.Verdicts.{end_of}
-use Rattle.command_words.specs.Words.{Command, command_of, searching, generate}
+use Rattle.command_words.specs.Words.{Command, command_of, searching, checking_all, generate}
 use Rattle.command_words.specs.declared.Limits.{Limits}
 use Rattle.command_words.specs.declared.Query.{Query}
-use Rattle.command_words.specs.declared.Query.TheVariants.{Check as ByCheck}
-use Rattle.command_words.specs.declared.Settings.{Settings}
 use Rattle.armc_commands.specs.declared.status.Status.TheVariants.{Done, Unknown}
 use Rattle.armc_commands.specs.declared.reply.Reply.{Reply}
 use Rattle.armc_commands.specs.declared.search_reply.Telling.{Telling}
 use Rattle.armc_commands.specs.SearchReply.{Part, PartAnswer, IsAnswerTo, status_of}
 use Rattle.armc_commands.specs.Commands.{CommandReply, Promise, second_origin}
+use Rattle.armc_commands.specs.Commands.Queries.{search_for}
 use Rattle.armc_commands.specs.Origin.{Told, IsTextFrom}
 use Rattle.armc_commands.specs.Outcome.{HasProtocol, RefusesProtocol, IsReply}
 
@@ -33,6 +32,13 @@ WorkersKeepQuery =
     (file : List ℕ) (query : Query) (limits : Limits) (workers : ℕ) (p : Protocol) (text : List ℕ) (one other : Reply)
     → CommandReply (searching file query limits) p text one → CommandReply (searching file query (with_workers workers limits)) p text other → one ≡ other
 
+-- two replies to `checkall` whose limits differ in the number of workers alone are equal
+abbrev pub WorkersKeepCheckAll : Type 0
+WorkersKeepCheckAll =
+    (file properties : List ℕ) (limits : Limits) (workers : ℕ) (p : Protocol) (text : List ℕ) (one other : Reply)
+    → CommandReply (checking_all file properties limits) p text one
+    → CommandReply (checking_all file properties (with_workers workers limits)) p text other → one ≡ other
+
 -- two replies to `gen` with one number are equal
 abbrev pub WorkersKeepGenerate : Type 0
 WorkersKeepGenerate =
@@ -41,7 +47,7 @@ WorkersKeepGenerate =
 
 -- the part with another budget
 abbrev pub part_within : ℕ → Part → Part
-part_within budget part = record { system = part.system; search = with_budget budget part.search }
+part_within budget part = record { title = part.title; system = part.system; search = with_budget budget part.search }
 
 -- the status and the text are the same
 pub record SamePart (one other : PartAnswer) : Type 0 where
@@ -59,18 +65,18 @@ pub record SameAnswer (one other : Reply) : Type 0 where
   pub status : other.status ≡ one.status
   pub out : other.out ≡ one.out
 
--- a reply to `check` that is not `unknown` has the same status and the same certificate for every larger budget
+-- a reply to a query that is not `unknown` has the same status and the same certificate for every larger budget
 abbrev pub LargerBudgetKeepsReply : Type 0
 LargerBudgetKeepsReply =
-    (file : List ℕ) (settings : Settings) (limits : Limits) (larger : ℕ) (p : Protocol) (text : List ℕ) (one other : Reply) → limits.budget ≤ larger
-    → CommandReply (searching file (ByCheck settings) limits) p text one → one.status ≢ Unknown
-    → CommandReply (searching file (ByCheck settings) (limited_to larger limits)) p text other → SameAnswer one other
+    (file : List ℕ) (query : Query) (limits : Limits) (larger : ℕ) (p : Protocol) (text : List ℕ) (one other : Reply) → limits.budget ≤ larger
+    → CommandReply (searching file query limits) p text one → one.status ≢ Unknown
+    → CommandReply (searching file query (limited_to larger limits)) p text other → SameAnswer one other
 
--- where the protocol has a bad run, of any number of steps, no reply to `check` says that it is safe
+-- where the protocol has a run that the query looks for, a bad one or one into a deadlock, of any number of steps, no reply says that there is none
 abbrev pub BadRunRulesOutSafe : Type 0
 BadRunRulesOutSafe =
-    (file : List ℕ) (settings : Settings) (limits : Limits) (p : Protocol) (text : List ℕ) (run : Run) (reply : Reply) → IsBadRun (system_of p) run
-    → CommandReply (searching file (ByCheck settings) limits) p text reply → reply.status ≢ Done
+    (file : List ℕ) (query : Query) (limits : Limits) (p : Protocol) (text : List ℕ) (run : Run) (reply : Reply) → IsCounterexample (search_for query limits.budget).analysis (system_of p) run
+    → CommandReply (searching file query limits) p text reply → reply.status ≢ Done
 
 -- the command's two texts, and that the reply keeps what the command promises of them
 pub record KeepsItsPromise (told : Told) (command : Command) (reply : Reply) : Type 0 where

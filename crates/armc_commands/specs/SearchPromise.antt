@@ -1,18 +1,24 @@
 -- What the reply of a command that searches promises: each part comes from the one history of its search with all its bounds, and what it tells is
 -- true.
-use Rattle.std.specs.Prelude.{◌≡◌, List, length}
+use Rattle.std.specs.Prelude.{◌≡◌, ℕ, List, length}
 use Rattle.std.specs.List.{AllByRecursion}
+use Rattle.word_automata.specs.Automaton.{Automaton}
 use Rattle.protocol_model.specs.declared.system.Run.{Run}
 use Rattle.protocol_model.specs.System.{SystemData}
+use Rattle.protocol_model.specs.Runs.{IsBadRun}
+use Rattle.certificate.specs.SafeText.{MeansAutomaton}
+use Rattle.certificate.specs.RunText.{MeansRun}
+use Rattle.certificate_checker.specs.Proof.{Proves, IsSafe}
 use Rattle.refinement.specs.Bounds.{HoldOfRounds}
 use Rattle.refinement.specs.Exclusion.{AreRefutedOnce}
 use Rattle.refinement.specs.Verdicts.{IsSound, log_in}
 use Rattle.refinement.specs.declared.verdict.Verdict.{Verdict}
-use Rattle.protocol_search.specs.Analyses.{task_for, IsCounterexample, VerdictShows, TextShows}
+use Rattle.protocol_search.specs.Analyses.{task_for, searched_task, proof_limit, IsCounterexample, VerdictShows, TextShows}
 use Rattle.protocol_search.specs.Methods.{search_method, first_key, IsByPredicates}
 use Rattle.protocol_search.specs.SystemHistories.{IsFromHistory, IsBoundedByKey, IsWithin}
 use Rattle.protocol_search.specs.Verdicts.{end_of}
 use Rattle.protocol_search.specs.declared.search.Search.{Search}
+use Rattle.armc_commands.specs.declared.status.Status.TheVariants as status
 use Rattle.armc_commands.specs.declared.reply.Reply.{Reply}
 use Rattle.armc_commands.specs.declared.search_reply.Telling.{Telling}
 use Rattle.armc_commands.specs.declared.search_reply.Telling.TheVariants as telling
@@ -24,7 +30,7 @@ use Rattle.armc_commands.specs.SearchReply.{Part, PartAnswer, IsAnswerTo, HoldsO
 pub record ComesFromHistory (s : SystemData) (search : Search) (v : Verdict) : Type 0 where
   pub comes : IsFromHistory s search (log_in v) (end_of v)
   pub refuted_once : IsByPredicates search.first → AreRefutedOnce comes.rounds
-  pub bounded_by_keys : HoldOfRounds (search_method search.first) (IsBoundedByKey (task_for search.analysis s).letters search.first)
+  pub bounded_by_keys : HoldOfRounds (search_method search.first) (IsBoundedByKey (searched_task search.analysis s).letters search.first)
       (first_key search.first comes.history.bad) comes.rounds
   pub bounded_by_runs : (run : Run) → IsCounterexample search.analysis s run → AllByRecursion (IsWithin (length run.steps)) comes.rounds
 
@@ -33,15 +39,29 @@ abbrev pub ToldShows : Telling → Part → PartAnswer → Type 0
 ToldShows (telling.Certificate report) part answer = TextShows part.search.analysis part.system answer.verdict answer.text
 ToldShows (telling.Summary number) part answer = Unit {0}
 
--- what the answer to a part promises; a proof has fewer states than the budget of the search
+-- what the answer to a part promises; a proof has fewer states than the budget of the search, and backward at most as many
 pub record PartPromise (told : Telling) (part : Part) (answer : PartAnswer) : Type 0 where
   pub is_answer : IsAnswerTo told part answer
   pub searched : ComesFromHistory part.system part.search answer.verdict
-  pub sound : IsSound (task_for part.search.analysis part.system) part.search.budget answer.verdict
+  pub sound : IsSound (task_for part.search.analysis part.system) (proof_limit part.search.analysis part.search.budget) answer.verdict
   pub shows : VerdictShows part.search.analysis part.system answer.verdict
   pub text_shows : ToldShows told part answer
 
 pub record SearchPromise (told : Telling) (parts : List Part) (reply : Reply) : Type 0 where
   pub answers : List PartAnswer
   pub promised : HoldsOfParts (PartPromise told) parts answers
-  pub reply_is : reply ≡ reply_of_answers told answers
+  pub reply_is : reply ≡ reply_of_answers told parts answers
+
+-- the text means an automaton that proves the system, and no run is bad
+abbrev pub ShowsSafe : SystemData → List ℕ → Type 0
+ShowsSafe s text = (m : Automaton) × MeansAutomaton s text m × Proves s m × IsSafe s
+
+-- the text means a bad run
+abbrev pub ShowsUnsafe : SystemData → List ℕ → Type 0
+ShowsUnsafe s text = (run : Run) × MeansRun s text run × IsBadRun s run
+
+-- the reply, which is a certificate, comes from its history; at status 0 its text shows the system safe, and at status 1 it shows a bad run
+pub record CertificatePromise (s : SystemData) (told : Telling) (parts : List Part) (reply : Reply) : Type 0 where
+  pub searched : SearchPromise told parts reply
+  pub safe : reply.status ≡ status.Done → ShowsSafe s reply.out
+  pub unsafe : reply.status ≡ status.Unsafe → ShowsUnsafe s reply.out

@@ -1,5 +1,5 @@
 -- The reply of a command that searches: its parts, each with the verdict of its search and the text that tells it.
-use Rattle.std.specs.Prelude.{◌≡◌, ℕ, Bool, true, false, List, [], ◌∷◌, Option, None, Some, map, if◌then◌else◌}
+use Rattle.std.specs.Prelude.{◌≡◌, ℕ, Bool, true, false, List, [], ◌∷◌, ◌++◌, Option, None, Some, map, codes, if◌then◌else◌}
 use Rattle.std.specs.List.{list_any, flat_map}
 use Rattle.protocol_model.specs.System.{SystemData}
 use Rattle.search_history.specs.declared.log.Log.{Log}
@@ -15,10 +15,12 @@ use Rattle.armc_commands.specs.declared.status.Status.TheVariants as status
 use Rattle.armc_commands.specs.declared.reply.Reply.{Reply}
 use Rattle.armc_commands.specs.declared.search_reply.Telling.{Telling}
 use Rattle.armc_commands.specs.declared.search_reply.Telling.TheVariants as telling
+use Rattle.armc_commands.specs.Line.{line}
 use Rattle.armc_commands.specs.Summary.{summary}
 
--- one part of a reply: a system, and what is searched of it
+-- one part of a reply: its title, where it has one; a system, and what is searched of it
 pub record Part : Type 0 where
+  pub title : Option (List ℕ)
   pub system : SystemData
   pub search : Search
 
@@ -63,11 +65,22 @@ report_of (telling.Certificate (Some method)) log = report_text method log
 report_of (telling.Certificate None) log = []
 report_of (telling.Summary number) log = []
 
--- the status of the verdicts, their texts one after the other, and their reports
-abbrev pub reply_of_answers : Telling → List PartAnswer → Reply
-reply_of_answers told answers = record {
+-- the line of a property's name before a text, where the text has a title
+abbrev pub titled : Option (List ℕ) → List ℕ → List ℕ
+titled None text = text
+titled (Some title) text = line (codes "property " ++ title) ++ text
+
+-- the texts of the answers one after the other, each with the title of its part
+abbrev pub texts_of : List Part → List PartAnswer → List ℕ
+texts_of [] answers = []
+texts_of (part ∷ parts) [] = []
+texts_of (part ∷ parts) (answer ∷ answers) = titled part.title answer.text ++ texts_of parts answers
+
+-- the status of the verdicts, their texts, and their reports
+abbrev pub reply_of_answers : Telling → List Part → List PartAnswer → Reply
+reply_of_answers told parts answers = record {
   status = status_of (map (λ answer. answer.verdict) answers);
-  out = flat_map (λ answer. answer.text) answers;
+  out = texts_of parts answers;
   err = flat_map (λ answer. report_of told (log_in answer.verdict)) answers;
 }
 
@@ -75,4 +88,4 @@ reply_of_answers told answers = record {
 pub record IsSearchReply (told : Telling) (parts : List Part) (reply : Reply) : Type 0 where
   pub answers : List PartAnswer
   pub are_answers : HoldsOfParts (IsAnswerTo told) parts answers
-  pub reply_is : reply ≡ reply_of_answers told answers
+  pub reply_is : reply ≡ reply_of_answers told parts answers

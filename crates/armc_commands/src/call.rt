@@ -51,15 +51,18 @@ fn answer<O: Sink, E: Sink>(
 /// Answers the words after the program's name: reads the texts that they name, puts one text on `out` and one on `err`,
 /// and gives the exit status.
 ///
-/// `check FILE` answers `Done` with an automaton that proves the protocol, `Unsafe` with a bad run, or `Unknown` where the counted
-/// states reached the budget, and with `--report` it puts a line of JSON on `err`. `gen N` searches the chain of N states with the
-/// default settings, has the same statuses, and answers with a summary. `show FILE` answers `Done` with the protocol in its canonical
-/// layout. `steps FILE CONFIGURATION` answers `Done` with a line for each successor of the configuration, by rule and then by word.
-/// `verify FILE CERT` answers `Done` where the certificate proves the protocol or is a bad run of it, and else `NotValid` with the
-/// first part of a proof or a run that fails. `ReadFault` comes where a read failed or a text is longer than its limit,
-/// `ProtocolRefused` where the text of the protocol has a fault, and `CertificateRefused` where that of the certificate or the
-/// configuration has one, each with the place of the first one. `Usage` comes for words that mean no command, `WriteFault` where a
-/// sink failed, and `Memory` where memory runs out.
+/// `check FILE` answers `Done` with an automaton that proves the protocol, `Unsafe` with a bad run, or `Unknown` where the counted states
+/// reached the budget, and with `--report` it puts a line of JSON on `err`; `back FILE` and `past FILE` answer so too. `deadlock FILE`
+/// answers `Done` with an automaton that shows that no run ends in a deadlock, `Unsafe` with a run that does, or `Unknown`. `gen N`
+/// searches the chain of N states with the default settings, has the same statuses, and answers with a summary. `show FILE` answers `Done`
+/// with the protocol in its canonical layout. `steps FILE CONFIGURATION` answers `Done` with a line for each successor of the
+/// configuration, by rule and then by word. `verify FILE CERT` answers `Done` where the certificate proves the protocol or is a bad run of
+/// it, and else `NotValid` with the first part of a proof or a run that fails. `migrate FILE CERT` answers `Done` with the newest text of
+/// the certificate. `checkall FILE PROPS` searches each property of a text as `check` does, and answers with a title and the text of `check`
+/// for each: `Unsafe` where one has a bad run, else `Unknown` where one is unknown, and else `Done`. `ReadFault` comes where a read failed
+/// or a text is longer than its limit, `ProtocolRefused` where the text of the protocol has a fault, and `CertificateRefused` where that of
+/// the certificate, the configuration or the properties has one, each with the place of the first one. `Usage` comes for words that mean no
+/// command, `WriteFault` where a sink failed, and `Memory` where memory runs out.
 pub fn run<L: Library, O: Sink, E: Sink, G: Gate, R: Threads + Sync>(
     alloc: Global,
     runtime: &R,

@@ -4,13 +4,15 @@
 ghost use Rattle.std.specs.Prelude.{◌≡◌, ℕ, List, IfOk};
 ghost use Rattle.protocol_syntax.specs.declared.protocol.Protocol.{Protocol as ProtocolData};
 ghost use Rattle.protocol_model.specs.Numbering.{system_of};
-ghost use Rattle.command_words.specs.Words.{Command as CommandData, IsInRange, IsLimits, said};
+ghost use Rattle.command_words.specs.Words.{Command as CommandData, IsInRange, said};
 ghost use Rattle.armc_commands.specs.declared.reply.Reply.{Reply as ReplyData};
 ghost use Rattle.armc_commands.specs.Origin.{IsReadable, origin_of};
-ghost use Rattle.armc_commands.specs.Commands.{protocol_origin as protocol_origin_of, second_origin as second_origin_of, CommandReply, QueryReply, Promise};
+ghost use Rattle.armc_commands.specs.Commands.{protocol_origin as protocol_origin_of, second_origin as second_origin_of, CommandReply, Promise};
 
-mod check;
+mod checkall;
 mod generate;
+mod migrate;
+mod queries;
 mod show;
 mod steps;
 mod verify;
@@ -18,12 +20,13 @@ mod verify;
 use crate::origin::Origin;
 use crate::reply::Reply;
 use armc_io::Gate;
-use check::check_reply;
-pub use check::keeps_check_promise;
-use command_words::{Command, Limits, Query};
+use checkall::{check_all_reply, keeps_check_all_promise};
+use command_words::Command;
 use generate::{generate_reply, keeps_generate_promise};
+use migrate::{keeps_migrate_promise, migrate_reply};
 use protocol_model::System;
 use protocol_syntax::Protocol;
+use queries::{keeps_query_promise, query_reply};
 use show::show_reply;
 use std::alloc::{AllocError, Global};
 use std::thread::Threads;
@@ -32,6 +35,9 @@ use verify::{keeps_verify_promise, verify_reply};
 
 /// The most bytes of a protocol text.
 const PROTOCOL_LIMIT: u64 = 1_048_576;
+
+/// The most bytes of a text of properties.
+const PROPERTIES_LIMIT: u64 = 1_048_576;
 
 /// The most bytes of a certificate text.
 const CERTIFICATE_LIMIT: u64 = 67_108_864;
@@ -45,14 +51,16 @@ pub fn protocol_origin(command: Command<'_>) -> Origin<'_>
     let limit = PROTOCOL_LIMIT;
     match command {
         Command::Verify { file, .. } => Origin::Named { name: file, limit },
+        Command::Migrate { file, .. } => Origin::Named { name: file, limit },
         Command::Steps { file, .. } => Origin::Named { name: file, limit },
         Command::Show { file } => Origin::Named { name: file, limit },
         Command::Search { file, .. } => Origin::Named { name: file, limit },
+        Command::CheckAll { file, .. } => Origin::Named { name: file, limit },
         Command::Generate { number, .. } => Origin::Generated { number },
     }
 }
 
-/// Where the command's second text comes from: the certificate, the configuration, or no text.
+/// Where the command's second text comes from: the certificate, the configuration, the properties, or no text.
 pub fn second_origin(command: Command<'_>) -> Origin<'_>
     ensures origin { origin_of result ≡ second_origin_of (said command.entry) }
     ensures readable { IsReadable (origin_of result) }
@@ -62,29 +70,20 @@ pub fn second_origin(command: Command<'_>) -> Origin<'_>
             name: certificate,
             limit: CERTIFICATE_LIMIT,
         },
+        Command::Migrate { certificate, .. } => Origin::Named {
+            name: certificate,
+            limit: CERTIFICATE_LIMIT,
+        },
         Command::Steps { configuration, .. } => Origin::Given {
             text: configuration,
         },
         Command::Show { .. } => Origin::Given { text: "" },
         Command::Search { .. } => Origin::Given { text: "" },
+        Command::CheckAll { properties, .. } => Origin::Named {
+            name: properties,
+            limit: PROPERTIES_LIMIT,
+        },
         Command::Generate { .. } => Origin::Given { text: "" },
-    }
-}
-
-// The reply to a query of the system.
-fn query_reply<G: Gate, R: Threads + Sync>(
-    alloc: Global,
-    runtime: &R,
-    gate: &G,
-    system: &System,
-    query: Query,
-    limits: Limits,
-) -> Result<Reply, AllocError>
-    requires { IsLimits limits }
-    ensures { IfOk result (QueryReply query limits.budget system.now) }
-{
-    match query {
-        Query::Check(settings) => check_reply(alloc, runtime, gate, system, &settings, limits),
     }
 }
 
@@ -104,10 +103,14 @@ pub fn command_reply<G: Gate, R: Threads + Sync>(
 {
     match command {
         Command::Verify { .. } => verify_reply(alloc, system, text),
+        Command::Migrate { .. } => migrate_reply(alloc, system, text),
         Command::Steps { .. } => steps_reply(alloc, system, text),
         Command::Show { .. } => show_reply(alloc, protocol),
         Command::Search { query, limits, .. } => {
             query_reply(alloc, runtime, gate, system, query, limits)
+        }
+        Command::CheckAll { limits, .. } => {
+            check_all_reply(alloc, runtime, gate, system, text, limits)
         }
         Command::Generate { number, workers } => {
             generate_reply(alloc, runtime, gate, system, number, workers)
@@ -121,6 +124,8 @@ pub fn keep_promises()
         → CommandReply command p text reply → Promise command p text reply }
 {
     keeps_verify_promise();
-    keeps_check_promise();
+    keeps_migrate_promise();
+    keeps_query_promise();
+    keeps_check_all_promise();
     keeps_generate_promise();
 }

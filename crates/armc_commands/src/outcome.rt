@@ -1,5 +1,5 @@
-//! What a call comes to: the words, the protocol and the second text are read in this order, each text once, and the first that has a
-//! fault or cannot be read ends the call. It costs what the command costs.
+//! What a call comes to: the words, the protocol and the second text are read in this order, and the first that has a fault or cannot
+//! be read ends the call. It costs what the command costs.
 
 ghost use Rattle.std.specs.Prelude.{◌≡◌, ◌≤◌, ℕ, List, None, Some, IsTrue, map, string_bytes};
 ghost use Rattle.armc_io.specs.Library.{LibraryState};
@@ -89,7 +89,7 @@ fn reply_to_command<L: Library, G: Gate, R: Threads + Sync>(
     }
 }
 
-/// Reads the texts that the words name in their order, each once, and makes the reply.
+/// Reads the texts that the words name in their order, and makes the reply.
 ///
 /// Errors: `ReadFault` where the library failed and `TooLong` where a text is longer than its limit, each with the name, and `Memory`
 /// where memory ran out.

@@ -18,25 +18,25 @@ pub enum Reading {
     Refused(Refusal),
 }
 
-// What a fault of the tokens or the grammar says of the text.
-fn refused_by_grammar(fault: SyntaxFault) -> Result<Reading, AllocError>
-    ensures refused { IfOk result (λ reading. reading ≡ Reading.Refused (Refusal.Syntax fault)) }
+/// What a fault of the tokens or the grammar says of a text. The only error is that memory ran out, in the fault's place.
+pub fn refused_by_grammar(fault: SyntaxFault) -> Result<Refusal, AllocError>
+    ensures refused { IfOk result (λ refusal. refusal ≡ Refusal.Syntax fault) }
     ensures fault { OnOk result (fault ≢ SyntaxFault.Memory) }
 {
     match fault {
         SyntaxFault::Memory => Err(AllocError),
-        _ => Ok(Reading::Refused(Refusal::Syntax(fault))),
+        _ => Ok(Refusal::Syntax(fault)),
     }
 }
 
-// What a fault of the names says of the text.
-fn refused_by_names(fault: ModelFault) -> Result<Reading, AllocError>
-    ensures refused { IfOk result (λ reading. reading ≡ Reading.Refused (Refusal.Model fault)) }
+/// What a fault of the names says of a text. The only error is that memory ran out, in the fault's place.
+pub fn refused_by_names(fault: ModelFault) -> Result<Refusal, AllocError>
+    ensures refused { IfOk result (λ refusal. refusal ≡ Refusal.Model fault) }
     ensures fault { OnOk result (fault ≢ ModelFault.Memory) }
 {
     match fault {
         ModelFault::Memory => Err(AllocError),
-        _ => Ok(Reading::Refused(Refusal::Model(fault))),
+        _ => Ok(Refusal::Model(fault)),
     }
 }
 
@@ -46,11 +46,11 @@ pub fn read_protocol(alloc: Global, text: &[u8]) -> Result<Reading, AllocError>
 {
     let protocol = match parse(alloc, text) {
         Ok(protocol) => protocol,
-        Err(fault) => return refused_by_grammar(fault),
+        Err(fault) => return Ok(Reading::Refused(refused_by_grammar(fault)?)),
     };
     texts_say_allowed_protocols();
     match resolve(alloc, &protocol) {
         Ok(system) => Ok(Reading::Protocol(protocol, system)),
-        Err(fault) => refused_by_names(fault),
+        Err(fault) => Ok(Reading::Refused(refused_by_names(fault)?)),
     }
 }

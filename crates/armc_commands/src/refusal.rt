@@ -1,5 +1,5 @@
-//! How the first fault of a protocol, a configuration or a certificate is told: in one line with its place, what is wrong, and the name or
-//! the limit that it is about. A line is made by one format, in time linear in its length.
+//! How the first fault of a protocol, a text of properties, a configuration or a certificate is told: in one line with its place, what is
+//! wrong, and the name or the limit that it is about. A line is made by one format, in time linear in its length.
 
 ghost use Rattle.std.specs.Prelude.{◌≡◌, ◌≢◌, ◌++◌, IfOk, OnOk};
 ghost use Rattle.armc_commands.specs.Refusal.{located, refusal_text, syntax_text, model_text, what_word};
@@ -13,7 +13,7 @@ use protocol_model::ModelFault;
 use protocol_syntax::{Name, SyntaxFault, What};
 use std::alloc::{AllocError, Global};
 
-/// The first fault of a protocol's text.
+/// The first fault of the text of a protocol, or of a text of properties.
 #[derive(Drop, Debug)]
 pub enum Refusal {
     /// Of its tokens, its grammar or its limits.

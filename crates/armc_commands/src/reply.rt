@@ -17,7 +17,10 @@ use std::alloc::{AllocError, Global};
 /// The line that tells the commands with their words.
 const USAGE: &[u8] =
     b"armc: usage: check FILE [--method predicates|length] [--start bad|none] [--bound N] [--budget N] [--workers N] [--report]; \
-    verify FILE CERT; show FILE; steps FILE CONFIGURATION; gen N [--workers N]\n";
+    verify FILE CERT; show FILE; steps FILE CONFIGURATION; gen N [--workers N]; \
+    migrate FILE CERT; back FILE [--budget N] [--workers N]; deadlock FILE [--budget N] [--workers N]; \
+    past FILE [--bound N] [--budget N] [--workers N]; \
+    checkall FILE PROPS [--budget N] [--workers N]\n";
 
 /// A reply before it is written: the exit status, and the whole texts of standard output and standard error.
 #[derive(Drop, Debug)]

@@ -1,9 +1,9 @@
 //! The reply of a command that searches: the search is made, its verdict is told, and the report of its log is added where it is asked for.
 //! It costs what the search costs, in so many threads as the words say; the reply does not depend on their number.
 
-ghost use Rattle.std.specs.Prelude.{◌≡◌, ◌<◌, ◌≤◌, [], ◌∷◌, List, IfOk};
+ghost use Rattle.std.specs.Prelude.{◌≡◌, ◌<◌, ◌≤◌, [], ◌∷◌, List, None, IfOk};
 ghost use Rattle.refinement.specs.Verdicts.{IsSound, log_in};
-ghost use Rattle.protocol_search.specs.Analyses.{task_for};
+ghost use Rattle.protocol_search.specs.Analyses.{proof_limit, task_for};
 ghost use Rattle.armc_commands.specs.declared.reply.Reply.{Reply as ReplyData};
 ghost use Rattle.armc_commands.specs.SearchReply.{Part, IsSearchReply, IsTold, report_of as report_of_telling, status_of};
 ghost use Rattle.armc_commands.specs.SearchPromise.{SearchPromise};
@@ -64,8 +64,8 @@ fn told_text(
     verdict: &Verdict,
 ) -> Result<Vec<u8>, AllocError>
     requires most { search.budget ≤ 1000000 }
-    requires sound { IsSound (task_for search.analysis system.now) search.budget verdict.now }
-    ensures { IfOk result (λ text. IsTold telling (record { system = system.now; search = search }) verdict.now text.items) }
+    requires sound { IsSound (task_for search.analysis system.now) (proof_limit search.analysis search.budget) verdict.now }
+    ensures { IfOk result (λ text. IsTold telling (record { title = None; system = system.now; search = search }) verdict.now text.items) }
 {
     match telling {
         Telling::Certificate(_) => verdict_text(alloc, system, search, verdict),
@@ -97,7 +97,7 @@ pub fn search_reply<G: Gate, R: Threads + Sync>(
     requires some { 0 < search.budget }
     requires most { search.budget ≤ 1000000 }
     requires workers { (0 < workers) × (workers ≤ 16) }
-    ensures { IfOk result (IsSearchReply telling ((record { system = system.now; search = search }) ∷ [])) }
+    ensures { IfOk result (IsSearchReply telling ((record { title = None; system = system.now; search = search }) ∷ [])) }
 {
     let verdict = search_system(alloc, runtime, gate, system, search, workers)?;
     let out = told_text(alloc, system, search, telling, &verdict)?;

@@ -4,9 +4,10 @@
 /// The exit status of the program.
 #[derive(Clone, Copy, Debug, PartialEq, Eq)]
 pub enum Status {
-    /// The command did its work: a certificate is valid, a protocol was shown, successors were listed, or a search found a proof.
+    /// The command did its work: a certificate is valid or was migrated, a protocol was shown, successors were listed, or a search found a
+    /// proof.
     Done = 0,
-    /// A search found a bad run.
+    /// A search found a run that it looks for: a bad one, or one into a deadlock.
     Unsafe = 1,
     /// A search counted as many states as its budget.
     Unknown = 2,
@@ -16,7 +17,7 @@ pub enum Status {
     ReadFault = 4,
     /// The text of a protocol has a fault.
     ProtocolRefused = 5,
-    /// The text of a certificate or of a configuration has a fault.
+    /// The text of a certificate, of a configuration or of properties has a fault.
     CertificateRefused = 6,
     /// A certificate is not valid.
     NotValid = 7,

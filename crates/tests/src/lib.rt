@@ -26,6 +26,8 @@ mod moves;
 mod outside;
 #[cfg(test)]
 mod patterns;
+#[cfg(test)]
+mod properties;
 mod systems;
 #[cfg(test)]
 mod threads;

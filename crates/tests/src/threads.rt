@@ -15,7 +15,7 @@ use std::test::Fail;
 use std::thread::{self, Threads};
 
 /// So many times a rule looks whether the other one has come.
-const TURNS: u32 = 10_000_000;
+pub(crate) const TURNS: u32 = 10_000_000;
 
 /// A gate for two rules that holds each until the other has come, and tells whether one gave up waiting.
 #[derive(Drop)]

@@ -1,5 +1,5 @@
 -- What `gen` searches, how it tells it, and what its reply promises.
-use Rattle.std.specs.Prelude.{◌≡◌, ℕ, List, [], ◌∷◌}
+use Rattle.std.specs.Prelude.{◌≡◌, ℕ, List, [], ◌∷◌, None}
 use Rattle.protocol_model.specs.System.{SystemData}
 use Rattle.protocol_model.specs.declared.system.Run.{Run}
 use Rattle.protocol_model.specs.Runs.{IsBadRun}
@@ -20,7 +20,7 @@ default_search = record { analysis = Forward; first = BadPredicates; budget = de
 
 -- its one part
 abbrev pub generate_parts : SystemData → List Part
-generate_parts s = (record { system = s; search = default_search }) ∷ []
+generate_parts s = (record { title = None; system = s; search = default_search }) ∷ []
 
 abbrev pub IsGenerateReply : SystemData → ℕ → Reply → Type 0
 IsGenerateReply s number reply = IsSearchReply (Summary number) (generate_parts s) reply

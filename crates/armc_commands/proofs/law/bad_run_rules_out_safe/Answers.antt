@@ -1,6 +1,8 @@
 use Rattle.protocol_model.specs.Numbering.{system_of}
+use Rattle.command_words.specs.Words.{searching}
+use Rattle.armc_commands.proofs.QueryLemmas.{query-not-safe}
 use Rattle.armc_commands.proofs.law.bad_run_rules_out_safe.Goals as goal
 
 pub returns : goal.returns
-returns c = λ file settings limits p text run reply bad h done.
-    ((c.keeps_check_promise.ensures (system_of p) settings limits.budget reply h).safe done).3 run bad
+returns c = λ file query limits p text run reply bad h done.
+    query-not-safe query (system_of p) limits.budget run reply bad (c.keep_promises.ensures (searching file query limits) p text reply h) done

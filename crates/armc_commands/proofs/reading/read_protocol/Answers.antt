@@ -1,10 +1,13 @@
 use Rattle.std.proofs.Common.{refl}
+use Rattle.protocol_syntax.specs.Grammar.{protocol}
+use Rattle.protocol_model.specs.Faults.{first_fault}
 use Rattle.armc_commands.proofs.Refused.{by_grammar, by_names}
 use Rattle.armc_commands.proofs.reading.read_protocol.Goals as goal
 
 pub returns-in-Err : goal.returns-in-Err
 returns-in-Err c =
-    by_grammar c.args.text.now c.in-Err.fault c.refused_by_grammar.result c.refused_by_grammar.ensures.refused c.refused_by_grammar.ensures.fault
+    by_grammar protocol first_fault c.args.text.now c.in-Err.fault _ c.in_ok-refused_by_grammar-in-Err.ensures.refused
+    c.in_ok-refused_by_grammar-in-Err.ensures.fault
     (λ other. (c.in-Err.ensures.fault other c.in-Err.fault).1 refl)
 
 pub resolve-requires : goal.resolve-requires
@@ -19,7 +22,7 @@ returns-in-Ok-resolve c = (
   c.in-Ok-resolve.ensures.system.1,
 )
 
-pub returns-in-Err-resolve : goal.returns-in-Err-resolve
-returns-in-Err-resolve c =
-    by_names c.args.text.now c.in-Ok.protocol c.in-Err-resolve.fault c.refused_by_names.result c.refused_by_names.ensures.refused
-    c.refused_by_names.ensures.fault ((c.in-Ok.ensures.protocol c.in-Ok.protocol).1 refl) c.in-Err-resolve.ensures.refused
+pub returns-in_ok-refused_by_names-in-Err-resolve : goal.returns-in_ok-refused_by_names-in-Err-resolve
+returns-in_ok-refused_by_names-in-Err-resolve c =
+    by_names protocol first_fault c.args.text.now c.in-Ok.protocol c.in-Err-resolve.fault _ c.in_ok-refused_by_names-in-Err-resolve.ensures.refused
+    c.in_ok-refused_by_names-in-Err-resolve.ensures.fault ((c.in-Ok.ensures.protocol c.in-Ok.protocol).1 refl) c.in-Err-resolve.ensures.refused

@@ -1,11 +1,12 @@
-use Rattle.std.proofs.Common.{inr, refl}
-use Rattle.armc_commands.proofs.Replies.{HasLetters-meant, verify_refused}
+use Rattle.std.proofs.Common.{inl, inr, refl}
+use Rattle.armc_commands.specs.Commands.Verify.{IsVerifyReply}
+use Rattle.armc_commands.proofs.Replies.{HasLetters-meant, certificate_refused}
 use Rattle.armc_commands.proofs.commands.verify.verify_reply.Goals as goal
 
 pub returns-in-Err : goal.returns-in-Err
 returns-in-Err c =
-    verify_refused c.args.system.now c.args.text.now c.in-Err.fault c.certificate_refusal.result c.certificate_refusal.ensures.reply c.certificate_refusal.ensures.fault
-    (λ other. c.in-Err.ensures.fault other)
+    certificate_refused (IsVerifyReply c.args.system.now c.args.text.now) c.args.system.now c.args.text.now (λ reply refuses. inl refuses) c.in-Err.fault
+    c.certificate_refusal.result c.certificate_refusal.ensures.reply c.certificate_refusal.ensures.fault (λ other. c.in-Err.ensures.fault other)
 
 pub check_certificate-requires : goal.check_certificate-requires
 check_certificate-requires c =
