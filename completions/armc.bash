@@ -7,7 +7,7 @@ _armc() {
   if [ "$before" = = ]; then before=${COMP_WORDS[COMP_CWORD-2]}; fi
   if [ "$word" = = ]; then word=''; fi
   if [ "$COMP_CWORD" -eq 1 ]; then
-    words='check verify show steps gen'
+    words='check verify show steps gen migrate back deadlock past checkall'
   else
     case $before in
       --method) words='predicates length' ;;
@@ -19,7 +19,9 @@ _armc() {
         case $command:$word in
           check:-*) words='--method --start --bound --budget --workers --report' ;;
           gen:-*) words='--workers' ;;
-          check:* | verify:* | show:* | steps:*)
+          back:-* | deadlock:-* | checkall:-*) words='--budget --workers' ;;
+          past:-*) words='--bound --budget --workers' ;;
+          check:* | verify:* | show:* | steps:* | migrate:* | back:* | deadlock:* | past:* | checkall:*)
             mapfile -t COMPREPLY < <(compgen -f -- "$word")
             compopt -o filenames 2>/dev/null
             return
@@ -45,6 +47,7 @@ _armc_tools() {
         armc-coverage:-*) words='--budget --jobs --method --show --program --help' ;;
         armc-explain:-*) words='--method --start --budget --width --svg --html --plain --configurations --program --help' ;;
         armc-walk:-*) words='--random --seed --letters --program --help' ;;
+        armc-second-opinion:-*) words='--help' ;;
         armc-check-folder:-*) words='--program --budget --seconds --jobs --junit --help' ;;
         *)
           mapfile -t COMPREPLY < <(compgen -f -- "$word")
@@ -56,4 +59,4 @@ _armc_tools() {
   esac
   mapfile -t COMPREPLY < <(compgen -W "$words" -- "$word")
 }
-complete -F _armc_tools armc-portfolio armc-coverage armc-explain armc-walk armc-check-folder
+complete -F _armc_tools armc-portfolio armc-coverage armc-explain armc-walk armc-second-opinion armc-check-folder

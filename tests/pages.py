@@ -102,7 +102,7 @@ def wrong_productions():
         for alternative in alternatives:
             if not is_defined(name, alternative, comments):
                 lines.append(f"docs/LANGUAGE.md has {name} = {alternative}, and the definition has not")
-            used = re.findall(r'"(\w+)"', alternative)
+            used = re.findall(r'"([a-z]\w*)"', alternative)
             lines += [f"docs/LANGUAGE.md has the word {word} in {name}, which is not reserved" for word in used if word not in words]
     return lines
 

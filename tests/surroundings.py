@@ -190,7 +190,8 @@ def manual_pages():
         return lint_pages(folder)
 
 
-COMMANDS = "check verify show steps gen"
+# The commands are those of the table on the first page, which tests/pages.py compares with the program.
+COMMANDS = " ".join(re.findall(r"^\| `(\w+) [^`]*` \|", read("README.md").partition("\n| command |")[2].partition("\n\n")[0], re.M))
 OPTIONS = "--method --start --bound --budget --workers --report"
 
 
@@ -226,7 +227,7 @@ def offered_for(tool):
 def completions_of_tools():
     """The options that the shells offer for each tool are those of its help, and the manual page names them all."""
     wrong, page = [], read("man", "armc-tools.1").replace("Fl -", "--")
-    for tool in ("armc-portfolio", "armc-coverage", "armc-explain", "armc-walk", "armc-check-folder"):
+    for tool in ("armc-portfolio", "armc-coverage", "armc-explain", "armc-walk", "armc-second-opinion", "armc-check-folder"):
         told = run([sys.executable, os.path.join(TOP, "tools", tool.replace("armc-check", "check")), "--help"]).stdout
         options = set(re.findall(r"(?<![\w-])--[\w-]+", told))
         for shell, offered in offered_for(tool):
@@ -258,9 +259,9 @@ def completions_of_fish():
 
 
 KINDS = {
-    "Declaration": "protocol cell array channel stack rule",
+    "Declaration": "protocol language lossy cell array channel stack rule",
     "Row": "init bad",
-    "Move": "at pair ring two set send recv pop push",
+    "Move": "at pair ring two set send recv pop push spawn exit lose",
     "Guard": "when all some in",
     "Region": "left right others",
     "Table": "map",
@@ -287,8 +288,8 @@ SCOPES = {
 
 
 def kinds_of(line):
-    """The tokens of a line of a protocol, each with its column and its kind."""
-    found, before = [], None
+    """The tokens of a line of a protocol or of a text of properties, each with its column and its kind."""
+    found, before, named = [], None, False
     for token in re.finditer(r"#.*|\w+|->|[*+]|[{}:;]", line):
         text = token[0]
         if text.startswith("#"):
@@ -296,16 +297,17 @@ def kinds_of(line):
         elif text in KIND_OF:
             kind = KIND_OF[text]
         elif re.match(r"\w", text):
-            kind = "Declared" if before == "Declaration" else "Section" if re.match(r"\s*:", line[token.end():]) else "Letter"
+            kind = "Declared" if before == "Declaration" or named else "Section" if re.match(r"\s*:", line[token.end():]) else "Letter"
         else:
             kind = "Arrow" if text == "->" else "Repeat" if text in "*+" else "Sign"
         found.append((token.start(), text, kind))
-        before = kind
+        before, named = kind, text == "bad"
     return found
 
 
 def protocols():
-    return sorted(glob.glob(os.path.join(TOP, "examples", "**", "*.armc"), recursive=True))
+    """The protocols and the texts of properties below examples."""
+    return sorted(path for ending in ("armc", "props") for path in glob.glob(os.path.join(TOP, "examples", "**", f"*.{ending}"), recursive=True))
 
 
 def scopes_of(grammar, line):
@@ -345,8 +347,8 @@ def syntax_of_textmate():
                 for column, text, kind in kinds_of(line):
                     if set(scopes[column:column + len(text)]) != {SCOPES[kind]}:
                         wrong.append(f"{os.path.basename(path)} line {number}: {text} is {set(scopes[column:column + len(text)])}, and must be {SCOPES[kind]}")
-    bad = scopes_of(grammar, "lossy @ -")
-    return wrong + ([] if bad[0] == "invalid.illegal.reserved.armc" and bad[6] == bad[8] == "invalid.illegal.byte.armc" else [f"bad words are {bad}"])
+    bad = scopes_of(grammar, "@ -")
+    return wrong + ([] if bad[0] == bad[2] == "invalid.illegal.byte.armc" else [f"bad bytes are {bad}"])
 
 
 VIM = """set nocompatible noswapfile shortmess+=A
@@ -373,7 +375,7 @@ def syntax_of_vim():
     with tempfile.TemporaryDirectory() as folder:
         bad = os.path.join(folder, "bad.armc")
         with open(bad, "w") as file:
-            file.write("lossy @ -\n")
+            file.write("@ -\n")
         script, result, paths = os.path.join(folder, "script.vim"), os.path.join(folder, "result"), [*protocols(), bad]
         with open(script, "w") as file:
             file.write(VIM.format(folder=os.path.join(TOP, "editors", "vim"), paths=json.dumps(paths), result=result))
@@ -397,7 +399,7 @@ def syntax_of_vim():
                 if group not in (f"armc{kind}", "armcExpect" if kind == "Comment" else ""):
                     wrong.append(f"{os.path.basename(path)} line {number}: {text} is {group or 'nothing'}, and must be armc{kind}")
     groups = told[at].split(" ") if at < len(told) else []
-    return wrong + ([] if groups[:1] == ["armcUnused"] and groups[6:7] == groups[8:9] == ["armcBadByte"] else [f"bad words are {groups}"])
+    return wrong + ([] if groups[:1] == groups[2:3] == ["armcBadByte"] else [f"bad bytes are {groups}"])
 
 
 def check_of_folders(program):

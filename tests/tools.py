@@ -1,7 +1,9 @@
-"""What the tools beside the program do: armc-walk, armc-portfolio, armc-coverage, armc-explain, armc-check-folder, and the release. Each check is a
-pair of a name and a list of lines that say what is wrong, or a word that says why it was skipped. Usage: tests/tools.py PROGRAM
+"""What the tools beside the program do: armc-walk, armc-portfolio, armc-coverage, armc-explain, armc-second-opinion, armc-check-folder, and the
+release. Each check is a pair of a name and a list of lines that say what is wrong, or a word that says why it was skipped. Usage: tests/tools.py PROGRAM
 """
 import glob
+import importlib.machinery
+import importlib.util
 import itertools
 import json
 import os
@@ -27,6 +29,8 @@ from armc_tools.protocol import Protocol  # noqa: E402
 
 SECONDS = 120
 DEAD = "protocol dead\narray P { a b c }\ninit { P: a*; }\nrule go { P: at a -> b; }\nrule on { P: at c -> c; }\nbad { P: any* c any*; }\n"
+# How many states a search may count whose sum is tried by its budgets.
+MOST = 200
 # Two counters that have to be compared: no proof with the first letters unknown, and a budget of 1000 is soon reached.
 ENDLESS = ["examples", "tutorial", "equal_counters.armc"]
 
@@ -356,7 +360,33 @@ def release(program):
             subprocess.run(["dpkg-deb", "-x", names["deb", "one"], os.path.join(folder, "deb")], check=True)
             same = subprocess.run(["diff", "-r", root, os.path.join(folder, "deb", "usr")], capture_output=True, text=True)
             wrong += [] if same.returncode == 0 else [f"the package differs from the archive: {same.stdout[:200]}"]
+        if shutil.which("dpkg") and os.geteuid() == 0:
+            wrong += wrong_package(names["deb", "one"], root)
         return wrong + wrong_root(program, root)
+
+
+def wrong_package(package, unpacked):
+    """What goes wrong where dpkg installs the package in an empty root, the program runs in it, and dpkg takes the package away again."""
+    with tempfile.TemporaryDirectory() as root:
+        state = os.path.join(root, "var", "lib", "dpkg")
+        for name in ("info", "updates"):
+            os.makedirs(os.path.join(state, name))
+        for name in ("status", "available"):
+            open(os.path.join(state, name), "w").close()
+        # (an empty root has no C library that dpkg knows of)
+        words = ["dpkg", f"--root={root}", "--force-depends"]
+        environment = {**os.environ, "PATH": f"/usr/sbin:/sbin:{os.environ['PATH']}"}
+        found = subprocess.run([*words, "-i", package], env=environment, capture_output=True, text=True)
+        if found.returncode:
+            return [f"dpkg -i: {found.stderr[-300:]}"]
+        same = subprocess.run(["diff", "-r", unpacked, os.path.join(root, "usr")], capture_output=True, text=True)
+        wrong = [] if same.returncode == 0 else [f"what dpkg installs differs from the archive: {same.stdout[:200]}"]
+        place = os.path.join(root, "usr", "share", "doc", "armc", "examples", "first")
+        found = subprocess.run([os.path.join(root, "usr", "bin", "armc"), "verify", f"{place}.armc", f"{place}.cert"], capture_output=True, text=True)
+        wrong += differs("the installed program", (found.returncode, found.stdout), (0, "valid\n"))
+        found = subprocess.run([*words, "-P", "armc"], env=environment, capture_output=True, text=True)
+        left = [name for _, _, names in os.walk(os.path.join(root, "usr")) for name in names]
+        return wrong + ([] if found.returncode == 0 and not left else [f"dpkg -P: {found.stderr[-300:]} {left[:5]}"])
 
 
 def without_repository():
@@ -427,19 +457,121 @@ def told_pages(program):
     return wrong
 
 
-def wrong_numbers(program):
-    """Where an answer or a number of a table of docs/HARD.md is not what `check --report` says."""
+def wrong_sum(program, words, answer, counted, size=None):
+    """Where a search does not have this answer, of this size where one is told, with the budget that is just enough, or another sum with one less."""
     wrong = []
-    for words, cells in re.findall(r"^\| `armc check ([^`]*)` \|(.*)\|$", read(os.path.join(TOP, "docs", "HARD.md")), re.M):
+    for budget, status in ((counted + 1, ["safe", "unsafe"].index(answer)), (counted, 2)):
+        try:
+            found = subprocess.run([program, *words, "--budget", str(budget)], capture_output=True, text=True, cwd=TOP, timeout=SECONDS)
+        except subprocess.TimeoutExpired:
+            return [f"{words} with budget {budget} does not end in {SECONDS} s"]
+        line, steps = found.stdout.partition("\n")[2].partition("\n")[0], str(found.stdout.count("\nstep "))
+        told = line if status == 2 else steps if status else line.partition("states ")[2]
+        wanted = f"counted {counted}" if status == 2 else size or told
+        wrong += differs(f"{words} with budget {budget}", (found.returncode, told), (status, wanted))
+    return wrong
+
+
+def wrong_numbers(program):
+    """Where an answer or a number of a table of docs/HARD.md is not what the program says: `check` by its report, the others by their budgets."""
+    wrong = []
+    for command, words, cells in re.findall(r"^\| `armc (\w+) ([^`]*)` \|(.*)\|$", read(os.path.join(TOP, "docs", "HARD.md")), re.M):
+        answer, counted = [cell.strip() for cell in cells.split("|")][-2:]
+        if command != "check":
+            wrong += wrong_sum(program, [command, *words.split()], answer, int(counted))
+            continue
         found = subprocess.run([program, "check", "--report", *words.split()], capture_output=True, text=True, cwd=TOP, timeout=SECONDS)
         report = json.loads(found.stderr) if found.stderr.startswith("{") else found.stderr
-        wrong += differs(words, [report["verdict"], str(report["counted"])], [cell.strip() for cell in cells.split("|")][-2:])
+        wrong += differs(words, [report["verdict"], str(report["counted"])], [answer, counted])
     pair = [example("hard", f"lamport_fast{name}.armc") for name in ("", "_pointers")]
     proof = subprocess.run([program, "check", pair[1]], capture_output=True, text=True).stdout
-    wrong += [] if judged(program, pair[0], proof) else ["the proof of lamport_fast_pointers is not valid for lamport_fast"]
-    made = subprocess.run([sys.executable, example("make_window"), "2"], capture_output=True, text=True).stdout
-    text = "".join(line for line in read(example("patterns", "sliding_window.armc")).splitlines(True) if not line.startswith("#"))
-    return wrong + differs("examples/make_window 2", made, text)
+    return wrong + ([] if judged(program, pair[0], proof) else ["the proof of lamport_fast_pointers is not valid for lamport_fast"])
+
+
+def other_searches(program):
+    """The rows of the table of the other searches in examples/README.md, of searches that count few states: their sums, and the sizes of proofs and runs."""
+    page, wrong = read(example("README.md")), []
+    answers = dict(re.findall(r"^\| `(\w+)` \|[^|]*\| (safe|unsafe) \| \d+ \|", page, re.M))
+    table = page.partition("## The other searches")[2]
+    commands = re.findall(r"`(\w+)`", re.search(r"^\| protocol \|(.*)$", table, re.M)[1])
+    for name, cells in re.findall(r"^\| `(\w+)` \|(.*)\|$", table, re.M):
+        for command, cell in zip(commands, cells.split("|")):
+            told = re.fullmatch(r" (?:(free|deadlock), )?(\d+), (\d+) ", cell)
+            if not told or int(told[2]) > MOST:
+                continue
+            answer = {"free": "safe", "deadlock": "unsafe", None: answers[name]}[told[1]]
+            wrong += wrong_sum(program, [command, os.path.join("examples", f"{name}.armc")], answer, int(told[2]), told[3])
+    return wrong
+
+
+def second_checker():
+    """The tool armc-second-opinion as a module."""
+    loader = importlib.machinery.SourceFileLoader("second_opinion", os.path.join(TOOLS, "armc-second-opinion"))
+    module = importlib.util.module_from_spec(importlib.util.spec_from_loader("second_opinion", loader))
+    loader.exec_module(module)
+    return module
+
+
+def opinion(second, system, text):
+    """What the second checker says of a certificate: its status and its line."""
+    try:
+        deadlocks, certificate = second.read_certificate(system, text)
+        judge = second.judge_automaton if isinstance(certificate, second.Automaton) else second.judge_run
+        wrong = judge(system, certificate, deadlocks)
+        return (7, f"not valid: {wrong}") if wrong else (0, "valid")
+    except second.Refused as fault:
+        return fault.args[0], f"armc: {fault.args[1]}"
+
+
+def changed_certificates(text):
+    """The text; without one of its lines, with a line twice, with another number, and cut: a few of each, at fixed places."""
+    lines = text.splitlines(True)
+    yield text
+    for at in {1, len(lines) // 3, len(lines) // 2, len(lines) - 2}:
+        yield "".join(lines[:at] + lines[at + 1:])
+        yield "".join(lines[:at + 1] + lines[at:])
+        yield "".join(lines[:at] + [re.sub(r"\d+$", "0", lines[at])] + lines[at + 1:])
+    yield "".join(lines[:2] + ["final 0\n"] + lines[2:])
+    yield text[:len(text) * 2 // 3]
+
+
+def second_opinion(program):
+    """The second checker and `verify` say the same of the proofs and runs of the examples, and of changed ones; and its statuses."""
+    wrong, second = [], second_checker()
+    for path in sorted(glob.glob(example("*.armc")) + glob.glob(example("patterns", "*.armc"))):
+        text = subprocess.run([program, "check", path, "--budget", "3000"], capture_output=True, text=True, timeout=SECONDS).stdout
+        if text.startswith("armc 1 unknown") or len(text) > 4000:
+            continue
+        system = second.Reader(read(path)).protocol()
+        for changed in changed_certificates(text):
+            found = subprocess.run([program, "verify", path, "-"], input=changed, capture_output=True, text=True, timeout=SECONDS)
+            wrong += differs(f"{os.path.basename(path)} with {changed[:60]!r}", opinion(second, system, changed), (found.returncode, (found.stdout or found.stderr).strip()))
+    tool, lock = [sys.executable, os.path.join(TOOLS, "armc-second-opinion")], example("tutorial", "lock.armc")
+    with tempfile.TemporaryDirectory() as folder:
+        texts = {"free": "deadlock free\nstates 1\nfinal 0\nend\n", "stuck": "deadlock\nstart L: free; P: i\nend\n", "none": "x\n"}
+        for name, text in texts.items():
+            with open(os.path.join(folder, name), "w") as file:
+                file.write(text)
+        for words, status, told in ((["tickets.armc", "tickets.cert"], 0, "valid\n"), ([lock, os.path.join(folder, "free")], 7, "not valid: initial missing: L: free; P: i\n"),
+                                    ([lock, os.path.join(folder, "stuck")], 7, "not valid: not stuck\n"), ([lock, os.path.join(folder, "none")], 6, ""),
+                                    ([os.path.join(folder, "none")] * 2, 5, ""), ([lock, os.path.join(folder, "nowhere")], 4, ""), ([lock], 3, "")):
+            found = subprocess.run(tool + words, cwd=example(), capture_output=True, text=True, timeout=SECONDS)
+            wrong += differs(f"armc-second-opinion {words}", (found.returncode, found.stdout), (status, told))
+    if os.path.exists("/dev/full"):
+        with open("/dev/full", "w") as full:
+            status = subprocess.run(tool + [example("tickets.armc"), example("tickets.cert")], stdout=full, stderr=subprocess.DEVNULL).returncode
+        wrong += differs("armc-second-opinion to a full device", status, 8)
+    return wrong
+
+
+def windows():
+    """What examples/make_window prints for the sizes that are kept."""
+    wrong = []
+    for words, kept in (("2", "patterns/sliding_window"), ("--lossy 2", "window_lossy"), ("--lossy 2 2", "window_lossy_two_numbers")):
+        made = subprocess.run([sys.executable, example("make_window"), *words.split()], capture_output=True, text=True).stdout
+        text = "".join(line for line in read(example(f"{kept}.armc")).splitlines(True) if not line.startswith("#"))
+        wrong += differs(f"examples/make_window {words}", made, text)
+    return wrong
 
 
 def checks(program):
@@ -449,10 +581,13 @@ def checks(program):
     yield "armc-portfolio", portfolio(program)
     yield "armc-coverage", coverage(program)
     yield "armc-explain", explain(program)
+    yield "armc-second-opinion", second_opinion(program)
     yield "armc-check-folder", folders(program)
     yield "pictures", pictures(program)
     yield "pages of the tools", told_pages(program)
     yield "page of hard protocols", wrong_numbers(program)
+    yield "windows of any size", windows()
+    yield "other searches", other_searches(program)
     yield "release", release(program)
 
 

@@ -1,5 +1,5 @@
-" Vim syntax file for protocols of armc (docs/LANGUAGE.md). Each reserved word has the group of its kind; a word that is reserved
-" and has no use yet is shown as an error, as is a byte that may stand in no protocol.
+" Vim syntax file for protocols of armc and texts of properties (docs/LANGUAGE.md). Each reserved word has the group of its kind; a byte that may stand in no
+" protocol is shown as an error.
 if exists('b:current_syntax')
   finish
 endif
@@ -7,15 +7,16 @@ endif
 syntax case match
 syntax iskeyword @,48-57,_
 
-syntax keyword armcDeclaration protocol cell array channel stack nextgroup=armcDeclared skipwhite skipempty
+syntax keyword armcDeclaration protocol language cell array channel stack nextgroup=armcDeclared skipwhite skipempty
+syntax keyword armcDeclaration lossy
 syntax keyword armcDeclaration rule nextgroup=armcDeclared skipwhite skipempty
-syntax keyword armcRow init bad
-syntax keyword armcMove at pair ring two set send recv pop push
+syntax keyword armcRow init
+syntax keyword armcRow bad nextgroup=armcDeclared skipwhite skipempty
+syntax keyword armcMove at pair ring two set send recv pop push spawn exit lose
 syntax keyword armcGuard when all some in
 syntax keyword armcRegion left right others
 syntax keyword armcTable map
 syntax keyword armcPattern any empty
-syntax keyword armcUnused language lossy spawn exit lose
 let s:reserved = 'protocol|language|cell|array|channel|stack|lossy|init|rule|bad|any|empty|at|pair|ring|two|set|send|recv|pop|push'
 let s:reserved .= '|spawn|exit|lose|when|all|some|left|right|others|in|map'
 execute 'syntax match armcDeclared /\v<%(%(' . s:reserved . ')>)@!\w+>/ contained'
@@ -44,7 +45,6 @@ highlight default link armcLetter Normal
 highlight default link armcArrow Operator
 highlight default link armcRepeat Operator
 highlight default link armcSign Delimiter
-highlight default link armcUnused Error
 highlight default link armcBadByte Error
 highlight default link armcComment Comment
 highlight default link armcExpect Special
