@@ -87,6 +87,20 @@ def cut_certificates(folder, pool):
     return wrong
 
 
+def cut_properties(folder, pool):
+    """Of the prefixes of a text of properties those are taken that end with the last brace of a block, or with the line feed after it."""
+    text = b"bad none { P: n*; }\nbad pairs { P: any* t any* t any*; }\nbad none { P: empty; }\n"
+    whole = {end for match in re.finditer(rb"\}\n", text) for end in (match.end() - 1, match.end())}
+    names = [f"properties{size}" for size in range(len(text) + 1)]
+    folder.put(f=example("token.armc"), **{name: text[:size] for size, name in enumerate(names)})
+    wrong = []
+    for size, (status, out, err) in enumerate(pool.map(lambda name: folder.run(["checkall", "f", name]), names)):
+        wrong += differs(f"the prefix of {size} bytes", status, 0 if size in whole else 6)
+        if status == 6 and (out or not re.fullmatch(rb"armc: properties: line \d+ column \d+: unexpected token\n", err)):
+            wrong.append(f"the prefix of {size} bytes: {out} and {err}")
+    return wrong
+
+
 def long_texts(folder, _):
     """Protocols of 1 MiB, certificates of 1,000,000 states and of a number of 23 digits, and a bad letter 13 places before the end."""
     token = example("token.armc")
@@ -127,6 +141,12 @@ def calls():
     yield "show, a name that is missing", ["show", "missing"], {}
     yield "steps", ["steps", "f", "P: w i"], {"f": tickets}
     yield "steps, configuration refused", ["steps", "f", "P: x"], {"f": tickets}
+    yield "migrate", ["migrate", "f", "c"], {"f": first, "c": proof}
+    yield "back", ["back", "f"], {"f": token}
+    yield "past", ["past", "f"], {"f": token}
+    yield "deadlock", ["deadlock", "f"], {"f": door}
+    yield "checkall", ["checkall", "f", "p"], {"f": token, "p": b"bad none { P: n*; }\n"}
+    yield "checkall, properties refused", ["checkall", "f", "p"], {"f": token, "p": b"bad q { Q: any; }\n"}
     yield "usage", ["show"], {}
 
 
@@ -172,6 +192,7 @@ def little_memory(folder, _):
 CHECKS = {
     "cut protocols": cut_protocols,
     "cut certificates": cut_certificates,
+    "cut texts of properties": cut_properties,
     "long texts": long_texts,
     "long configurations": long_words,
     "sinks that take a part": short_sinks,
