@@ -74,16 +74,21 @@ def cut_protocols(folder, pool):
 
 
 def cut_certificates(folder, pool):
-    """A certificate that is cut anywhere is truncated, at the line after the last line feed that is left."""
+    """A certificate of either version that is cut anywhere is truncated, at the line after the last line feed that is left."""
     folder.put(f=example("tickets.armc"))
-    text = folder.run(["check", "f"])[1]
-    names = [f"cut{size}" for size in range(len(text) + 1)]
+    folder.put(c=folder.run(["check", "f"])[1])
+    return [line for version in (1, 2) for line in cut_certificate(folder, pool, version)]
+
+
+def cut_certificate(folder, pool, version):
+    text = folder.run(["check", "f"] if version == 1 else ["migrate", "f", "c"])[1]
+    names = [f"cut{version}_{size}" for size in range(len(text) + 1)]
     folder.put(**{name: text[:size] for size, name in enumerate(names)})
     found = list(pool.map(lambda name: folder.run(["verify", "f", name]), names))
-    wrong = differs("the whole", found.pop(), (0, b"valid\n", b""))
+    wrong = differs(f"the whole, version {version}", found.pop(), (0, b"valid\n", b""))
     for size, answer in enumerate(found):
         line = text[:size].count(b"\n") + 1
-        wrong += differs(f"the prefix of {size} bytes", answer, (6, b"", b"armc: certificate: line %d: truncated\n" % line))
+        wrong += differs(f"the prefix of {size} bytes, version {version}", answer, (6, b"", b"armc: certificate: line %d: truncated\n" % line))
     return wrong
 
 
