@@ -7,8 +7,8 @@ use Rattle.word_automata.specs.Automaton.{Automaton}
 use Rattle.word_automata.specs.Nondeterministic.{NondeterministicAutomaton}
 use Rattle.boolean_operations.specs.OptionalStates.{start_of, accepts_at}
 use Rattle.boolean_operations.specs.CommonWords.{IsCommonWord}
-use Rattle.boolean_operations.specs.Search.{IsFound}
-use Rattle.boolean_operations.specs.PairGraph.{IsStartPair, PairEdge, is_common_pair}
+use Rattle.boolean_operations.specs.private.Search.{IsFound}
+use Rattle.boolean_operations.specs.private.PairGraph.{IsStartPair, PairEdge, is_common_pair}
 use Rattle.boolean_operations.proofs.OptionalStates.{accepts_option, accepts_option-start}
 use Rattle.boolean_operations.proofs.PairWalks.{strip, lift, after, down, up}
 

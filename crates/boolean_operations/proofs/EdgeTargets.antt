@@ -4,9 +4,8 @@ use Rattle.std.proofs.lemmas.Bool.{cases_eq, cases_lt}
 use Rattle.std.proofs.lemmas.Option.{same_Some}
 use Rattle.std.proofs.lemmas.List.Elements.{All-contains}
 use Rattle.word_automata.specs.Automaton.{find_target, HasIncreasingLetters}
-use Rattle.exploration.proofs.Lists.{look_up-here, look_up-there}
-use Rattle.exploration.proofs.Successors.{look_up-edges}
-use Rattle.boolean_operations.specs.MergedEdges.{IsPassed, IsTaken, IsLeastLetter}
+use Rattle.exploration.proofs.ForCallers.{look_up-here, look_up-there, look_up-edges}
+use Rattle.boolean_operations.specs.private.MergedEdges.{IsPassed, IsTaken, IsLeastLetter}
 use Rattle.boolean_operations.proofs.SearchCalls.{contains_at}
 
 find_here : (edge : ℕ × ℕ) (edges : List (ℕ × ℕ)) (a : ℕ) → edge.0 ≡ a → find_target (edge ∷ edges) a ≡ Some edge.1

@@ -4,7 +4,7 @@ use Rattle.std.proofs.lemmas.Bool.{cases_eq}
 use Rattle.std.proofs.lemmas.List.Elements.{All-nil, All-push, All-weaker, All-tail}
 use Rattle.std.proofs.lemmas.List.{map_push}
 use Rattle.exploration.specs.System.{look_up, HasIncreasingLetters}
-use Rattle.exploration.proofs.Lists.{look_up-above, look_up-push_same, look_up-push_other}
+use Rattle.exploration.proofs.ForCallers.{look_up-above, look_up-push_same, look_up-push_other}
 
 -- the letters below n, in order
 abbrev pub letters_below : ℕ → List ℕ

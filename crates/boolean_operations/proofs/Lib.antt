@@ -1,6 +1,7 @@
 pub mod CommonWalks
 pub mod Complements
 pub mod EdgeTargets
+pub mod ForCallers
 pub mod Letters
 pub mod MergedPairs
 pub mod NearEdges

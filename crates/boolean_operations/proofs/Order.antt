@@ -2,7 +2,7 @@
 use Rattle.std.proofs.Common.{ℕ, List, reverse, sym, ap, subst, ◌∙◌, inl, inr, IsTrue}
 use Rattle.std.proofs.lemmas.List.{reverse-reverse}
 use Rattle.sequence.specs.WordOrder.{is_before}
-use Rattle.exploration.proofs.Words.{Below, Below-cases, Below-trans, before_at_reverses, is_before-irreflexive, is_before-asymmetric}
+use Rattle.exploration.proofs.ForCallers.{Below, Below-cases, Below-trans, before_at_reverses, is_before-irreflexive, is_before-asymmetric}
 
 pub before_to_Below : (u w : List ℕ) → IsTrue (is_before u w) → Below (reverse u) (reverse w)
 before_to_Below u w h =

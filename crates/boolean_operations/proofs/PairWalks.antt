@@ -11,8 +11,8 @@ use Rattle.word_automata.proofs.Members.{Contains-none, All-from_contains}
 use Rattle.word_automata.proofs.Rows.{All-edges_of}
 use Rattle.boolean_operations.specs.OptionalStates.{start_of, follow, accepts_at, IsStateOrNone}
 use Rattle.boolean_operations.specs.Inclusion.{IsIncluded, IsOutside}
-use Rattle.boolean_operations.specs.Search.{Leads, letters_of, IsFound, Gathers}
-use Rattle.boolean_operations.specs.PairGraph.{IsPair, IsStartPair, advance, PairEdge, is_outside_pair, IsStartAmong, IsSilentAmong, IsStepAmong}
+use Rattle.boolean_operations.specs.private.Search.{Leads, letters_of, IsFound, Gathers}
+use Rattle.boolean_operations.specs.private.PairGraph.{IsPair, IsStartPair, advance, PairEdge, is_outside_pair, IsStartAmong, IsSilentAmong, IsStepAmong}
 use Rattle.boolean_operations.proofs.OptionalStates.{accepts_option, accepts_option-nil, accepts_option-cons, accepts_option-start, follow-within}
 use Rattle.boolean_operations.proofs.SearchCalls.{place_of, contains_at}
 

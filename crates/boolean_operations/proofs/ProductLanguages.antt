@@ -4,7 +4,7 @@ use Rattle.std.proofs.lemmas.Option.{same_Some, none-some}
 use Rattle.word_automata.specs.Automaton.{Automaton, accepts}
 use Rattle.exploration.specs.System.{accepts_by, accepts_by_from}
 use Rattle.boolean_operations.specs.OptionalStates.{start_of, follow, accepts_at, IsStateOrNone}
-use Rattle.boolean_operations.specs.Products.{combine, is_live, pair_of, pair_system}
+use Rattle.boolean_operations.specs.private.Products.{combine, is_live, pair_of, pair_system}
 use Rattle.boolean_operations.specs.declared.products.Operation.{Operation}
 use Rattle.boolean_operations.specs.declared.products.Operation.TheVariants.{Union, Intersection, Difference}
 use Rattle.boolean_operations.proofs.OptionalStates.{accepts_option, accepts_option-nil, accepts_option-cons, accepts_option-start}

@@ -4,9 +4,9 @@ use Rattle.std.proofs.lemmas.Bool.{cases_eq, cases_lt}
 use Rattle.std.proofs.lemmas.List.{reverse-append, append_assoc, append-nil}
 use Rattle.std.proofs.lemmas.Option.{same_Some, slice_get_within}
 use Rattle.word_automata.specs.Path.{spelled_one}
-use Rattle.exploration.specs.Worklist.{IsEarlier}
-use Rattle.exploration.proofs.Lists.{slice_get-append, slice_get-append_below, slice_get-push, slice_get-push_cases, slice_get-some}
-use Rattle.boolean_operations.specs.Search.{Leads, letters_of, IsReached, IsIn, Spells, IsNotAfter, AreSteps, Reached, Done, BeginsAt, AreStepsOf, IsBounded, Extends, Joins, IsLast, HasLastStep}
+use Rattle.exploration.specs.private.Worklist.{IsEarlier}
+use Rattle.exploration.proofs.ForCallers.{slice_get-append, slice_get-append_below, slice_get-push, slice_get-push_cases, slice_get-some}
+use Rattle.boolean_operations.specs.private.Search.{Leads, letters_of, IsReached, IsIn, Spells, IsNotAfter, AreSteps, Reached, Done, BeginsAt, AreStepsOf, IsBounded, Extends, Joins, IsLast, HasLastStep}
 
 module _ {S : Type 0} (start : S → Type 0) (edge : S → Option ℕ → S → Type 0) where
   leads_push : (moves : List (Option ℕ × S)) (s t r : S) (l : Option ℕ) → Leads edge s moves t → edge t l r → Leads edge s (moves ++ (l, r) ∷ []) r

@@ -4,9 +4,8 @@ use Rattle.std.proofs.lemmas.Bool.{cases_eq, cases_order, false≢true}
 use Rattle.std.proofs.lemmas.List.{reverse-reverse, reverse-append, append_assoc, append-nil}
 use Rattle.std.proofs.lemmas.Option.{same_Some, slice_get_within}
 use Rattle.sequence.specs.WordOrder.{is_before, IsLeastWord}
-use Rattle.exploration.proofs.Words.{Below, Below-trans, before_from_Below, is_before-irreflexive}
-use Rattle.exploration.proofs.Lists.{slice_get-some}
-use Rattle.boolean_operations.specs.Search.{Leads, letters_of, IsFound, IsIn, Spells, IsNotAfter, AreSteps, Reached, Done}
+use Rattle.exploration.proofs.ForCallers.{Below, Below-trans, before_from_Below, is_before-irreflexive, slice_get-some}
+use Rattle.boolean_operations.specs.private.Search.{Leads, letters_of, IsFound, IsIn, Spells, IsNotAfter, AreSteps, Reached, Done}
 use Rattle.boolean_operations.proofs.Order.{before_to_Below}
 
 Below-irreflexive : (u : List ℕ) → Below u u → ⊥

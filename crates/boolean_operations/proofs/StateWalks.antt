@@ -8,7 +8,7 @@ use Rattle.word_automata.specs.Automaton.{Automaton, accepts, accepts_from, targ
 use Rattle.word_automata.proofs.Targets.{accepts-empty, target_within, ordered_edges}
 use Rattle.boolean_operations.specs.OptionalStates.{start_of}
 use Rattle.boolean_operations.specs.LeastWords.{AcceptsNothing, IsLeastAccepted, IsStateOf, LetteredEdge, IsEdgeAmong}
-use Rattle.boolean_operations.specs.Search.{Leads, letters_of, IsFound, Gathers}
+use Rattle.boolean_operations.specs.private.Search.{Leads, letters_of, IsFound, Gathers}
 use Rattle.boolean_operations.proofs.EdgeTargets.{target_at, edge_of}
 use Rattle.boolean_operations.proofs.PairWalks.{gathers_push, gathers_same}
 

@@ -3,8 +3,5 @@ pub mod Complements
 pub mod Equality
 pub mod Inclusion
 pub mod LeastWords
-pub mod MergedEdges
 pub mod OptionalStates
-pub mod PairGraph
-pub mod Products
-pub mod Search
+pub mod private

@@ -5,7 +5,7 @@
 ghost use Rattle.std.specs.Prelude.{◌≡◌, ℕ, List, MatchOption, IfOk};
 ghost use Rattle.sequence.specs.WordOrder.{IsLeastWord};
 ghost use Rattle.boolean_operations.specs.CommonWords.{IsCommonWord};
-ghost use Rattle.boolean_operations.specs.PairGraph.{IsPair, IsStartPair, PairEdge, is_common_pair};
+ghost use Rattle.boolean_operations.specs.private.PairGraph.{IsPair, IsStartPair, PairEdge, is_common_pair};
 ghost use Rattle.boolean_operations.specs.Equality.{same_left_pairs};
 
 use crate::graph::Graph;

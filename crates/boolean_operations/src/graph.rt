@@ -2,7 +2,7 @@
 //! its code.
 
 ghost use Rattle.std.specs.Prelude.{◌≡◌, ◌↔◌, ℕ, Bool, Option, None, Some, [], true, All, Contains, IfOk, OnOk};
-ghost use Rattle.boolean_operations.specs.Search.{Gathers};
+ghost use Rattle.boolean_operations.specs.private.Search.{Gathers};
 
 use std::alloc::{AllocError, Global};
 

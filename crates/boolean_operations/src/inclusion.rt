@@ -6,7 +6,7 @@
 ghost use Rattle.std.specs.Prelude.{◌≡◌, MatchOption, IfOk};
 ghost use Rattle.sequence.specs.WordOrder.{IsLeastWord};
 ghost use Rattle.boolean_operations.specs.Inclusion.{IsIncluded, IsOutside};
-ghost use Rattle.boolean_operations.specs.PairGraph.{IsPair, IsStartPair, PairEdge, is_outside_pair};
+ghost use Rattle.boolean_operations.specs.private.PairGraph.{IsPair, IsStartPair, PairEdge, is_outside_pair};
 ghost use Rattle.boolean_operations.specs.Equality.{same_left_pairs};
 
 use crate::graph::Graph;

@@ -1,4 +1,6 @@
-//! Boolean operations on the languages of deterministic automata, and their least words.
+//! Boolean operations on the languages of deterministic automata, by products (M. O. Rabin and D. Scott, 1959), and their least words, by
+//! searches breadth first. Each takes time linear in what is reached of the product, but for complements, which have an edge for each
+//! letter at each state.
 #![tactic(auto)]
 
 mod common_words;

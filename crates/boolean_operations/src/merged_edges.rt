@@ -4,7 +4,7 @@
 ghost use Rattle.std.specs.Prelude.{◌≡◌, ◌-◌, ◌<◌, ◌≤◌, ◌⊎◌, length, IfOk, IfErr, IsTrue};
 ghost use Rattle.word_automata.specs.Automaton.{HasIncreasingLetters, find_target};
 ghost use Rattle.word_automata.specs.EdgeList.{letter_at, IsEdgeAt, IsGapFor};
-ghost use Rattle.boolean_operations.specs.MergedEdges.{IsPassed, IsTaken, IsLeastLetter};
+ghost use Rattle.boolean_operations.specs.private.MergedEdges.{IsPassed, IsTaken, IsLeastLetter};
 
 /// The least letter of the edges from the place `i` of the first list and from the place `j` of the second.
 pub(crate) fn least_letter(left: &[(u32, usize)], i: usize, right: &[(u32, usize)], j: usize) -> u32

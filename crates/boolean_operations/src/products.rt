@@ -3,7 +3,7 @@
 
 ghost use Rattle.std.specs.Prelude.{◌≡◌, ◌&&◌, ◌||◌, ℕ, not, List, Option, IfOk};
 ghost use Rattle.word_automata.specs.Automaton.{accepts, IsValid};
-ghost use Rattle.boolean_operations.specs.Products.{IsPairOfStates, pair_of, is_live, pair_system};
+ghost use Rattle.boolean_operations.specs.private.Products.{IsPairOfStates, pair_of, is_live, pair_system};
 ghost use Rattle.boolean_operations.specs.Equality.{same_pairs};
 
 use crate::merged_edges::{least_letter, take};

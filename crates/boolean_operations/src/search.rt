@@ -9,7 +9,7 @@
 ghost use Rattle.std.specs.Prelude.{◌≡◌, ◌<◌, ◌≤◌, ◌+◌, ℕ, List, [], All, length, reverse, slice_get, Some, MatchOption, IfOk, OnOk};
 ghost use Rattle.std.specs.List.Sorted.{IsPermutation};
 ghost use Rattle.sequence.specs.WordOrder.{IsLeastWord};
-ghost use Rattle.boolean_operations.specs.Search.{IsFound, IsIn, IsNotAfter, Spells, AreSteps, Reached, Done, BeginsAt, AreRising, AreStepsOf, IsGathered, AreInOrder, IsBounded, AreBefore, Extends, Joins, HasLastStep};
+ghost use Rattle.boolean_operations.specs.private.Search.{IsFound, IsIn, IsNotAfter, Spells, AreSteps, Reached, Done, BeginsAt, AreRising, AreStepsOf, IsGathered, AreInOrder, IsBounded, AreBefore, Extends, Joins, HasLastStep};
 
 use crate::graph::Graph;
 use exploration::FoundStates;

@@ -6,7 +6,7 @@ use Rattle.std.proofs.lemmas.List.Elements.{All-contains}
 use Rattle.std.specs.Option.{is_some}
 use Rattle.word_automata.specs.Nondeterministic.{NondeterministicAutomaton}
 use Rattle.word_automata.specs.StateSets.{AreStates, IsClosure, AddsTargets}
-use Rattle.determinise.specs.Subsets.{IsPlain, ArePlainWhereFalse, IsSubsetFrom}
+use Rattle.determinise.specs.private.Subsets.{IsPlain, ArePlainWhereFalse, IsSubsetFrom}
 use Rattle.word_automata.proofs.Members.{All-from_contains}
 
 -- members of a list of states are states

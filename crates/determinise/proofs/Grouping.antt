@@ -11,8 +11,8 @@ use Rattle.word_automata.proofs.Rows.{All-edges_of}
 use Rattle.word_automata.proofs.StateSets.{step_accepts, closure_accepts, move_within}
 use Rattle.exploration.specs.System.{look_up, HasIncreasingLetters}
 use Rattle.exploration.specs.Residuals.{AreResiduals}
-use Rattle.exploration.proofs.Lists.{look_up-above, look_up-below, look_up-push_same, look_up-push_other}
-use Rattle.determinise.specs.Subsets.{IsSubset, IsSubsetFrom, letter_of, AreOrderedMoves, IsRun}
+use Rattle.exploration.proofs.ForCallers.{look_up-above, look_up-below, look_up-push_same, look_up-push_other}
+use Rattle.determinise.specs.private.Subsets.{IsSubset, IsSubsetFrom, letter_of, AreOrderedMoves, IsRun}
 use Rattle.determinise.proofs.MoveLists.{moves_from-edge, edge-moves_from}
 
 -- one more pair, with a greater letter

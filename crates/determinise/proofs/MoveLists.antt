@@ -9,7 +9,7 @@ use Rattle.std.specs.List.{filter_map, flat_map, cons_option}
 use Rattle.word_automata.specs.Path.{edges_of}
 use Rattle.word_automata.specs.Nondeterministic.{NondeterministicAutomaton}
 use Rattle.word_automata.proofs.Members.{Contains-cases, Contains-here, Contains-there, Contains-none}
-use Rattle.determinise.specs.Subsets.{lettered_move, moves_from, order_key, letter_of, HasOrderedLetters, IsRun}
+use Rattle.determinise.specs.private.Subsets.{lettered_move, moves_from, order_key, letter_of, HasOrderedLetters, IsRun}
 
 -- one more edge
 module _ (pre : List (ℕ × ℕ)) (edges : List (Option ℕ × ℕ)) (i : ℕ) (l : i < length edges) (done : List (ℕ × ℕ)) (h : done ≡ pre ++ filter_map lettered_move (take i edges)) where

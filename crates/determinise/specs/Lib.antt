@@ -1,5 +1,1 @@
-pub mod Subsets
-pub mod Emptiness
-pub mod Reduction
-pub mod Simulation
-pub mod Digest
+pub mod private

@@ -1,17 +1,10 @@
-//! Deterministic automata from nondeterministic ones, by the subset construction (M. O. Rabin and D. Scott, 1959), without states from
-//! which no word is accepted, and without edges and states that others simulate. It costs time linear in the edges that leave the sets.
+//! Deterministic automata from nondeterministic ones, by the subset construction (M. O. Rabin and D. Scott, 1959) of what a reduction
+//! leaves: no states from which no word is accepted, nor edges and states that others simulate. It costs time linear in the edges that
+//! leave the sets.
 #![tactic(auto)]
 
-mod copying;
-mod emptiness;
-mod live_part;
-mod maximal;
 mod moves;
-mod order;
-mod pruning;
 mod silent;
-mod simulation;
-mod state_pairs;
 mod state_set;
 mod subset;
 mod subsets;
@@ -19,17 +12,12 @@ mod subsets;
 ghost use Rattle.std.specs.Prelude.{◌≡◌, ◌↔◌, List, ℕ, IsTrue, IfOk};
 ghost use Rattle.word_automata.specs.Automaton.{accepts, IsValid};
 ghost use Rattle.word_automata.specs.Nondeterministic.{Accepts};
-ghost use Rattle.determinise.specs.Simulation.{AreIncluded};
+ghost use Rattle.reduction.specs.Simulation.{AreIncluded};
 
-use crate::emptiness::{dead_flags, is_flagged};
-use crate::live_part::live_part;
-use crate::order::has_ordered_edges;
-use crate::pruning::pruned;
 use crate::silent::silent_flags;
-use crate::simulation::simulation;
-use crate::state_pairs::StatePairs;
 use crate::subsets::Subsets;
 use exploration::explore_languages;
+use reduction::{StatePairs, live_part, pruned, simulation};
 use std::alloc::{AllocError, Global};
 use word_automata::{Dfa, Nfa};
 
@@ -43,13 +31,16 @@ pub fn determinise(alloc: Global, automaton: &Nfa) -> Result<Dfa, AllocError>
     ensures letters { IfOk result (λ dfa. dfa.letters ≡ automaton.now.letters) }
     ensures valid { IfOk result IsValid }
 {
-    let dead = dead_flags(alloc, automaton)?;
-    if is_flagged(&dead) || !has_ordered_edges(automaton) {
-        let live = live_part(alloc, automaton, &dead)?;
-        let dfa = subsets_of_pruned(alloc, &live)?;
-        return Ok(dfa);
+    match live_part(alloc, automaton)? {
+        Some(live) => {
+            let dfa = subsets_of_pruned(alloc, &live)?;
+            Ok(dfa)
+        }
+        None => {
+            let dfa = subsets_of_pruned(alloc, automaton)?;
+            Ok(dfa)
+        }
     }
-    Ok(subsets_of_pruned(alloc, automaton)?)
 }
 
 /// The deterministic automaton of the sets of states that words lead to without edges that others match.
@@ -65,7 +56,7 @@ fn subsets_of_pruned(alloc: Global, automaton: &Nfa) -> Result<Dfa, AllocError>
             Ok(dfa)
         }
         None => {
-            let pairs = StatePairs::new(alloc);
+            let pairs = StatePairs::new(alloc)?;
             let dfa = subsets_of(alloc, automaton, &pairs)?;
             Ok(dfa)
         }

@@ -4,7 +4,7 @@
 ghost use Rattle.std.specs.Prelude.{◌≡◌, ◌↔◌, ◌<◌, ◌++◌, ℕ, Contains, IsTrue, length, map, IfOk, OnOk};
 ghost use Rattle.std.specs.List.{filter_map};
 ghost use Rattle.word_automata.specs.StateSets.{AreStates};
-ghost use Rattle.determinise.specs.Subsets.{lettered_move, moves_from, order_key, HasOrderedLetters, AreOrderedMoves, IsRun};
+ghost use Rattle.determinise.specs.private.Subsets.{lettered_move, moves_from, order_key, HasOrderedLetters, AreOrderedMoves, IsRun};
 
 use std::alloc::{AllocError, Global};
 use word_automata::Nfa;

@@ -1,7 +1,8 @@
-//! Which states have edges without a letter.
+//! Which states have edges without a letter, so that sets of the others need no closure.
+//! It takes one pass over the edges.
 
 ghost use Rattle.std.specs.Prelude.{◌≡◌, ℕ, false, None, Contains, IfOk, length};
-ghost use Rattle.determinise.specs.Subsets.{ArePlainWhereFalse};
+ghost use Rattle.determinise.specs.private.Subsets.{ArePlainWhereFalse};
 
 use std::alloc::{AllocError, Global};
 use word_automata::Nfa;

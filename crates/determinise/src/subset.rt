@@ -5,7 +5,7 @@ ghost use Rattle.std.specs.Prelude.{◌≡◌, ◌↔◌, ◌<◌, ℕ, true, fa
 ghost use Rattle.word_automata.specs.Path.{edges_of, is_accepting};
 ghost use Rattle.word_automata.specs.Nondeterministic.{IsInRange};
 ghost use Rattle.word_automata.specs.StateSets.{AreStates, AddsState, AddsTargets, IsClosure};
-ghost use Rattle.determinise.specs.Subsets.{IsSubsetFrom, ArePlainWhereFalse};
+ghost use Rattle.determinise.specs.private.Subsets.{IsSubsetFrom, ArePlainWhereFalse};
 ghost use Rattle.std.specs.Prelude.{None};
 
 use crate::state_set::StateSet;

@@ -4,15 +4,14 @@
 ghost use Rattle.std.specs.Prelude.{◌≡◌, ◌<◌, length};
 ghost use Rattle.std.specs.Cmp.Lexicographic.{bytes_decides};
 ghost use Rattle.word_automata.specs.Nondeterministic.{Accepts, AcceptsFromAny};
-ghost use Rattle.determinise.specs.Subsets.{IsSubset, ArePlainWhereFalse};
-ghost use Rattle.determinise.specs.Simulation.{AreIncluded};
+ghost use Rattle.determinise.specs.private.Subsets.{IsSubset, ArePlainWhereFalse};
+ghost use Rattle.reduction.specs.Simulation.{AreIncluded};
 
-use crate::maximal::maximal_states;
 use crate::moves::{end_of_run, ordered_moves, targets};
-use crate::state_pairs::StatePairs;
 use crate::state_set::StateSet;
 use crate::subset::{accepts_some, subset_from, subset_of};
 use exploration::LanguageSystem;
+use reduction::{StatePairs, maximal_states};
 use std::alloc::{AllocError, Global};
 use word_automata::Nfa;
 

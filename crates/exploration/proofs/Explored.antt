@@ -3,7 +3,7 @@ use Rattle.std.proofs.Common.{◌≡◌, ◌==◌, ◌&&◌, ◌<◌, ◌⊎◌,
 use Rattle.std.proofs.lemmas.Bool.{cases_eq, and_parts, and_from, false_from_ne_true, eqb-true, ne_eqb}
 use Rattle.word_automata.specs.Automaton.{Automaton, target}
 use Rattle.word_automata.specs.Building.{AddsEdge}
-use Rattle.exploration.specs.Worklist.{IsEarlier, FirstEdges}
+use Rattle.exploration.specs.private.Worklist.{IsEarlier, FirstEdges}
 
 -- one more target, for a state and a letter that had none
 pub record AddsTarget (old new : ℕ → ℕ → Option ℕ) (from letter to : ℕ) : Type 0 where

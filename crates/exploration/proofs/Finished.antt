@@ -6,7 +6,7 @@ use Rattle.word_automata.specs.Automaton.{Automaton, target, accepts_from, accep
 use Rattle.exploration.specs.System.{look_up}
 use Rattle.exploration.specs.Residuals.{StartsWith, AreResiduals}
 use Rattle.exploration.specs.Numbering.{IsBreadthFirst, StandsForLanguages}
-use Rattle.exploration.specs.Worklist.{IsPlaceOf, Explored}
+use Rattle.exploration.specs.private.Worklist.{IsPlaceOf, Explored}
 use Rattle.exploration.proofs.Runs.{target-inside}
 use Rattle.exploration.proofs.FirstEdges.{breadth_first}
 

@@ -4,7 +4,7 @@ use Rattle.std.proofs.lemmas.List.{reverse-reverse, reverse-append}
 use Rattle.sequence.specs.WordOrder.{is_before, IsLeastWord}
 use Rattle.word_automata.specs.Automaton.{Automaton, target}
 use Rattle.exploration.specs.Numbering.{run_from, Reaches, IsBreadthFirst}
-use Rattle.exploration.specs.Worklist.{FirstEdges}
+use Rattle.exploration.specs.private.Worklist.{FirstEdges}
 use Rattle.exploration.proofs.Words.{Below, Below-trans, before_at_reverses, is_before-irreflexive, is_before-asymmetric, IsLeastWord-unique}
 use Rattle.exploration.proofs.Runs.{run_from-push, run_from-append}
 

@@ -1,3 +1,4 @@
+pub mod ForCallers
 pub mod Words
 pub mod Runs
 pub mod FirstEdges

@@ -11,7 +11,7 @@ use Rattle.word_automata.specs.Automaton.{Automaton, target, find_target}
 use Rattle.word_automata.specs.Building.{AddsEdge, IsEdgeInRange, with_state, empty_automaton}
 use Rattle.exploration.specs.System.{look_up}
 use Rattle.exploration.specs.Residuals.{StartsWith, AreResiduals}
-use Rattle.exploration.specs.Worklist.{IsEarlier, FirstEdges, IsPlaceOf, Explored, Expands, Numbers}
+use Rattle.exploration.specs.private.Worklist.{IsEarlier, FirstEdges, IsPlaceOf, Explored, Expands, Numbers}
 use Rattle.exploration.proofs.Explored.{AddsTarget, adds_target, FirstEdges-kept, FirstEdges-added}
 use Rattle.exploration.proofs.Lists.{slice_get-append, slice_get-append_below, slice_get-push, slice_get-push_cases, slice_get-some, list_any_at, look_up-above, look_up-below, look_up-push_same, look_up-push_other, HasIncreasingLetters-front}
 

@@ -1,4 +1,4 @@
 pub mod System
 pub mod Numbering
 pub mod Residuals
-pub mod Worklist
+pub mod private

@@ -1,20 +1,20 @@
 //! The construction of an automaton from a transition system, breadth first: each state that is found gets the next number, and its
 //! successors are looked up by code or by hash. It costs time linear in the edges that are reached, on average.
 
-ghost use Rattle.std.specs.Prelude.{◌≡◌, ◌↔◌, ◌<◌, ◌+◌, ℕ, List, [], true, length, slice_get, Some, IsTrue, IfOk, OnOk};
+ghost use Rattle.std.specs.Prelude.{◌≡◌, ◌↔◌, ◌<◌, ◌+◌, ℕ, List, [], length, IsTrue, IfOk, OnOk};
 ghost use Rattle.word_automata.specs.Automaton.{accepts, IsValid};
 ghost use Rattle.word_automata.specs.Building.{empty_automaton};
 ghost use Rattle.exploration.specs.System.{accepts_by};
 ghost use Rattle.exploration.specs.Numbering.{IsBreadthFirst, StandsFor, StandsForLanguages};
-ghost use Rattle.exploration.specs.Worklist.{Explored, Numbers};
+ghost use Rattle.exploration.specs.private.Worklist.{Explored, Numbers};
 
+use crate::found_states::stands_at;
 use crate::language_system::LanguageSystem;
 use crate::place_table::PlaceTable;
 use crate::stepwise::Stepwise;
 use crate::transition_system::TransitionSystem;
 use indexmap::IndexSet;
 use std::alloc::{AllocError, Global};
-use std::hash::Hash;
 use word_automata::{Dfa, DfaBuilder};
 
 /// The automaton of the states of the system that are reached from its start state, with the same language from each. States are
@@ -113,24 +113,16 @@ fn number<T: LanguageSystem>(
     requires { T.is_state system.now state }
     ensures { IfOk result (Numbers (T.language system.now) found.old.keys found.new.keys builder.old builder.new state) }
 {
-    if holds(found, last, &state) {
+    if stands_at(found.as_slice(), last, &state) {
         return Ok(last);
     }
     if system.codes() > 0 {
         let known = places.place_of(system.code(&state), found.len())?;
-        if holds(found, known, &state) {
+        if stands_at(found.as_slice(), known, &state) {
             return Ok(known);
         }
     }
     Ok(find(system, found, builder, state)?)
-}
-
-/// Whether the state stands at the place.
-fn holds<S: Eq + Hash + Drop>(found: &IndexSet<S>, place: usize, state: &S) -> bool
-    requires { (x y : S) → S.eq x y ≡ true → x ≡ y }
-    ensures { IsTrue result → slice_get found.now.keys place ≡ Some state.now }
-{
-    place < found.len() && found.as_slice()[place] == *state
 }
 
 /// The number of the state, which is a new one where it was not found before.

@@ -39,7 +39,20 @@ impl<S: Copy + Eq + Drop> FoundStates<S> {
         requires { (x y : S) → S.eq x y ≡ true → x ≡ y }
         ensures { IsTrue result → slice_get self.now.states.items place ≡ Some state.now }
     {
-        place < self.states.len() && self.states[place] == *state
+        stands_at(self.states.as_slice(), place, state)
+    }
+
+    /// A place at which the state stands, looked for by the code of the state, or `None`, which promises nothing. It takes constant time,
+    /// on average, and no memory.
+    pub fn find(&self, code: usize, state: &S) -> Option<usize>
+        requires { (x y : S) → S.eq x y ≡ true → x ≡ y }
+        ensures { IfSome result (λ place. slice_get self.now.states.items place ≡ Some state.now) }
+    {
+        let place = self.places.find(code);
+        if self.holds(place, state) {
+            return Some(place);
+        }
+        None
     }
 
     /// A place at which the state stands, looked for by the code of the state, or `None`. That a place is right is promised, and `None`
@@ -65,4 +78,12 @@ impl<S: Copy + Eq + Drop> FoundStates<S> {
         self.states.push(state)?;
         Ok(())
     }
+}
+
+/// Whether the state was seen at the place of the list, which may be any number.
+pub(crate) fn stands_at<S: Eq>(states: &[S], place: usize, state: &S) -> bool
+    requires { (x y : S) → S.eq x y ≡ true → x ≡ y }
+    ensures { IsTrue result → slice_get states.now place ≡ Some state.now }
+{
+    place < states.len() && states[place] == *state
 }

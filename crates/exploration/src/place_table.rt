@@ -39,6 +39,18 @@ impl PlaceTable {
         })
     }
 
+    /// The place of the code, or a number past all places.
+    pub(crate) fn find(&self, code: usize) -> usize {
+        if code < self.dense.len() {
+            return self.dense[code] as usize;
+        }
+        let at = slot_of(self.slots.as_slice(), code);
+        if at < self.slots.len() {
+            return self.slots[at].1 as usize;
+        }
+        NO_PLACE as usize
+    }
+
     /// The place of the code, or the next place, which is the code's from now on. More than 2 to the 32 places are out of memory.
     pub(crate) fn place_of(&mut self, code: usize, next: usize) -> Result<usize, AllocError> {
         if next >= NO_PLACE as usize {
@@ -77,21 +89,29 @@ fn take_place(place: &mut u32, next: u32) -> u32 {
 
 /// The place of the code, or else the next one, which is put into the first free slot for the code.
 fn take_slot(slots: &mut [Slot], code: usize, next: u32) -> u32 {
+    let at = slot_of(slots, code);
+    if at >= slots.len() {
+        return next;
+    }
+    if slots[at].1 == NO_PLACE {
+        slots[at] = (code, next);
+    }
+    slots[at].1
+}
+
+/// The slot of the code, or else the first free one for it, or a number past all slots.
+fn slot_of(slots: &[Slot], code: usize) -> usize {
     let mask = slots.len().saturating_sub(1);
     let mut at = (code.wrapping_mul(MULTIPLIER) >> 32) & mask;
     'slots: for _ in 0..slots.len() {
         if at >= slots.len() {
-            return next;
+            return at;
         }
         let (held, place) = slots[at];
-        if place == NO_PLACE {
-            slots[at] = (code, next);
-            return next;
-        }
-        if held == code {
-            return place;
+        if place == NO_PLACE || held == code {
+            return at;
         }
         at = (at + 1) & mask;
     }
-    next
+    slots.len()
 }

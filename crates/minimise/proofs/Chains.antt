@@ -8,7 +8,7 @@ use Rattle.word_automata.specs.Automaton.{Automaton, IsValid}
 use Rattle.word_automata.proofs.Edges.{edges_of-past}
 use Rattle.word_automata.proofs.Members.{Contains-none}
 use Rattle.word_automata.proofs.Rows.{All-edges_of}
-use Rattle.minimise.specs.Splitters.{Link, before, steps_before, IsInChain, IsInto, AreChained, AreIncoming, AddsEdges, AddsMoves}
+use Rattle.minimise.specs.private.Splitters.{Link, before, steps_before, IsInChain, IsInto, AreChained, AreIncoming, AddsEdges, AddsMoves}
 
 module _ (edges : List Link) (link : Link) where
   before-append : (number : ℕ) → number ≤ length edges → before (edges ++ link ∷ []) number ≡ before edges number

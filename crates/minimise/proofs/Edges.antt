@@ -11,8 +11,7 @@ use Rattle.word_automata.proofs.Edges.{edges_of-past}
 pub use Rattle.word_automata.proofs.Edges.{is_accepting-past}
 use Rattle.word_automata.proofs.Rows.{All-edges_of}
 use Rattle.exploration.specs.System.{System, look_up, HasIncreasingLetters, IsSuccessors}
-use Rattle.exploration.proofs.Lists.{look_up-here, look_up-there, look_up-beneath}
-use Rattle.exploration.proofs.Successors.{look_up-edges, HasIncreasingLetters-edges, IsSuccessors-moved}
+use Rattle.exploration.proofs.ForCallers.{look_up-here, look_up-there, look_up-beneath, look_up-edges, HasIncreasingLetters-edges, IsSuccessors-moved}
 use Rattle.minimise.specs.Refinement.{live_class, live_edge}
 
 -- two lists of edges by increasing letters are equal, or lead to different states under some letter

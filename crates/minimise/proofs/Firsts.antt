@@ -4,7 +4,7 @@ use Rattle.std.proofs.lemmas.Bool.{cases_lt}
 use Rattle.std.proofs.lemmas.Bool.Decides.{nat_tests}
 use Rattle.std.proofs.lemmas.List.{length-set, get_or-set_same, get_or-set_other}
 use Rattle.minimise.specs.Refinement.{live_class, FindsClass, IsKnownClass, IsNewClass}
-use Rattle.minimise.specs.Rounds.{first_in}
+use Rattle.minimise.specs.private.Rounds.{first_in}
 
 module _ (small : List ℕ) (others : ℕ → Option ℕ) (c : ℕ) where
   first_small : c < length small → first_in small others c ≡ live_class (slice_index small c)

@@ -7,8 +7,8 @@ use Rattle.word_automata.specs.Automaton.{Automaton, target, IsValid, HasIncreas
 use Rattle.word_automata.proofs.Edges.{found_edge, edge_found, leads_within}
 use Rattle.word_automata.proofs.Members.{Contains-none}
 use Rattle.word_automata.proofs.Rows.{All-edges_of}
-use Rattle.minimise.specs.Rounds.{AreToldApart}
-use Rattle.minimise.specs.Splitters.{Link, IsInto, AreIncoming, AddsMoves, AddsMovesOf, AreMovesInto, IsSaturated}
+use Rattle.minimise.specs.private.Rounds.{AreToldApart}
+use Rattle.minimise.specs.private.Splitters.{Link, IsInto, AreIncoming, AddsMoves, AddsMovesOf, AreMovesInto, IsSaturated}
 use Rattle.minimise.proofs.Edges.{next_state, accepts_from-next}
 
 -- those into the first i states of the list were added

@@ -6,7 +6,7 @@ use Rattle.std.proofs.lemmas.List.Sums.{fold-append}
 use Rattle.std.specs.List.{filter_map, fold}
 use Rattle.word_automata.specs.Automaton.{Automaton, IsValid}
 use Rattle.minimise.specs.Refinement.{live_edge}
-use Rattle.minimise.specs.Rounds.{AreToldApart, outgoing, mixed_in, mixed_in_edge, hash_of, AreHashes}
+use Rattle.minimise.specs.private.Rounds.{AreToldApart, outgoing, mixed_in, mixed_in_edge, hash_of, AreHashes}
 use Rattle.minimise.proofs.Splitting.{live_edge_more, dead_edge_more}
 use Rattle.minimise.proofs.Refining.{outgoing_apart}
 use Rattle.minimise.proofs.OwnSignatures.{outgoing-past}

@@ -10,8 +10,7 @@ use Rattle.word_automata.specs.Automaton.{Automaton, target, accepts, accepts_fr
 use Rattle.word_automata.proofs.Rows.{All-edges_of}
 use Rattle.exploration.specs.System.{accepts_by, accepts_by_from, IsSuccessors}
 use Rattle.exploration.specs.Numbering.{IsBreadthFirst, StandsFor}
-use Rattle.exploration.proofs.Lists.{slice_get-some}
-use Rattle.exploration.proofs.Successors.{look_up-edges, IsSuccessors-moved}
+use Rattle.exploration.proofs.ForCallers.{slice_get-some, look_up-edges, IsSuccessors-moved}
 use Rattle.minimise.specs.Canonical.{IsCanonical}
 use Rattle.minimise.specs.Refinement.{least_state, AreClasses, HasLeastStates, quotient, IsLeastState}
 use Rattle.minimise.proofs.Edges.{accepts_from-past, class-past, edges_of-increasing}

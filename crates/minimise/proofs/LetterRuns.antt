@@ -3,7 +3,7 @@ use Rattle.std.proofs.Common.{◌≡◌, ◌+◌, ◌-◌, ◌<◌, ◌≤◌, �
 use Rattle.std.proofs.lemmas.Bool.{cases_lt}
 use Rattle.std.proofs.lemmas.List.{length-take, length-drop, get_or-take, get_or-drop, get_or_default}
 use Rattle.word_automata.specs.Automaton.{Automaton}
-use Rattle.minimise.specs.Splitters.{letter_at, source_at, HasOrderedLetters, IsRun, IsSaturated, IsSource, AreSources}
+use Rattle.minimise.specs.private.Splitters.{letter_at, source_at, HasOrderedLetters, IsRun, IsSaturated, IsSource, AreSources}
 
 abbrev pub moves_of_run : List (ℕ × ℕ) → ℕ → ℕ → List (ℕ × ℕ)
 moves_of_run moves at end = take (end - at) (drop at moves)

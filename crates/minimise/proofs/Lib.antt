@@ -1,4 +1,5 @@
 pub mod Edges
+pub mod ForCallers
 pub mod LeastStates
 pub mod Refining
 pub mod Splitting

@@ -7,7 +7,7 @@ use Rattle.std.proofs.lemmas.Option.{slice_get-get_or, slice_get_within, get_or_
 use Rattle.std.specs.List.{filter}
 use Rattle.word_automata.proofs.Members.{Contains-cases, Contains-here, Contains-there, Contains-none}
 use Rattle.minimise.specs.Refinement.{HasLeastStates}
-use Rattle.minimise.specs.Splitters.{IsListed, AreListed, KeepsMembers}
+use Rattle.minimise.specs.private.Splitters.{IsListed, AreListed, KeepsMembers}
 
 module _ {A : Type 0} (lists : List (Vec ℕ A)) (to state : ℕ) (list more : Vec ℕ A)
     (within : to < length lists) (list_is : list ≡ get_or lists to list) (grown : more.items ≡ list.items ++ state ∷ []) where

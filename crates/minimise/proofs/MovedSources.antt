@@ -4,8 +4,8 @@ use Rattle.std.proofs.lemmas.Bool.{cases_eq, cases_lt}
 use Rattle.std.proofs.lemmas.Bool.Decides.{nat_tests}
 use Rattle.std.proofs.lemmas.List.{length-set, get_or_past, get_or-set_same, get_or-set_other}
 use Rattle.word_automata.specs.Automaton.{target}
-use Rattle.minimise.specs.Rounds.{AreApart}
-use Rattle.minimise.specs.Splitters.{IsListed, AreListed, source_at, IsSource, AreSources, SplitsSoundly, target_of, AreMovedBefore, AreMoved}
+use Rattle.minimise.specs.private.Rounds.{AreApart}
+use Rattle.minimise.specs.private.Splitters.{IsListed, AreListed, source_at, IsSource, AreSources, SplitsSoundly, target_of, AreMovedBefore, AreMoved}
 use Rattle.minimise.proofs.MemberLists.{listed_here, listed_kept}
 
 -- where the sources of one more move go

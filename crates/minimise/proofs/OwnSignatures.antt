@@ -5,7 +5,7 @@ use Rattle.std.proofs.lemmas.List.{get_or_past}
 use Rattle.word_automata.specs.Automaton.{Automaton}
 use Rattle.word_automata.proofs.Edges.{is_accepting-past}
 use Rattle.minimise.specs.Refinement.{no_word}
-use Rattle.minimise.specs.Rounds.{AreToldApart, outgoing, IsLikeLeast, AreAlike}
+use Rattle.minimise.specs.private.Rounds.{AreToldApart, outgoing, IsLikeLeast, AreAlike}
 use Rattle.minimise.proofs.Edges.{live_edges-past}
 use Rattle.minimise.proofs.Refining.{index-zeros}
 

@@ -8,7 +8,7 @@ use Rattle.word_automata.specs.Automaton.{Automaton, accepts_from, IsValid}
 use Rattle.exploration.specs.System.{look_up}
 use Rattle.minimise.specs.Signatures.{Signature}
 use Rattle.minimise.specs.Refinement.{live_class, live_edge, signature_of, IsSplit, AreGrouped, AreCoarse, AreClasses}
-use Rattle.minimise.specs.Rounds.{AreToldApart, outgoing, AreAlike}
+use Rattle.minimise.specs.private.Rounds.{AreToldApart, outgoing, AreAlike}
 use Rattle.minimise.proofs.Edges.{edges_differ, next_state, accepts_from-next, class-past, look_up-live_edges, live_edges-increasing, live_class-same}
 
 pub index-zeros : (n q : ℕ) → slice_index (replicate n 0) q ≡ 0

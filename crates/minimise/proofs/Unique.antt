@@ -10,9 +10,7 @@ use Rattle.std.proofs.lemmas.List.Elements.{All-nil}
 use Rattle.word_automata.proofs.Rows.{All-edges_of}
 use Rattle.word_automata.proofs.EdgeList.{find_target_within}
 use Rattle.exploration.specs.Numbering.{run_from, Reaches}
-use Rattle.exploration.proofs.Words.{is_before-asymmetric}
-use Rattle.exploration.proofs.Runs.{accepts_from-append, run_from-accepted}
-use Rattle.exploration.proofs.Successors.{look_up-edges}
+use Rattle.exploration.proofs.ForCallers.{is_before-asymmetric, accepts_from-append, run_from-accepted, look_up-edges}
 use Rattle.minimise.specs.Canonical.{IsCanonical, SameLanguage, CanonicalIsUnique, CanonicalIsLeast}
 use Rattle.minimise.proofs.Edges.{accepts_from-past, edges_of-increasing, edges_differ}
 

@@ -2,5 +2,4 @@ pub mod Canonical
 pub mod Refinement
 pub mod Signatures
 pub mod SignatureLaws
-pub mod Rounds
-pub mod Splitters
+pub mod private

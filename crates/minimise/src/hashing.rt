@@ -5,7 +5,7 @@
 
 ghost use Rattle.std.specs.Prelude.{◌≡◌, ◌<◌, OnOk, IfOk, length};
 ghost use Rattle.word_automata.specs.Automaton.{IsValid};
-ghost use Rattle.minimise.specs.Rounds.{AreToldApart, outgoing, mixed_in, hash_of, AreHashes};
+ghost use Rattle.minimise.specs.private.Rounds.{AreToldApart, outgoing, mixed_in, hash_of, AreHashes};
 
 use crate::growth::Growth;
 use std::alloc::{AllocError, Global};

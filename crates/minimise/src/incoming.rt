@@ -2,7 +2,7 @@
 //! of all edges. It takes time and memory linear in the states and the edges.
 
 ghost use Rattle.std.specs.Prelude.{◌≡◌, ◌<◌, ℕ, Contains, IfOk, OnOk, length};
-ghost use Rattle.minimise.specs.Splitters.{AreChained, AreIncoming, AddsEdges, AddsMoves};
+ghost use Rattle.minimise.specs.private.Splitters.{AreChained, AreIncoming, AddsEdges, AddsMoves};
 
 use std::alloc::{AllocError, Global};
 use word_automata::Dfa;

@@ -1,4 +1,5 @@
-//! Laws of canonical automata. They have no code: each is the contract of a function that does nothing.
+//! Laws of canonical automata: by the uniqueness of minimal automata (J. Myhill, 1957; A. Nerode, 1958), with the numbers of states.
+//! They have no code: each is the contract of a function that does nothing.
 
 ghost use Rattle.minimise.specs.Canonical.{CanonicalIsUnique, CanonicalIsLeast};
 

@@ -1,4 +1,6 @@
-//! Canonical automata: minimal, numbered breadth first, and equal as data exactly where their languages are equal.
+//! Canonical automata: minimal, numbered breadth first, and equal as data exactly where their languages are equal. Classes of states are
+//! refined by hashes of signatures, and where that takes many rounds by splitters (J. Hopcroft, 1971); a pass sees that they are stable.
+//! A deterministic automaton is minimised in time linear in its edges times the logarithm of its states, up to sorting.
 #![tactic(auto)]
 
 mod canon;

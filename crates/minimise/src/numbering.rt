@@ -4,7 +4,7 @@
 ghost use Rattle.std.specs.Prelude.{◌≡◌, ◌<◌, ◌^◌, ℕ, None, IfOk, length, nat_eq, slice_index};
 ghost use Rattle.std.specs.HashMap.{get};
 ghost use Rattle.minimise.specs.Refinement.{FindsClass, AreGrouped};
-ghost use Rattle.minimise.specs.Rounds.{first_in};
+ghost use Rattle.minimise.specs.private.Rounds.{first_in};
 
 use std::alloc::{AllocError, Global};
 use std::collections::HashMap;

@@ -7,8 +7,8 @@
 ghost use Rattle.std.specs.Prelude.{◌≡◌, ◌<◌, ◌≤◌, ℕ, IfOk, OnOk, length, nat_eq, slice_index};
 ghost use Rattle.word_automata.specs.Automaton.{IsValid};
 ghost use Rattle.minimise.specs.Refinement.{AreCoarse};
-ghost use Rattle.minimise.specs.Rounds.{AreToldApart};
-ghost use Rattle.minimise.specs.Splitters.{AreChained, AreListed, KeepsMembers, AddsMovesOf, AreMovesInto, HasOrderedLetters, IsRun, IsSaturated, AreSources, SplitsSoundly, AreMoved, target_of};
+ghost use Rattle.minimise.specs.private.Rounds.{AreToldApart};
+ghost use Rattle.minimise.specs.private.Splitters.{AreChained, AreListed, KeepsMembers, AddsMovesOf, AreMovesInto, HasOrderedLetters, IsRun, IsSaturated, AreSources, SplitsSoundly, AreMoved, target_of};
 
 use crate::incoming::Incoming;
 use crate::parts::Parts;

@@ -2,7 +2,7 @@
 //! time linear in the edges of both.
 
 ghost use Rattle.std.specs.Prelude.{◌≡◌, ◌<◌, IsTrue, IfOk, length};
-ghost use Rattle.minimise.specs.Rounds.{IsLikeLeast, AreAlike};
+ghost use Rattle.minimise.specs.private.Rounds.{IsLikeLeast, AreAlike};
 
 use crate::refinement::put_live_edges;
 use std::alloc::{AllocError, Global};

@@ -4,8 +4,8 @@ use Rattle.std.proofs.lemmas.Bool.{cases_lt, false≢true}
 use Rattle.std.proofs.lemmas.Option.{same_Some}
 use Rattle.word_automata.specs.Path.{Node, edges_of, is_accepting}
 use Rattle.word_automata.specs.Automaton.{Automaton}
-use Rattle.predicate_abstraction.specs.Pairs.{Pairs, AddsPairs}
-use Rattle.predicate_abstraction.specs.SharedWords.{IsAcceptingIn, AreAccepting, IsSource, AreSources}
+use Rattle.predicate_abstraction.specs.private.Pairs.{Pairs, AddsPairs}
+use Rattle.predicate_abstraction.specs.private.SharedWords.{IsAcceptingIn, AreAccepting, IsSource, AreSources}
 use Rattle.abstraction.proofs.ListMembers.{take_cases, take_keeps, take_last}
 use Rattle.predicate_abstraction.proofs.Marks.{adds_both, adds_same}
 

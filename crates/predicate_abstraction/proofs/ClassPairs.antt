@@ -8,7 +8,7 @@ use Rattle.word_automata.specs.Automaton.{Automaton}
 use Rattle.abstraction.specs.FirstStates.{AreFirsts}
 use Rattle.abstraction.proofs.Firsts.{first_within, first_same}
 use Rattle.abstraction.specs.Partitions.{AreNumbers}
-use Rattle.predicate_abstraction.specs.Splitting.{AreClassesBy, AreCommon}
+use Rattle.predicate_abstraction.specs.private.Splitting.{AreClassesBy, AreCommon}
 use Rattle.predicate_abstraction.proofs.Marks.{place-row, place-column}
 
 -- the places of the pairs of the first numbers of both lists

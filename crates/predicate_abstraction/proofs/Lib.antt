@@ -7,3 +7,4 @@ pub mod Parts
 pub mod Reverses
 pub mod Sharing
 pub mod SourceLists
+pub mod SignatureLaws

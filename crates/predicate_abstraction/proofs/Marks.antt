@@ -7,7 +7,7 @@ use Rattle.std.proofs.lemmas.List.{get_or-set_same, get_or-set_other, length-set
 use Rattle.std.proofs.lemmas.List.Elements.{All-append, All-cons, All-nil, Contains-append_left, Contains-push, Contains-push_cases}
 use Rattle.std.specs.Prelude.{replicate}
 use Rattle.word_automata.proofs.Members.{Contains-none}
-use Rattle.predicate_abstraction.specs.Pairs.{Pairs, AreMarked, AddsPairs}
+use Rattle.predicate_abstraction.specs.private.Pairs.{Pairs, AreMarked, AddsPairs}
 
 -- the place of a pair is one of the places
 pub place_within : (rows columns row column : ℕ) → row < rows → column < columns → row * columns + column < rows * columns

@@ -8,11 +8,11 @@ use Rattle.std.proofs.lemmas.List.Elements.{Contains-append_left, Contains-push}
 use Rattle.word_automata.specs.Automaton.{Automaton}
 use Rattle.abstraction.specs.Merging.{AreClasses}
 use Rattle.predicate_abstraction.specs.Predicates.{SharesWord, MeetSame}
-use Rattle.predicate_abstraction.specs.Pairs.{Pairs, AreRowsOf}
-use Rattle.predicate_abstraction.specs.SharedWords.{AreShared}
+use Rattle.predicate_abstraction.specs.private.Pairs.{Pairs, AreRowsOf}
+use Rattle.predicate_abstraction.specs.private.SharedWords.{AreShared}
 use Rattle.abstraction.specs.Partitions.{AreNumbers, IsRefined, IsNumbering}
 use Rattle.abstraction.proofs.ListMembers.{take_cases}
-use Rattle.predicate_abstraction.specs.Splitting.{AreClassesBy, IsSplitBefore}
+use Rattle.predicate_abstraction.specs.private.Splitting.{AreClassesBy, IsSplitBefore}
 
 -- states are in one block where they were in one class, and share words with the same states of b before i
 pub record HasSplit (a b : Automaton) (i : ℕ) (classes blocks : List ℕ) : Type 0 where

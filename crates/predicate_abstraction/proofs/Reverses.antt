@@ -7,7 +7,7 @@ use Rattle.word_automata.specs.Path.{Node, edges_of}
 use Rattle.word_automata.specs.Automaton.{Automaton, IsValid}
 use Rattle.word_automata.specs.Nondeterministic.{NondeterministicAutomaton, AddsMove}
 use Rattle.word_automata.proofs.Members.{Contains-none}
-use Rattle.predicate_abstraction.specs.Reversal.{IsReverse, HasReversed}
+use Rattle.predicate_abstraction.specs.private.Reversal.{IsReverse, HasReversed}
 use Rattle.abstraction.proofs.ListMembers.{take_cases}
 
 -- a state without edges has none, and the others keep theirs

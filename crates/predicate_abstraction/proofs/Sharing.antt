@@ -11,10 +11,10 @@ use Rattle.word_automata.proofs.Edges.{accepting_within}
 use Rattle.word_automata.proofs.Members.{Contains-none}
 use Rattle.word_automata.proofs.Rows.{All-edges_of}
 use Rattle.predicate_abstraction.specs.Predicates.{SharesWord}
-use Rattle.predicate_abstraction.specs.Pairs.{Pairs, AddsPairs}
-use Rattle.predicate_abstraction.specs.Reversal.{IsReverse}
-use Rattle.predicate_abstraction.specs.Sources.{AreSourcesByLetter}
-use Rattle.predicate_abstraction.specs.SharedWords.{AreShared, SharesWords, AreAccepting, AreSources}
+use Rattle.predicate_abstraction.specs.private.Pairs.{Pairs, AddsPairs}
+use Rattle.predicate_abstraction.specs.private.Reversal.{IsReverse}
+use Rattle.predicate_abstraction.specs.private.Sources.{AreSourcesByLetter}
+use Rattle.predicate_abstraction.specs.private.SharedWords.{AreShared, SharesWords, AreAccepting, AreSources}
 use Rattle.predicate_abstraction.proofs.Edges.{accepts_along, accepts_first}
 use Rattle.predicate_abstraction.proofs.SourceLists.{letter_within}
 

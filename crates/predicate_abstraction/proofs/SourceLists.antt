@@ -9,7 +9,7 @@ use Rattle.word_automata.specs.Nondeterministic.{NondeterministicAutomaton, Adds
 use Rattle.word_automata.proofs.Members.{Contains-none, All-from_contains}
 use Rattle.word_automata.proofs.Rows.{All-edges_of}
 use Rattle.abstraction.proofs.ListMembers.{take_cases}
-use Rattle.predicate_abstraction.specs.Sources.{AreSourcesByLetter, HasSources}
+use Rattle.predicate_abstraction.specs.private.Sources.{AreSourcesByLetter, HasSources}
 use Rattle.predicate_abstraction.proofs.Edges.{edge_within}
 use Rattle.predicate_abstraction.proofs.Marks.{place-row, place-column}
 

@@ -1,9 +1,4 @@
-pub mod Pairs
 pub mod PredicateLaws
 pub mod Predicates
-pub mod Reversal
-pub mod SharedWords
-pub mod SignatureLaws
 pub mod Signatures
-pub mod Sources
-pub mod Splitting
+pub mod private

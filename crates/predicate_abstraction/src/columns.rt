@@ -2,7 +2,7 @@
 //! pairs and columns, and the rows of a column are found in time linear in their number.
 
 ghost use Rattle.std.specs.Prelude.{◌<◌, OnOk, IfOk, length};
-ghost use Rattle.predicate_abstraction.specs.Pairs.{AreLinked, AreRowsOf};
+ghost use Rattle.predicate_abstraction.specs.private.Pairs.{AreLinked, AreRowsOf};
 
 use crate::pair_set::PairSet;
 use std::alloc::{AllocError, Global};

@@ -1,8 +1,9 @@
-//! The classes that two lists of classes have in common, in time linear in the states, on average.
+//! The classes that two lists of classes have in common: the two classes of a state make one number, and states of one number are in one
+//! class. It takes time linear in the states, on average.
 
 ghost use Rattle.std.specs.Prelude.{◌≡◌, IfOk, length};
 ghost use Rattle.abstraction.specs.Partitions.{AreNumbers};
-ghost use Rattle.predicate_abstraction.specs.Splitting.{AreCommon};
+ghost use Rattle.predicate_abstraction.specs.private.Splitting.{AreCommon};
 
 use crate::place::place;
 use abstraction::first_states;

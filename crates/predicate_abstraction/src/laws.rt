@@ -1,4 +1,5 @@
-//! A law of the relation of predicates. It has no code: it is the contract of a function that does nothing.
+//! A law of the relation of predicates: two states that share a word share one that is shorter than there are pairs of states, by a pair
+//! that comes twice on the way. It has no code: it is the contract of a function that does nothing.
 
 ghost use Rattle.predicate_abstraction.specs.Signatures.{RelatedBySignature, TestsSharedWords};
 

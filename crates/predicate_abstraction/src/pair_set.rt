@@ -2,7 +2,7 @@
 //! A pair is looked up and added in constant time; a set takes a byte for each possible pair.
 
 ghost use Rattle.std.specs.Prelude.{◌≡◌, ◌<◌, [], Some, IfOk, OnOk, length, slice_get};
-ghost use Rattle.predicate_abstraction.specs.Pairs.{AddsPairs};
+ghost use Rattle.predicate_abstraction.specs.private.Pairs.{AddsPairs};
 
 use crate::place::place;
 use std::alloc::{AllocError, Global};
@@ -18,7 +18,7 @@ pub struct PairSet {
 }
 
 impl Model for PairSet {
-    ghost use Rattle.predicate_abstraction.specs.Pairs.{Pairs, AreMarked};
+    ghost use Rattle.predicate_abstraction.specs.private.Pairs.{Pairs, AreMarked};
 
     ghost Value = { Pairs };
 

@@ -1,4 +1,5 @@
-//! Places in a table of rows and columns.
+//! Places in a table of rows and columns that is kept in one list, row by row.
+//! A place takes one multiplication.
 
 ghost use Rattle.std.specs.Prelude.{◌≡◌, ◌<◌, ◌*◌, ◌+◌, ◌^◌};
 

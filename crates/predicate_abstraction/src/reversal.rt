@@ -2,7 +2,7 @@
 //! It costs one pass over the edges.
 
 ghost use Rattle.std.specs.Prelude.{◌<◌, ◌+◌, [], IfOk, OnOk, length};
-ghost use Rattle.predicate_abstraction.specs.Reversal.{IsReverse, HasReversed};
+ghost use Rattle.predicate_abstraction.specs.private.Reversal.{IsReverse, HasReversed};
 
 use std::alloc::{AllocError, Global};
 use word_automata::{Dfa, Nfa, NfaBuilder};

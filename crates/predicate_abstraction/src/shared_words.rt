@@ -2,9 +2,9 @@
 //! is visited once, so that it takes time linear in the pairs of edges with the same letter.
 
 ghost use Rattle.std.specs.Prelude.{◌≡◌, ◌<◌, All, IfOk, IfSome, OnOk, length};
-ghost use Rattle.predicate_abstraction.specs.Pairs.{AddsPairs};
-ghost use Rattle.predicate_abstraction.specs.Sources.{AreSourcesByLetter};
-ghost use Rattle.predicate_abstraction.specs.SharedWords.{AreShared, SharesWords, IsAcceptingIn, IsSource, AreSources};
+ghost use Rattle.predicate_abstraction.specs.private.Pairs.{AddsPairs};
+ghost use Rattle.predicate_abstraction.specs.private.Sources.{AreSourcesByLetter};
+ghost use Rattle.predicate_abstraction.specs.private.SharedWords.{AreShared, SharesWords, IsAcceptingIn, IsSource, AreSources};
 
 use crate::pair_set::PairSet;
 use crate::place::place;

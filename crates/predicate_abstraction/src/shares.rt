@@ -2,7 +2,7 @@
 //! the automata of its share alone, and the classes of all shares are put together.
 
 ghost use Rattle.std.specs.Prelude.{◌≡◌, All, IfOk};
-ghost use Rattle.predicate_abstraction.specs.Splitting.{AreClassesBy};
+ghost use Rattle.predicate_abstraction.specs.private.Splitting.{AreClassesBy};
 
 use crate::common_classes::common_classes;
 use crate::splitting::split_by_predicate;

@@ -2,7 +2,7 @@
 //! They take a place for each state and letter, and time linear in these and in the edges.
 
 ghost use Rattle.std.specs.Prelude.{◌<◌, ◌+◌, [], IfOk, OnOk, length};
-ghost use Rattle.predicate_abstraction.specs.Sources.{AreSourcesByLetter, HasSources};
+ghost use Rattle.predicate_abstraction.specs.private.Sources.{AreSourcesByLetter, HasSources};
 
 use crate::place::place;
 use std::alloc::{AllocError, Global};

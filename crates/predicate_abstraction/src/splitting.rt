@@ -3,7 +3,7 @@
 
 ghost use Rattle.std.specs.Prelude.{◌≡◌, IfOk, length};
 ghost use Rattle.abstraction.specs.Partitions.{AreNumbers};
-ghost use Rattle.predicate_abstraction.specs.Splitting.{IsSplitBefore};
+ghost use Rattle.predicate_abstraction.specs.private.Splitting.{IsSplitBefore};
 
 use crate::columns::Columns;
 use crate::shared_words::shared_words;

@@ -1,5 +1,5 @@
 use Rattle.std.proofs.Common.{List, Bool, sym, subst}
-use Rattle.determinise.specs.Subsets.{ArePlainWhereFalse}
+use Rattle.determinise.specs.private.Subsets.{ArePlainWhereFalse}
 use Rattle.determinise.proofs.subsets_of.Goals as goal
 
 pub new-requires-clause-plain : goal.new-requires-clause-plain

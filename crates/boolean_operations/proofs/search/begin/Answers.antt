@@ -1,7 +1,7 @@
 use Rattle.std.proofs.Common.{◌≡◌, ◌+◌, ◌↔◌, [], Some, Contains, length, slice_get, refl, subst, sym, arith}
 use Rattle.std.proofs.lemmas.List.Elements.{All-contains}
 use Rattle.std.proofs.lemmas.Option.{slice_get_read}
-use Rattle.boolean_operations.specs.Search.{Reached}
+use Rattle.boolean_operations.specs.private.Search.{Reached}
 use Rattle.boolean_operations.proofs.SearchSteps.{kept_longer}
 use Rattle.boolean_operations.proofs.SearchCalls.{start_joined, begun, reached_nothing, are_found_kept, are_found_more, contains_at}
 use Rattle.boolean_operations.proofs.search.begin.Goals as goal

@@ -1,5 +1,5 @@
 use Rattle.std.proofs.Common.{length, []}
-use Rattle.boolean_operations.specs.Search.{Reached, AreFound}
+use Rattle.boolean_operations.specs.private.Search.{Reached, AreFound}
 use Rattle.boolean_operations.proofs.search.begin.Given as goal
 
 abbrev pub invariant-starts : goal.invariant-starts

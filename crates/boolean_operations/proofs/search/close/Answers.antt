@@ -1,5 +1,5 @@
 use Rattle.std.proofs.Common.{◌≡◌, length, subst, arith}
-use Rattle.boolean_operations.specs.Search.{Reached}
+use Rattle.boolean_operations.specs.private.Search.{Reached}
 use Rattle.boolean_operations.proofs.SearchSteps.{extends-trans, extends-nothing, kept_longer}
 use Rattle.boolean_operations.proofs.search.close.Goals as goal
 

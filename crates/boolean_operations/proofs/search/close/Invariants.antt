@@ -1,5 +1,5 @@
 use Rattle.std.proofs.Common.{length, ◌≤◌, ◌-◌, ◌^◌}
-use Rattle.boolean_operations.specs.Search.{Reached, Extends}
+use Rattle.boolean_operations.specs.private.Search.{Reached, Extends}
 use Rattle.boolean_operations.proofs.search.close.Given as goal
 
 abbrev pub invariant-states : goal.invariant-states

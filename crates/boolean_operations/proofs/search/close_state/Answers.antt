@@ -1,6 +1,6 @@
 use Rattle.std.proofs.Common.{◌≡◌, [], Some, None, length, slice_get, refl, sym, subst, arith}
 use Rattle.std.proofs.lemmas.Option.{slice_get_read}
-use Rattle.boolean_operations.specs.Search.{Gathers}
+use Rattle.boolean_operations.specs.private.Search.{Gathers}
 use Rattle.boolean_operations.proofs.SearchSteps.{extends-trans}
 use Rattle.boolean_operations.proofs.SearchCalls.{target_joined, targets_found, are_found_kept, are_found_more}
 use Rattle.boolean_operations.proofs.search.close_state.Goals as goal

@@ -1,5 +1,5 @@
 use Rattle.std.proofs.Common.{length}
-use Rattle.boolean_operations.specs.Search.{Reached, Extends, AreFound}
+use Rattle.boolean_operations.specs.private.Search.{Reached, Extends, AreFound}
 use Rattle.boolean_operations.proofs.search.close_state.Given as goal
 
 abbrev pub invariant-targets : goal.invariant-targets

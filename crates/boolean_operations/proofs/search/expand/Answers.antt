@@ -1,6 +1,6 @@
 use Rattle.std.proofs.Common.{◌≡◌, ◌+◌, suc, Some, length, slice_get, refl, subst, sym, arith}
 use Rattle.std.proofs.lemmas.Option.{slice_get_read}
-use Rattle.boolean_operations.specs.Search.{Done, Extends}
+use Rattle.boolean_operations.specs.private.Search.{Done, Extends}
 use Rattle.boolean_operations.proofs.SearchSteps.{extends-nothing, extends-trans, kept_longer, done_more}
 use Rattle.boolean_operations.proofs.SearchCalls.{bounded_first, before_bounded, bounded_on, source_of, are_taken_kept, are_taken_more, place_of}
 use Rattle.boolean_operations.proofs.search.expand.Goals as goal

@@ -1,5 +1,5 @@
 use Rattle.std.proofs.Common.{length, ◌+◌}
-use Rattle.boolean_operations.specs.Search.{Reached, Extends, AreTaken, AreBounded, AreBefore}
+use Rattle.boolean_operations.specs.private.Search.{Reached, Extends, AreTaken, AreBounded, AreBefore}
 use Rattle.boolean_operations.proofs.search.expand.Given as goal
 
 abbrev pub invariant-steps : goal.invariant-steps

@@ -1,6 +1,6 @@
 use Rattle.std.proofs.Common.{◌≡◌, ◌<◌, ℕ, Some, length, slice_get, refl, subst, sym, ap, ◌∙◌, arith}
 use Rattle.std.proofs.lemmas.Option.{slice_get_read, slice_get-get_or}
-use Rattle.boolean_operations.specs.Search.{AreStepsUpTo}
+use Rattle.boolean_operations.specs.private.Search.{AreStepsUpTo}
 use Rattle.boolean_operations.proofs.SearchCalls.{gathered_none, gathered_more}
 use Rattle.boolean_operations.proofs.search.gather.Goals as goal
 

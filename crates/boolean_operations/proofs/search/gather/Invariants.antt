@@ -1,5 +1,5 @@
 use Rattle.std.proofs.Common.{length, ◌-◌}
-use Rattle.boolean_operations.specs.Search.{AreStepsUpTo}
+use Rattle.boolean_operations.specs.private.Search.{AreStepsUpTo}
 use Rattle.boolean_operations.proofs.search.gather.Given as goal
 
 abbrev pub invariant-states : goal.invariant-states

@@ -1,7 +1,7 @@
 use Rattle.std.proofs.Common.{◌≡◌, ◌+◌, suc, Some, None, length, reverse, subst, sym, arith}
 use Rattle.std.proofs.lemmas.List.{reverse-reverse}
 use Rattle.sequence.specs.WordOrder.{IsLeastWord}
-use Rattle.boolean_operations.specs.Search.{Reached, Done, BeginsAt, AreBefore, AreStepsOf, IsGathered, IsFound, Spells}
+use Rattle.boolean_operations.specs.private.Search.{Reached, Done, BeginsAt, AreBefore, AreStepsOf, IsGathered, IsFound, Spells}
 use Rattle.boolean_operations.proofs.SearchWords.{nothing_found, least_found}
 use Rattle.boolean_operations.proofs.SearchSteps.{begins_kept}
 use Rattle.boolean_operations.proofs.SearchCalls.{steps_sorted}

@@ -1,5 +1,5 @@
 use Rattle.std.proofs.Common.{length, ◌-◌, ◌^◌}
-use Rattle.boolean_operations.specs.Search.{Reached, Done, BeginsAt, AreBefore}
+use Rattle.boolean_operations.specs.private.Search.{Reached, Done, BeginsAt, AreBefore}
 use Rattle.boolean_operations.proofs.search.least_word_to_goal.Given as goal
 
 abbrev pub invariant-groups : goal.invariant-groups

@@ -1,65 +1,52 @@
 use Rattle.std.proofs.Common.{◌≡◌, ◌+◌, ◌++◌, ◌∷◌, [], IfSome, Some, suc, length, slice_get, refl, sym, subst, ◌∙◌, ap, arith}
-use Rattle.boolean_operations.specs.Search.{Reached, Extends, IsIn}
-use Rattle.boolean_operations.proofs.SearchSteps.{found_new, found_old, extends-trans, in_kept, kept_longer}
+use Rattle.boolean_operations.specs.private.Search.{Reached, Extends, IsIn}
+use Rattle.boolean_operations.proofs.SearchSteps.{Found, found_new, found_old, extends-trans, in_kept, kept_longer}
+use Rattle.boolean_operations.proofs.search.step.Given.{Over}
+use Rattle.boolean_operations.proofs.search.step.Goals.{In_ok-push-2}
 use Rattle.boolean_operations.proofs.search.step.Goals as goal
+
+-- what is there when the state, its step and its group were added
+found_at : (g : Over) (c : In_ok-push-2 g) →
+    Found (g.T.Graph.is_state c.args.graph.now) (g.T.Graph.is_start c.args.graph.now) (g.T.Graph.edge c.args.graph.now)
+    c.args.found.now.states.items c.args.groups.now.items c.args.steps.now.items c.requires.reached c.args.from c.args.letter c.requires.within c.requires.bounded
+    c.args.state c.requires.is_state c.requires.source c.add_step.new.steps.items c.in_ok-add_step.ensures c.push.new.self.states.items c.push-2.new.self.items
+found_at g c =
+    let t = g.T.Graph in
+    let graph = c.args.graph.now in
+    found_new (t.is_state graph) (t.is_start graph) (t.edge graph) c.args.found.now.states.items c.args.groups.now.items c.args.steps.now.items
+    c.requires.reached c.args.from c.args.letter c.requires.within c.requires.bounded
+    c.args.state c.requires.is_state c.requires.source c.add_step.new.steps.items c.in_ok-add_step.ensures c.push.new.self.states.items c.push-2.new.self.items
+    (c.in_ok-push.ensures ∙ ap (λ xs. xs ++ c.args.state ∷ []) c.look_up.ensures.same)
+    (c.in_ok-push-2.ensures.items ∙ ap (λ n. c.args.groups.now.items ++ n ∷ []) (c.len.ensures ∙ c.add_step.new.steps.ok.0))
 
 pub close-requires-clause-before : goal.close-requires-clause-before
 close-requires-clause-before g c =
     let t = g.T.Graph in
     let graph = c.args.graph.now in
     let found = c.args.found.now.states.items in
-    let groups = c.args.groups.now.items in
-    let steps = c.args.steps.now.items in
-    let same = c.look_up.ensures.same in
-    let added = c.in_ok-push.ensures ∙ ap (λ xs. xs ++ c.args.state ∷ []) same in
-    let group_added = c.in_ok-push-2.ensures.items ∙ ap (λ n. groups ++ n ∷ []) (c.len.ensures ∙ c.add_step.new.steps.ok.0) in
-    let f = found_new (t.is_state graph) (t.is_start graph) (t.edge graph) found groups steps c.requires.reached c.args.from c.args.letter c.requires.within c.requires.bounded
-    c.args.state c.requires.is_state c.requires.source c.add_step.new.steps.items c.in_ok-add_step.ensures c.push.new.self.states.items c.push-2.new.self.items added group_added in
-    let closed : length found ≡ c.len-closed.result = sym (c.len-closed.ensures ∙ ap length same) in
+    let f = found_at g (goal.at.close-requires-clause-before g c).In_ok-push-2 in
+    let closed : length found ≡ c.len-closed.result = sym (c.len-closed.ensures ∙ ap length c.look_up.ensures.same) in
     subst (λ k. Reached (t.is_state graph) (t.is_start graph) (t.edge graph) c.push.new.self.states.items c.push-2.new.self.items k c.len-closed.result) (sym c.deref.ensures.value)
     (subst (Reached (t.is_state graph) (t.is_start graph) (t.edge graph) c.push.new.self.states.items c.push-2.new.self.items c.add_step.new.steps.items) closed f.reached)
 
 pub close-requires-clause-within : goal.close-requires-clause-within
 close-requires-clause-within g c =
-    let t = g.T.Graph in
-    let graph = c.args.graph.now in
     let found = c.args.found.now.states.items in
-    let groups = c.args.groups.now.items in
-    let steps = c.args.steps.now.items in
-    let same = c.look_up.ensures.same in
-    let added = c.in_ok-push.ensures ∙ ap (λ xs. xs ++ c.args.state ∷ []) same in
-    let group_added = c.in_ok-push-2.ensures.items ∙ ap (λ n. groups ++ n ∷ []) (c.len.ensures ∙ c.add_step.new.steps.ok.0) in
-    let f = found_new (t.is_state graph) (t.is_start graph) (t.edge graph) found groups steps c.requires.reached c.args.from c.args.letter c.requires.within c.requires.bounded
-    c.args.state c.requires.is_state c.requires.source c.add_step.new.steps.items c.in_ok-add_step.ensures c.push.new.self.states.items c.push-2.new.self.items added group_added in
-    let closed : length found ≡ c.len-closed.result = sym (c.len-closed.ensures ∙ ap length same) in
+    let f = found_at g (goal.at.close-requires-clause-within g c).In_ok-push-2 in
+    let closed : length found ≡ c.len-closed.result = sym (c.len-closed.ensures ∙ ap length c.look_up.ensures.same) in
     omega (arith, kept_longer found c.push.new.self.states.items f.extends.found_kept, closed)
 
 pub returns-clause-bounded : goal.returns-clause-bounded
 returns-clause-bounded g c =
-    let t = g.T.Graph in
-    let graph = c.args.graph.now in
-    let found = c.args.found.now.states.items in
-    let groups = c.args.groups.now.items in
-    let steps = c.args.steps.now.items in
-    let same = c.look_up.ensures.same in
-    let added = c.in_ok-push.ensures ∙ ap (λ xs. xs ++ c.args.state ∷ []) same in
-    let group_added = c.in_ok-push-2.ensures.items ∙ ap (λ n. groups ++ n ∷ []) (c.len.ensures ∙ c.add_step.new.steps.ok.0) in
-    let f = found_new (t.is_state graph) (t.is_start graph) (t.edge graph) found groups steps c.requires.reached c.args.from c.args.letter c.requires.within c.requires.bounded
-    c.args.state c.requires.is_state c.requires.source c.add_step.new.steps.items c.in_ok-add_step.ensures c.push.new.self.states.items c.push-2.new.self.items added group_added in
+    let f = found_at g (goal.at.returns-clause-bounded g c).In_ok-push-2 in
     f.bounded_still
 
 pub returns-clause-extends : goal.returns-clause-extends
 returns-clause-extends g c =
-    let t = g.T.Graph in
-    let graph = c.args.graph.now in
     let found = c.args.found.now.states.items in
     let groups = c.args.groups.now.items in
     let steps = c.args.steps.now.items in
-    let same = c.look_up.ensures.same in
-    let added = c.in_ok-push.ensures ∙ ap (λ xs. xs ++ c.args.state ∷ []) same in
-    let group_added = c.in_ok-push-2.ensures.items ∙ ap (λ n. groups ++ n ∷ []) (c.len.ensures ∙ c.add_step.new.steps.ok.0) in
-    let f = found_new (t.is_state graph) (t.is_start graph) (t.edge graph) found groups steps c.requires.reached c.args.from c.args.letter c.requires.within c.requires.bounded
-    c.args.state c.requires.is_state c.requires.source c.add_step.new.steps.items c.in_ok-add_step.ensures c.push.new.self.states.items c.push-2.new.self.items added group_added in
+    let f = found_at g (goal.at.returns-clause-extends g c).In_ok-push-2 in
     let new = c.add_step.new.steps.items in
     let closed = subst (λ k. Extends c.push.new.self.states.items c.push-2.new.self.items k c.close.new.found.states.items c.close.new.groups.items k (length k)) c.deref.ensures.value
     c.in_ok-close.ensures.extends in
@@ -69,16 +56,7 @@ returns-clause-extends g c =
 
 pub returns-clause-taken : goal.returns-clause-taken
 returns-clause-taken g c =
-    let t = g.T.Graph in
-    let graph = c.args.graph.now in
-    let found = c.args.found.now.states.items in
-    let groups = c.args.groups.now.items in
-    let steps = c.args.steps.now.items in
-    let same = c.look_up.ensures.same in
-    let added = c.in_ok-push.ensures ∙ ap (λ xs. xs ++ c.args.state ∷ []) same in
-    let group_added = c.in_ok-push-2.ensures.items ∙ ap (λ n. groups ++ n ∷ []) (c.len.ensures ∙ c.add_step.new.steps.ok.0) in
-    let f = found_new (t.is_state graph) (t.is_start graph) (t.edge graph) found groups steps c.requires.reached c.args.from c.args.letter c.requires.within c.requires.bounded
-    c.args.state c.requires.is_state c.requires.source c.add_step.new.steps.items c.in_ok-add_step.ensures c.push.new.self.states.items c.push-2.new.self.items added group_added in
+    let f = found_at g (goal.at.returns-clause-taken g c).In_ok-push-2 in
     let new = c.add_step.new.steps.items in
     let closed = subst (λ k. Extends c.push.new.self.states.items c.push-2.new.self.items k c.close.new.found.states.items c.close.new.groups.items k (length k)) c.deref.ensures.value
     c.in_ok-close.ensures.extends in (

@@ -1,7 +1,7 @@
 use Rattle.std.proofs.Common.{◌≡◌, ◌-◌, ◌<◌, ◌++◌, ◌∷◌, suc, [], Some, get_or, length, reverse, slice_get, sym, ap, subst, ◌∙◌, arith}
 use Rattle.std.proofs.lemmas.List.{append_assoc, append-nil, reverse-reverse}
 use Rattle.std.proofs.lemmas.Option.{slice_get-get_or}
-use Rattle.boolean_operations.specs.Search.{Spells}
+use Rattle.boolean_operations.specs.private.Search.{Spells}
 use Rattle.boolean_operations.proofs.search.word_of.Goals as goal
 
 pub back-smaller : goal.back-smaller

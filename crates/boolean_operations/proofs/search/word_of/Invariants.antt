@@ -1,5 +1,5 @@
 use Rattle.std.proofs.Common.{length, ◌≤◌, ◌++◌, ℕ, List}
-use Rattle.boolean_operations.specs.Search.{Spells}
+use Rattle.boolean_operations.specs.private.Search.{Spells}
 use Rattle.boolean_operations.proofs.search.word_of.Given as goal
 
 abbrev pub invariant-back : goal.invariant-back

@@ -1,6 +1,6 @@
 use Rattle.std.proofs.Common.{◌≡◌, ◌++◌, take}
 use Rattle.std.specs.List.{filter_map}
-use Rattle.determinise.specs.Subsets.{lettered_move}
+use Rattle.determinise.specs.private.Subsets.{lettered_move}
 use Rattle.determinise.proofs.moves.add_moves.Given as goal
 
 abbrev pub invariant-edges : goal.invariant-edges

@@ -1,6 +1,6 @@
 use Rattle.std.proofs.Common.{◌≡◌, ◌+◌, ◌-◌, ◌≤◌, get_or, inl, inr, subst, arith}
 use Rattle.std.proofs.lemmas.Bool.{cases_lt}
-use Rattle.determinise.specs.Subsets.{letter_of, order_key}
+use Rattle.determinise.specs.private.Subsets.{letter_of, order_key}
 use Rattle.determinise.proofs.MoveLists.{letter_from_key}
 use Rattle.determinise.proofs.moves.are_ordered.Goals as goal
 

@@ -1,5 +1,5 @@
 use Rattle.std.proofs.Common.{◌+◌, ◌<◌, ◌≤◌, ℕ}
-use Rattle.determinise.specs.Subsets.{letter_of}
+use Rattle.determinise.specs.private.Subsets.{letter_of}
 use Rattle.determinise.proofs.moves.are_ordered.Given as goal
 
 abbrev pub invariant-moves : goal.invariant-moves

@@ -1,5 +1,5 @@
 use Rattle.std.proofs.Common.{◌≡◌, ◌-◌, ◌<◌, ◌≤◌, ℕ, length}
-use Rattle.determinise.specs.Subsets.{letter_of}
+use Rattle.determinise.specs.private.Subsets.{letter_of}
 use Rattle.determinise.proofs.moves.end_of_run.Given as goal
 
 abbrev pub invariant-run : goal.invariant-run

@@ -1,5 +1,5 @@
 use Rattle.std.proofs.Common.{◌≡◌, take}
-use Rattle.determinise.specs.Subsets.{moves_from}
+use Rattle.determinise.specs.private.Subsets.{moves_from}
 use Rattle.determinise.proofs.moves.moves_from.Given as goal
 
 abbrev pub invariant-states : goal.invariant-states

@@ -1,6 +1,6 @@
 use Rattle.std.proofs.Common.{rules, ◌+◌, subst, sym, arith, get_or, IsPermutation, Contains, List, ℕ}
 use Rattle.std.proofs.lemmas.List.Sorted.{Contains-permutation, IsPermutation-sym, IsNonDecreasingBy-from_sort_by_key}
-use Rattle.determinise.specs.Subsets.{moves_from, order_key, HasOrderedLetters}
+use Rattle.determinise.specs.private.Subsets.{moves_from, order_key, HasOrderedLetters}
 use Rattle.determinise.proofs.MoveLists.{letter_from_key}
 use Rattle.determinise.proofs.moves.ordered_moves.Goals as goal
 

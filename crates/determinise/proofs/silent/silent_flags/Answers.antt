@@ -1,5 +1,5 @@
 use Rattle.std.proofs.Common.{◌∷◌, [], List, Option, ℕ, None, Contains, length, sym, ap, subst, ◌∙◌, arith, length-append}
-use Rattle.determinise.specs.Subsets.{ArePlainWhereFalse}
+use Rattle.determinise.specs.private.Subsets.{ArePlainWhereFalse}
 use Rattle.determinise.proofs.Closures.{plain_more}
 use Rattle.determinise.proofs.silent.silent_flags.Goals as goal
 

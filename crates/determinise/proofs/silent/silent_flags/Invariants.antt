@@ -1,5 +1,5 @@
 use Rattle.std.proofs.Common.{◌≡◌, length}
-use Rattle.determinise.specs.Subsets.{ArePlainWhereFalse}
+use Rattle.determinise.specs.private.Subsets.{ArePlainWhereFalse}
 use Rattle.determinise.proofs.silent.silent_flags.Given as goal
 
 abbrev pub invariant-states : goal.invariant-states

@@ -1,5 +1,5 @@
 use Rattle.std.proofs.Common.{Contains, List, ℕ, sym, subst}
-use Rattle.determinise.specs.Subsets.{IsSubsetFrom}
+use Rattle.determinise.specs.private.Subsets.{IsSubsetFrom}
 use Rattle.determinise.proofs.Closures.{subset_itself}
 use Rattle.determinise.proofs.subset.subset_of.Goals as goal
 

@@ -1,6 +1,6 @@
 use Rattle.std.proofs.Common.{[], sym, subst}
 use Rattle.exploration.specs.Residuals.{StartsWith}
-use Rattle.exploration.specs.Worklist.{Explored}
+use Rattle.exploration.specs.private.Worklist.{Explored}
 use Rattle.exploration.proofs.Steps.{begun_numbered, begun_without}
 use Rattle.exploration.proofs.construction.begin.Goals as goal
 

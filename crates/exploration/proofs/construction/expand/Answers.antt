@@ -1,7 +1,7 @@
 use Rattle.std.proofs.Common.{ℕ, [], sym, subst, add-one, arith}
 use Rattle.std.proofs.lemmas.List.{nil_from_length}
 use Rattle.std.specs.Vec.Iter.{into_iter_items}
-use Rattle.exploration.specs.Worklist.{Explored, Expands}
+use Rattle.exploration.specs.private.Worklist.{Explored, Expands}
 use Rattle.exploration.proofs.Steps.{expanded, expanded_all, none_after, edge_in_range}
 use Rattle.exploration.proofs.construction.expand.Goals as goal
 

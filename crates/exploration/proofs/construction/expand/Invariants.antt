@@ -1,5 +1,5 @@
 use Rattle.std.specs.Vec.Iter.{into_iter_items}
-use Rattle.exploration.specs.Worklist.{Expands}
+use Rattle.exploration.specs.private.Worklist.{Expands}
 use Rattle.exploration.proofs.construction.expand.Given as goal
 
 abbrev pub invariant-successors : goal.invariant-successors

@@ -1,5 +1,5 @@
 use Rattle.std.proofs.Common.{◌-◌, ◌^◌, []}
-use Rattle.exploration.specs.Worklist.{Explored}
+use Rattle.exploration.specs.private.Worklist.{Explored}
 use Rattle.exploration.proofs.construction.explore_languages.Given as goal
 
 abbrev pub invariant-states : goal.invariant-states

@@ -1,16 +1,16 @@
-use Rattle.std.proofs.Common.{refl, inl}
+use Rattle.std.proofs.Common.{◌≡◌, Some, slice_get, refl, subst, inl}
 use Rattle.exploration.proofs.construction.number.Goals as goal
 
-pub returns-then-holds : goal.returns-then-holds
-returns-then-holds g c = inl (record {
+pub returns-then-stands_at : goal.returns-then-stands_at
+returns-then-stands_at g c = inl (record {
   same_found = refl;
   same_automaton = refl;
-  at = c.if-holds.ensures refl;
+  at = subst (λ xs. slice_get xs c.args.last ≡ Some c.args.state) c.as_slice.ensures.keys (c.if-stands_at.ensures refl);
 })
 
-pub returns-then-holds-2 : goal.returns-then-holds-2
-returns-then-holds-2 g c = inl (record {
+pub returns-then-stands_at-2 : goal.returns-then-stands_at-2
+returns-then-stands_at-2 g c = inl (record {
   same_found = refl;
   same_automaton = refl;
-  at = c.if-holds-2.ensures refl;
+  at = subst (λ xs. slice_get xs c.in_ok-known.known ≡ Some c.args.state) c.as_slice-then-codes-gt0.ensures.keys (c.if-stands_at-2.ensures refl);
 })

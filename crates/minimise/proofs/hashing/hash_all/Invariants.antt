@@ -1,5 +1,5 @@
 use Rattle.std.proofs.Common.{◌≡◌, ◌<◌, ℕ, length, slice_index}
-use Rattle.minimise.specs.Rounds.{outgoing, hash_of}
+use Rattle.minimise.specs.private.Rounds.{outgoing, hash_of}
 use Rattle.minimise.proofs.hashing.hash_all.Given as goal
 
 abbrev pub invariant-states : goal.invariant-states

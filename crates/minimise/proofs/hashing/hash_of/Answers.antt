@@ -1,6 +1,6 @@
 use Rattle.std.proofs.Common.{ap, ◌∙◌, get_or, slice_index, if◌then◌else◌}
 use Rattle.word_automata.specs.Path.{is_accepting}
-use Rattle.minimise.specs.Rounds.{mixed_in}
+use Rattle.minimise.specs.private.Rounds.{mixed_in}
 use Rattle.minimise.proofs.HashLemmas.{hash_more, hash_same}
 use Rattle.minimise.proofs.hashing.hash_of.Goals as goal
 use Rattle.minimise.proofs.hashing.hash_of.Goals.{then-classes-to-ne0, else-classes-to-ne0}

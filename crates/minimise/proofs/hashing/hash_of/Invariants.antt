@@ -2,7 +2,7 @@ use Rattle.std.proofs.Common.{◌≡◌, take, if◌then◌else◌}
 use Rattle.std.specs.List.{filter_map, fold}
 use Rattle.word_automata.specs.Path.{is_accepting}
 use Rattle.minimise.specs.Refinement.{live_edge}
-use Rattle.minimise.specs.Rounds.{mixed_in_edge}
+use Rattle.minimise.specs.private.Rounds.{mixed_in_edge}
 use Rattle.minimise.proofs.hashing.hash_of.Given as goal
 
 abbrev pub invariant-edges : goal.invariant-edges

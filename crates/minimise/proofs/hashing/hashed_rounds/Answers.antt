@@ -1,5 +1,5 @@
 use Rattle.std.proofs.Common.{sym, ap, subst}
-use Rattle.minimise.specs.Rounds.{AreToldApart, AreHashes}
+use Rattle.minimise.specs.private.Rounds.{AreToldApart, AreHashes}
 use Rattle.minimise.proofs.HashLemmas.{hashes_apart}
 use Rattle.minimise.proofs.hashing.hashed_rounds.Goals as goal
 

@@ -1,4 +1,4 @@
-use Rattle.minimise.specs.Rounds.{AreToldApart}
+use Rattle.minimise.specs.private.Rounds.{AreToldApart}
 use Rattle.minimise.proofs.hashing.hashed_rounds.Given as goal
 
 abbrev pub invariant-rounds : goal.invariant-rounds

@@ -2,7 +2,7 @@ use Rattle.std.proofs.Common.{◌≡◌, ◌+◌, ◌++◌, ◌∷◌, [], nat_e
 use Rattle.std.proofs.lemmas.Bool.{cases_eq}
 use Rattle.std.proofs.lemmas.List.{get_or_past}
 use Rattle.std.specs.HashMap.{get}
-use Rattle.minimise.specs.Rounds.{first_in}
+use Rattle.minimise.specs.private.Rounds.{first_in}
 use Rattle.minimise.proofs.Splitting.{IsSplitting, splitting_none, splitting_more, splitting_all}
 use Rattle.minimise.proofs.numbering.by_least_states.Goals as goal
 

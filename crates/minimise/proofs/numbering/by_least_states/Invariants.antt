@@ -1,7 +1,7 @@
 use Rattle.std.proofs.Common.{nat_eq, slice_index}
 use Rattle.std.proofs.lemmas.Bool.{cases_eq}
 use Rattle.std.specs.HashMap.{get}
-use Rattle.minimise.specs.Rounds.{first_in}
+use Rattle.minimise.specs.private.Rounds.{first_in}
 use Rattle.minimise.proofs.Splitting.{IsSplitting}
 use Rattle.minimise.proofs.numbering.by_least_states.Given as goal
 

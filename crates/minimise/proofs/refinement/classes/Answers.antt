@@ -1,6 +1,6 @@
 use Rattle.std.proofs.Common.{ℕ, List, length, slice_index, subst}
 use Rattle.minimise.specs.Refinement.{AreGrouped}
-use Rattle.minimise.specs.Rounds.{AreAlike}
+use Rattle.minimise.specs.private.Rounds.{AreAlike}
 use Rattle.minimise.proofs.Refining.{least_coarse, stable}
 use Rattle.minimise.proofs.refinement.classes.Goals as goal
 

@@ -1,5 +1,5 @@
 use Rattle.std.proofs.Common.{◌≡◌, ◌-◌, ◌<◌, ◌≤◌, ℕ, length}
-use Rattle.minimise.specs.Splitters.{letter_at}
+use Rattle.minimise.specs.private.Splitters.{letter_at}
 use Rattle.minimise.proofs.splitters.end_of_run.Given as goal
 
 abbrev pub invariant-run : goal.invariant-run

@@ -1,6 +1,6 @@
 use Rattle.std.proofs.Common.{ℕ, rules, subst, arith}
 use Rattle.std.proofs.lemmas.List.Sorted.{Contains-permutation, IsPermutation-sym, IsNonDecreasingBy-from_sort_by_key}
-use Rattle.minimise.specs.Splitters.{AddsMovesOf}
+use Rattle.minimise.specs.private.Splitters.{AddsMovesOf}
 use Rattle.minimise.proofs.FoundMoves.{moves_of}
 use Rattle.minimise.proofs.MemberLists.{listed_less, members_less}
 use Rattle.minimise.proofs.splitters.find_moves.Goals as goal

@@ -1,6 +1,6 @@
 use Rattle.std.proofs.Common.{◌≡◌, ◌<◌, ◌⊎◌, length, slice_index, sym, ap, subst, ◌∙◌, arith}
 use Rattle.std.proofs.lemmas.List.{length-set}
-use Rattle.minimise.specs.Splitters.{IsListed}
+use Rattle.minimise.specs.private.Splitters.{IsListed}
 use Rattle.minimise.proofs.MemberLists.{members_more, members_same}
 use Rattle.minimise.proofs.splitters.members.Goals as goal
 use Rattle.minimise.proofs.splitters.members.Goals.{then-class-ne0+in_ok-push, else-class-ne0}

@@ -1,5 +1,5 @@
 use Rattle.std.proofs.Common.{◌≡◌, ◌<◌, ◌⊎◌, ℕ, length, slice_index}
-use Rattle.minimise.specs.Splitters.{IsListed}
+use Rattle.minimise.specs.private.Splitters.{IsListed}
 use Rattle.minimise.proofs.splitters.members.Given as goal
 
 abbrev pub invariant-states : goal.invariant-states

@@ -1,6 +1,6 @@
 use Rattle.std.proofs.Common.{◌≡◌, ◌+◌, ◌<◌, length, set, slice_index, sym, ap, subst, ◌∙◌, arith}
 use Rattle.std.proofs.lemmas.List.{get_or_default, length-set}
-use Rattle.minimise.specs.Splitters.{AreListed, AreMovedBefore, target_of, source_at}
+use Rattle.minimise.specs.private.Splitters.{AreListed, AreMovedBefore, target_of, source_at}
 use Rattle.minimise.proofs.MovedSources.{moved_past, moved_same, moved_more, target_twice, target_within, listed_moved}
 use Rattle.minimise.proofs.splitters.move_sources.Goals as goal
 use Rattle.minimise.proofs.splitters.move_sources.Goals.{then-state-len+then-target-class+in_ok-push, then-state-len+else-target-class, else-state-len}

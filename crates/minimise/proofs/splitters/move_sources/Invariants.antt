@@ -1,5 +1,5 @@
 use Rattle.std.proofs.Common.{◌≡◌, length}
-use Rattle.minimise.specs.Splitters.{AreListed, AreMovedBefore, target_of}
+use Rattle.minimise.specs.private.Splitters.{AreListed, AreMovedBefore, target_of}
 use Rattle.minimise.proofs.splitters.move_sources.Given as goal
 
 abbrev pub invariant-moves : goal.invariant-moves

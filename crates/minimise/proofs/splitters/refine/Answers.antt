@@ -1,5 +1,5 @@
 use Rattle.std.proofs.Common.{◌≤◌, ℕ, List, length, slice_index, sym, subst}
-use Rattle.minimise.specs.Splitters.{AreListed, AreMovesInto, IsSaturated}
+use Rattle.minimise.specs.private.Splitters.{AreListed, AreMovesInto, IsSaturated}
 use Rattle.minimise.proofs.Refining.{coarse_apart}
 use Rattle.minimise.proofs.FoundMoves.{moves_saturated}
 use Rattle.minimise.proofs.MemberLists.{class_le}

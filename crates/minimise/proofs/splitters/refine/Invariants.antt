@@ -1,5 +1,5 @@
-use Rattle.minimise.specs.Rounds.{AreToldApart}
-use Rattle.minimise.specs.Splitters.{AreListed}
+use Rattle.minimise.specs.private.Rounds.{AreToldApart}
+use Rattle.minimise.specs.private.Splitters.{AreListed}
 use Rattle.minimise.proofs.splitters.refine.Given as goal
 
 abbrev pub invariant-splitters : goal.invariant-splitters

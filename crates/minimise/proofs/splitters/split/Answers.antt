@@ -1,5 +1,5 @@
 use Rattle.std.proofs.Common.{length}
-use Rattle.minimise.specs.Splitters.{target_of}
+use Rattle.minimise.specs.private.Splitters.{target_of}
 use Rattle.minimise.proofs.MovedSources.{moved_soundly}
 use Rattle.minimise.proofs.splitters.split.Goals as goal
 

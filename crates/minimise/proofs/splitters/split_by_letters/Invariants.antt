@@ -1,5 +1,5 @@
 use Rattle.std.proofs.Common.{◌-◌, ◌<◌, ◌≤◌, ℕ, length}
-use Rattle.minimise.specs.Splitters.{AreListed, letter_at, SplitsSoundly, IsSaturated}
+use Rattle.minimise.specs.private.Splitters.{AreListed, letter_at, SplitsSoundly, IsSaturated}
 use Rattle.minimise.proofs.splitters.split_by_letters.Given as goal
 
 abbrev pub invariant-runs : goal.invariant-runs

@@ -1,7 +1,7 @@
 use Rattle.std.proofs.Common.{◌≡◌, ◌-◌, slice_index, sym, subst, ◌∙◌, arith}
 use Rattle.std.specs.Cmp.Lexicographic.{pointwise_decides}
 use Rattle.word_automata.specs.Path.{is_accepting}
-use Rattle.minimise.specs.Rounds.{outgoing}
+use Rattle.minimise.specs.private.Rounds.{outgoing}
 use Rattle.minimise.specs.SignatureLaws.{beq-decides, same_edge-decides}
 use Rattle.minimise.proofs.stability.is_like_least.Goals as goal
 

@@ -1,5 +1,5 @@
 use Rattle.std.proofs.Common.{arith, below_more}
-use Rattle.minimise.specs.Rounds.{IsLikeLeast}
+use Rattle.minimise.specs.private.Rounds.{IsLikeLeast}
 use Rattle.minimise.proofs.OwnSignatures.{all_alike}
 use Rattle.minimise.proofs.stability.is_stable.Goals as goal
 

@@ -1,5 +1,5 @@
 use Rattle.std.proofs.Common.{◌<◌, ℕ}
-use Rattle.minimise.specs.Rounds.{IsLikeLeast}
+use Rattle.minimise.specs.private.Rounds.{IsLikeLeast}
 use Rattle.minimise.proofs.stability.is_stable.Given as goal
 
 abbrev pub invariant-states : goal.invariant-states

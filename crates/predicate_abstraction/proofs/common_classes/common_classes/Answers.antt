@@ -1,7 +1,7 @@
 use Rattle.std.proofs.Common.{◌≡◌, ◌+◌, length, sym, subst, arith}
 use Rattle.std.proofs.lemmas.Result.{IfOk-weaker}
 use Rattle.abstraction.specs.FirstStates.{AreFirsts}
-use Rattle.predicate_abstraction.specs.Splitting.{AreCommon}
+use Rattle.predicate_abstraction.specs.private.Splitting.{AreCommon}
 use Rattle.predicate_abstraction.proofs.ClassPairs.{HasPlaces, places_more, common_all}
 use Rattle.predicate_abstraction.proofs.common_classes.common_classes.Goals as goal
 

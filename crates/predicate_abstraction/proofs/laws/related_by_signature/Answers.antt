@@ -1,4 +1,4 @@
-use Rattle.predicate_abstraction.specs.SignatureLaws
+use Rattle.predicate_abstraction.proofs.SignatureLaws
 use Rattle.predicate_abstraction.proofs.laws.related_by_signature.Goals as goal
 
 pub returns-clause-related : goal.returns-clause-related

@@ -1,6 +1,6 @@
 use Rattle.std.proofs.Common.{◌+◌, ℕ, List, length, take, get_or, ap, subst, ◌∙◌, sym, arith}
 use Rattle.std.proofs.lemmas.List.{take_all}
-use Rattle.predicate_abstraction.specs.Reversal.{HasReversed}
+use Rattle.predicate_abstraction.specs.private.Reversal.{HasReversed}
 use Rattle.predicate_abstraction.proofs.Reverses.{reversed_more, reversed_next}
 use Rattle.predicate_abstraction.proofs.reversal.add_reversed.Goals as goal
 

@@ -1,5 +1,5 @@
 use Rattle.std.proofs.Common.{take}
-use Rattle.predicate_abstraction.specs.Reversal.{HasReversed}
+use Rattle.predicate_abstraction.specs.private.Reversal.{HasReversed}
 use Rattle.predicate_abstraction.proofs.reversal.add_reversed.Given as goal
 
 abbrev pub invariant-edges : goal.invariant-edges

@@ -1,5 +1,5 @@
 use Rattle.std.proofs.Common.{◌≡◌, length, sym, subst, arith}
-use Rattle.predicate_abstraction.specs.Reversal.{IsReverse}
+use Rattle.predicate_abstraction.specs.private.Reversal.{IsReverse}
 use Rattle.predicate_abstraction.proofs.Edges.{edge_within}
 use Rattle.predicate_abstraction.proofs.Reverses.{reversed_all}
 use Rattle.predicate_abstraction.proofs.reversal.reversed.Goals as goal

@@ -1,5 +1,5 @@
 use Rattle.std.proofs.Common.{[]}
-use Rattle.predicate_abstraction.specs.Reversal.{HasReversed}
+use Rattle.predicate_abstraction.specs.private.Reversal.{HasReversed}
 use Rattle.predicate_abstraction.proofs.reversal.reversed.Given as goal
 
 abbrev pub invariant-states : goal.invariant-states

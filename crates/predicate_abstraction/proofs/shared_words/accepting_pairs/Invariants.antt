@@ -1,6 +1,6 @@
 use Rattle.std.proofs.Common.{[], length}
-use Rattle.predicate_abstraction.specs.Pairs.{AddsPairs}
-use Rattle.predicate_abstraction.specs.SharedWords.{AreAccepting}
+use Rattle.predicate_abstraction.specs.private.Pairs.{AddsPairs}
+use Rattle.predicate_abstraction.specs.private.SharedWords.{AreAccepting}
 use Rattle.predicate_abstraction.proofs.shared_words.accepting_pairs.Given as goal
 
 abbrev pub invariant-states : goal.invariant-states

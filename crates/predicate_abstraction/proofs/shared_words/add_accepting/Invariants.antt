@@ -1,5 +1,5 @@
-use Rattle.predicate_abstraction.specs.Pairs.{AddsPairs}
-use Rattle.predicate_abstraction.specs.SharedWords.{IsAcceptingIn}
+use Rattle.predicate_abstraction.specs.private.Pairs.{AddsPairs}
+use Rattle.predicate_abstraction.specs.private.SharedWords.{IsAcceptingIn}
 use Rattle.predicate_abstraction.proofs.shared_words.add_accepting.Given as goal
 
 abbrev pub invariant-states : goal.invariant-states

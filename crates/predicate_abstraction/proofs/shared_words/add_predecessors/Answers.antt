@@ -1,7 +1,7 @@
 use Rattle.std.proofs.Common.{◌<◌, ◌+◌, ◌*◌, ℕ, List, Option, None, All, IfSome, length, get_or, sym, ap, subst, ◌∙◌, arith}
 use Rattle.word_automata.specs.Path.{edges_of}
-use Rattle.predicate_abstraction.specs.Pairs.{AddsPairs}
-use Rattle.predicate_abstraction.specs.SharedWords.{IsSource}
+use Rattle.predicate_abstraction.specs.private.Pairs.{AddsPairs}
+use Rattle.predicate_abstraction.specs.private.SharedWords.{IsSource}
 use Rattle.predicate_abstraction.proofs.Adding.{predecessors_more, predecessors_kept}
 use Rattle.predicate_abstraction.proofs.SourceLists.{source_states}
 use Rattle.predicate_abstraction.proofs.shared_words.add_predecessors.Goals as goal

@@ -1,7 +1,7 @@
 use Rattle.std.proofs.Common.{◌<◌, ℕ, List, Option, All, IfSome, sym, subst, arith}
 use Rattle.std.proofs.lemmas.Option.{get_or_from_slice_get}
-use Rattle.predicate_abstraction.specs.Pairs.{AddsPairs}
-use Rattle.predicate_abstraction.specs.SharedWords.{AreSources}
+use Rattle.predicate_abstraction.specs.private.Pairs.{AddsPairs}
+use Rattle.predicate_abstraction.specs.private.SharedWords.{AreSources}
 use Rattle.predicate_abstraction.proofs.Sharing.{shares_more, shares_all, sources_within, labels_within}
 use Rattle.predicate_abstraction.proofs.shared_words.shared_words.Goals as goal
 

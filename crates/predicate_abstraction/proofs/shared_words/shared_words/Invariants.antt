@@ -1,5 +1,5 @@
 use Rattle.std.proofs.Common.{◌-◌, ◌^◌}
-use Rattle.predicate_abstraction.specs.SharedWords.{SharesWords}
+use Rattle.predicate_abstraction.specs.private.SharedWords.{SharesWords}
 use Rattle.predicate_abstraction.proofs.shared_words.shared_words.Given as goal
 
 abbrev pub invariant-pairs : goal.invariant-pairs

@@ -1,6 +1,6 @@
 use Rattle.std.proofs.Common.{rules, sym, subst}
 use Rattle.std.proofs.lemmas.Result.{IfOk-weaker}
-use Rattle.predicate_abstraction.specs.Splitting.{AreClassesBy, AreCommon}
+use Rattle.predicate_abstraction.specs.private.Splitting.{AreClassesBy, AreCommon}
 use Rattle.predicate_abstraction.proofs.ClassPairs.{classes_by_both}
 use Rattle.predicate_abstraction.proofs.shares.+classes_in_shares+fn-classes_in_shares-join+arg3.Goals as goal
 

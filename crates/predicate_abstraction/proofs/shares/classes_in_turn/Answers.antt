@@ -1,7 +1,7 @@
 use Rattle.std.proofs.Common.{List, ℕ, length, subst, arith}
 use Rattle.std.proofs.lemmas.List.{take_all}
 use Rattle.word_automata.specs.Automaton.{Automaton}
-use Rattle.predicate_abstraction.specs.Splitting.{IsSplitBefore, AreClassesBy}
+use Rattle.predicate_abstraction.specs.private.Splitting.{IsSplitBefore, AreClassesBy}
 use Rattle.predicate_abstraction.proofs.Parts.{classes_by_more}
 use Rattle.predicate_abstraction.proofs.shares.classes_in_turn.Goals as goal
 

@@ -1,6 +1,6 @@
 use Rattle.std.proofs.Common.{◌+◌, ◌*◌, ℕ, List, length, take, get_or, ap, subst, ◌∙◌, sym, arith}
 use Rattle.std.proofs.lemmas.List.{take_all}
-use Rattle.predicate_abstraction.specs.Sources.{HasSources}
+use Rattle.predicate_abstraction.specs.private.Sources.{HasSources}
 use Rattle.predicate_abstraction.proofs.SourceLists.{sources_more, sources_next}
 use Rattle.predicate_abstraction.proofs.sources.add_sources_from.Goals as goal
 

@@ -1,5 +1,5 @@
 use Rattle.std.proofs.Common.{take}
-use Rattle.predicate_abstraction.specs.Sources.{HasSources}
+use Rattle.predicate_abstraction.specs.private.Sources.{HasSources}
 use Rattle.predicate_abstraction.proofs.sources.add_sources_from.Given as goal
 
 abbrev pub invariant-edges : goal.invariant-edges

@@ -1,5 +1,5 @@
 use Rattle.std.proofs.Common.{◌≡◌, length, sym, subst, arith}
-use Rattle.predicate_abstraction.specs.Sources.{AreSourcesByLetter}
+use Rattle.predicate_abstraction.specs.private.Sources.{AreSourcesByLetter}
 use Rattle.predicate_abstraction.proofs.SourceLists.{sources_all}
 use Rattle.predicate_abstraction.proofs.sources.sources_by_letter.Goals as goal
 

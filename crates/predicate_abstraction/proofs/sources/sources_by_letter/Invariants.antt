@@ -1,5 +1,5 @@
 use Rattle.std.proofs.Common.{[]}
-use Rattle.predicate_abstraction.specs.Sources.{HasSources}
+use Rattle.predicate_abstraction.specs.private.Sources.{HasSources}
 use Rattle.predicate_abstraction.proofs.sources.sources_by_letter.Given as goal
 
 abbrev pub invariant-states : goal.invariant-states

@@ -1,7 +1,7 @@
 use Rattle.std.proofs.Common.{◌≡◌, ℕ, List, length, subst, arith}
 use Rattle.std.proofs.lemmas.Result.{IfOk-weaker}
 use Rattle.abstraction.specs.Partitions.{IsRefined, IsNumbering}
-use Rattle.predicate_abstraction.specs.Splitting.{IsSplitBefore}
+use Rattle.predicate_abstraction.specs.private.Splitting.{IsSplitBefore}
 use Rattle.predicate_abstraction.proofs.Parts.{HasSplit, split_more, split_numbered}
 use Rattle.predicate_abstraction.proofs.splitting.split_by_predicate.Goals as goal
 

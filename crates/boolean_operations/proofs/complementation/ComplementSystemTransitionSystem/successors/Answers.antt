@@ -2,7 +2,7 @@ use Rattle.std.proofs.Common.{◌≡◌, ◌+◌, ◌++◌, ◌∷◌, [], suc, 
 use Rattle.word_automata.specs.Automaton.{IsValid, HasIncreasingLetters}
 use Rattle.exploration.specs.System.{IsSuccessors}
 use Rattle.boolean_operations.specs.OptionalStates.{follow, IsStateOrNone}
-use Rattle.boolean_operations.specs.MergedEdges.{IsPassed, IsTaken}
+use Rattle.boolean_operations.specs.private.MergedEdges.{IsPassed, IsTaken}
 use Rattle.boolean_operations.specs.Complements.{complement_system}
 use Rattle.boolean_operations.proofs.Letters.{valued, valued-suc}
 use Rattle.boolean_operations.proofs.OptionalStates.{edges_at-increasing, follow-edges}

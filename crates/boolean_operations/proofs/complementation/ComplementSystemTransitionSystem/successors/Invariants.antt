@@ -1,6 +1,6 @@
 use Rattle.std.proofs.Common.{◌≡◌}
 use Rattle.boolean_operations.specs.OptionalStates.{follow, edges_at}
-use Rattle.boolean_operations.specs.MergedEdges.{IsPassed}
+use Rattle.boolean_operations.specs.private.MergedEdges.{IsPassed}
 use Rattle.boolean_operations.proofs.Letters.{valued}
 use Rattle.boolean_operations.proofs.complementation.ComplementSystemTransitionSystem.successors.Given as goal
 

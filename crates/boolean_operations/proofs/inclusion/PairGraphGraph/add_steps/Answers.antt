@@ -1,8 +1,8 @@
 use Rattle.std.proofs.Common.{◌+◌, ℕ, List, None, Some, get_or, length, sym, ap, subst, ◌∙◌, arith, Option}
 use Rattle.word_automata.specs.Path.{edges_of}
 use Rattle.word_automata.specs.Automaton.{HasIncreasingLetters, find_target}
-use Rattle.boolean_operations.specs.Search.{Gathers}
-use Rattle.boolean_operations.specs.PairGraph.{IsPair, IsStepAmong}
+use Rattle.boolean_operations.specs.private.Search.{Gathers}
+use Rattle.boolean_operations.specs.private.PairGraph.{IsPair, IsStepAmong}
 use Rattle.boolean_operations.proofs.OptionalStates.{edges_at-increasing, follow-edges}
 use Rattle.boolean_operations.proofs.PairWalks.{gathers_none, edge_read, step_more, step_other, steps_all}
 use Rattle.boolean_operations.proofs.inclusion.PairGraphGraph.add_steps.Goals as goal

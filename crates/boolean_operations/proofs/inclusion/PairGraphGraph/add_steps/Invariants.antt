@@ -1,7 +1,7 @@
 use Rattle.std.proofs.Common.{ℕ, Option}
 use Rattle.word_automata.specs.Path.{edges_of}
-use Rattle.boolean_operations.specs.Search.{Gathers}
-use Rattle.boolean_operations.specs.PairGraph.{IsPair, IsStepAmong}
+use Rattle.boolean_operations.specs.private.Search.{Gathers}
+use Rattle.boolean_operations.specs.private.PairGraph.{IsPair, IsStepAmong}
 use Rattle.boolean_operations.proofs.inclusion.PairGraphGraph.add_steps.Given as goal
 
 abbrev pub invariant-edges : goal.invariant-edges

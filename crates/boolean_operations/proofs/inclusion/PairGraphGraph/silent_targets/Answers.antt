@@ -1,7 +1,7 @@
 use Rattle.std.proofs.Common.{◌+◌, ℕ, List, [], None, get_or, length, refl, sym, ap, subst, ◌∙◌, arith, Option}
 use Rattle.word_automata.specs.Path.{edges_of}
-use Rattle.boolean_operations.specs.Search.{Gathers}
-use Rattle.boolean_operations.specs.PairGraph.{IsPair, IsSilentAmong}
+use Rattle.boolean_operations.specs.private.Search.{Gathers}
+use Rattle.boolean_operations.specs.private.PairGraph.{IsPair, IsSilentAmong}
 use Rattle.sequence.proofs.Tests.{none_from_test, some_from_test}
 use Rattle.boolean_operations.proofs.PairWalks.{gathers_none, edge_read, silent_more, silent_other, silent_all}
 use Rattle.boolean_operations.proofs.inclusion.PairGraphGraph.silent_targets.Goals as goal

@@ -1,7 +1,7 @@
 use Rattle.std.proofs.Common.{[]}
 use Rattle.word_automata.specs.Path.{edges_of}
-use Rattle.boolean_operations.specs.Search.{Gathers}
-use Rattle.boolean_operations.specs.PairGraph.{IsPair, IsSilentAmong}
+use Rattle.boolean_operations.specs.private.Search.{Gathers}
+use Rattle.boolean_operations.specs.private.PairGraph.{IsPair, IsSilentAmong}
 use Rattle.boolean_operations.proofs.inclusion.PairGraphGraph.silent_targets.Given as goal
 
 abbrev pub invariant-edges : goal.invariant-edges

@@ -1,7 +1,7 @@
 use Rattle.std.proofs.Common.{◌≡◌, ◌+◌, ℕ, List, [], Some, get_or, length, slice_get, sym, ap, subst, arith}
 use Rattle.std.proofs.lemmas.Option.{slice_get-get_or}
-use Rattle.boolean_operations.specs.Search.{Gathers}
-use Rattle.boolean_operations.specs.PairGraph.{IsPair, IsStartPair, IsStartAmong}
+use Rattle.boolean_operations.specs.private.Search.{Gathers}
+use Rattle.boolean_operations.specs.private.PairGraph.{IsPair, IsStartPair, IsStartAmong}
 use Rattle.boolean_operations.proofs.PairWalks.{gathers_none, gathered_states, gathered_members, start_more, starts_all}
 use Rattle.boolean_operations.proofs.inclusion.PairGraphGraph.starts.Goals as goal
 

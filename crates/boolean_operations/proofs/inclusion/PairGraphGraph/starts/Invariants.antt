@@ -1,6 +1,6 @@
 use Rattle.std.proofs.Common.{[]}
-use Rattle.boolean_operations.specs.Search.{Gathers}
-use Rattle.boolean_operations.specs.PairGraph.{IsPair, IsStartAmong}
+use Rattle.boolean_operations.specs.private.Search.{Gathers}
+use Rattle.boolean_operations.specs.private.PairGraph.{IsPair, IsStartAmong}
 use Rattle.boolean_operations.proofs.inclusion.PairGraphGraph.starts.Given as goal
 
 abbrev pub invariant-starts : goal.invariant-starts

@@ -1,7 +1,7 @@
 use Rattle.std.proofs.Common.{◌≡◌, ◌+◌, ℕ, List, Some, get_or, length, slice_get, sym, ap, subst, arith}
 use Rattle.std.proofs.lemmas.Option.{slice_get-get_or}
 use Rattle.word_automata.specs.Path.{edges_of}
-use Rattle.boolean_operations.specs.Search.{Gathers}
+use Rattle.boolean_operations.specs.private.Search.{Gathers}
 use Rattle.boolean_operations.specs.LeastWords.{IsStateOf, IsEdgeAmong}
 use Rattle.boolean_operations.proofs.PairWalks.{gathers_none}
 use Rattle.boolean_operations.proofs.StateWalks.{edge_more, edges_all}

@@ -1,6 +1,6 @@
 use Rattle.std.proofs.Common.{ℕ}
 use Rattle.word_automata.specs.Path.{edges_of}
-use Rattle.boolean_operations.specs.Search.{Gathers}
+use Rattle.boolean_operations.specs.private.Search.{Gathers}
 use Rattle.boolean_operations.specs.LeastWords.{IsStateOf, IsEdgeAmong}
 use Rattle.boolean_operations.proofs.least_words.StateGraphGraph.add_steps.Given as goal
 

@@ -2,7 +2,7 @@ use Rattle.std.proofs.Common.{ℕ, List, length, inl, inr, sym, ap, subst, ◌�
 use Rattle.std.proofs.lemmas.Option.{slice_get_within}
 use Rattle.word_automata.specs.Automaton.{HasIncreasingLetters}
 use Rattle.boolean_operations.specs.OptionalStates.{edges_at}
-use Rattle.boolean_operations.specs.MergedEdges.{IsPassed, IsTaken, IsLeastLetter, IsMerging}
+use Rattle.boolean_operations.specs.private.MergedEdges.{IsPassed, IsTaken, IsLeastLetter, IsMerging}
 use Rattle.boolean_operations.proofs.OptionalStates.{edges_at-increasing}
 use Rattle.boolean_operations.proofs.MergedPairs.{merging_nothing, left_passed, right_passed, merging_none, merging_pair, merged_all}
 use Rattle.boolean_operations.proofs.products.ProductTransitionSystem.successors.Goals as goal

@@ -1,6 +1,6 @@
 use Rattle.std.proofs.Common.{length, ◌-◌, ◌+◌}
 use Rattle.boolean_operations.specs.OptionalStates.{edges_at}
-use Rattle.boolean_operations.specs.MergedEdges.{IsMerging}
+use Rattle.boolean_operations.specs.private.MergedEdges.{IsMerging}
 use Rattle.boolean_operations.proofs.products.ProductTransitionSystem.successors.Given as goal
 
 abbrev pub invariant-letters : goal.invariant-letters

@@ -1,5 +1,5 @@
 use Rattle.std.proofs.Common.{ℕ, List, subst}
-use Rattle.determinise.specs.Subsets.{IsSubsetFrom}
+use Rattle.determinise.specs.private.Subsets.{IsSubsetFrom}
 use Rattle.word_automata.proofs.StateSets.{closure_accepts}
 use Rattle.determinise.proofs.subsets.SubsetsLanguageSystem.start.Goals as goal
 

@@ -1,9 +1,9 @@
 use Rattle.std.proofs.Common.{◌≡◌, ◌↔◌, Contains, ◌++◌, ◌∷◌, [], ℕ, List, map, sym, subst, ap, ◌∙◌, arith}
 use Rattle.std.proofs.lemmas.List.{get_or_default}
-use Rattle.determinise.specs.Subsets.{IsRun, letter_of}
+use Rattle.determinise.specs.private.Subsets.{IsRun, letter_of}
 use Rattle.determinise.proofs.Closures.{AreStates-members}
 use Rattle.word_automata.proofs.StateSets.{same_members_accept}
-use Rattle.determinise.proofs.Reductions.{kept_accept}
+use Rattle.reduction.proofs.ForCallers.{kept_accept}
 use Rattle.determinise.proofs.Grouping.{IsGrouped, run_of, grouped_more, grouped_all, targets_are_states}
 use Rattle.determinise.proofs.subsets.SubsetsLanguageSystem.successors.Goals as goal
 

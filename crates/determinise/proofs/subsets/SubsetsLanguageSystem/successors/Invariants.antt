@@ -1,5 +1,5 @@
 use Rattle.std.proofs.Common.{◌-◌, length}
-use Rattle.determinise.specs.Subsets.{IsSubset, AreOrderedMoves}
+use Rattle.determinise.specs.private.Subsets.{IsSubset, AreOrderedMoves}
 use Rattle.determinise.proofs.Grouping.{IsGrouped}
 use Rattle.determinise.proofs.subsets.SubsetsLanguageSystem.successors.Given as goal
 

@@ -1,6 +1,6 @@
 use Rattle.std.proofs.Common.{ap, subst, ◌∙◌, arith, slice_index, length}
 use Rattle.std.proofs.lemmas.List.{length-replicate}
-use Rattle.minimise.specs.Splitters.{AddsEdges}
+use Rattle.minimise.specs.private.Splitters.{AddsEdges}
 use Rattle.minimise.proofs.Chains.{incoming_none, incoming_more, incoming_all}
 use Rattle.minimise.proofs.Refining.{index-zeros}
 use Rattle.minimise.proofs.incoming.Incoming.new.Goals as goal

@@ -1,7 +1,7 @@
 use Rattle.std.proofs.Common.{◌≡◌, ◌+◌, ℕ, List, [], ◌∷◌, ◌++◌, get_or, slice_set, sym, ap, subst, ◌∙◌, arith}
 use Rattle.std.proofs.lemmas.List.{get_or_default}
 use Rattle.std.proofs.lemmas.Option.{get_or_from_slice_get}
-use Rattle.predicate_abstraction.specs.Pairs.{AreLinked}
+use Rattle.predicate_abstraction.specs.private.Pairs.{AreLinked}
 use Rattle.predicate_abstraction.proofs.Links.{linked_more}
 use Rattle.predicate_abstraction.proofs.columns.Columns.new.Goals as goal
 

@@ -1,4 +1,4 @@
-use Rattle.predicate_abstraction.specs.Pairs.{AreLinked}
+use Rattle.predicate_abstraction.specs.private.Pairs.{AreLinked}
 use Rattle.predicate_abstraction.proofs.columns.Columns.new.Given as goal
 
 abbrev pub invariant-pairs : goal.invariant-pairs

@@ -1,7 +1,7 @@
 use Rattle.std.proofs.Common.{◌≡◌, ◌+◌, ◌-◌, ◌<◌, ℕ, List, [], ◌∷◌, ◌++◌, length, get_or, sym, ap, subst, ◌∙◌, arith}
 use Rattle.std.proofs.lemmas.List.{get_or_default}
 use Rattle.std.proofs.lemmas.Option.{get_or_from_slice_get}
-use Rattle.predicate_abstraction.specs.Pairs.{IsLastLink}
+use Rattle.predicate_abstraction.specs.private.Pairs.{IsLastLink}
 use Rattle.predicate_abstraction.proofs.Links.{HasRows, rows_more}
 use Rattle.predicate_abstraction.proofs.columns.Columns.put_rows.Goals as goal
 

@@ -1,6 +1,6 @@
 use Rattle.std.proofs.Common.{◌≡◌, ◌<◌, ℕ, List, true, false, Contains, length, get_or, slice_set, sym, ap, subst, ◌∙◌, arith}
 use Rattle.std.proofs.lemmas.List.{get_or_default}
-use Rattle.predicate_abstraction.specs.Pairs.{Pairs, AreMarked, AddsPairs}
+use Rattle.predicate_abstraction.specs.private.Pairs.{Pairs, AreMarked, AddsPairs}
 use Rattle.predicate_abstraction.proofs.Marks.{marked_more, adds_known, adds_new}
 use Rattle.predicate_abstraction.proofs.pair_set.PairSet.insert.Goals as goal
 

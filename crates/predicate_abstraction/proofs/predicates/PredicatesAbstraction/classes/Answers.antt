@@ -4,7 +4,7 @@ use Rattle.std.proofs.lemmas.Result.{IfOk-weaker}
 use Rattle.word_automata.specs.Automaton.{Automaton}
 use Rattle.abstraction.specs.Merging.{AreClasses}
 use Rattle.predicate_abstraction.specs.Predicates.{RefinedKey, MeetSame, predicates, key_of}
-use Rattle.predicate_abstraction.specs.Splitting.{AreClassesBy}
+use Rattle.predicate_abstraction.specs.private.Splitting.{AreClassesBy}
 use Rattle.predicate_abstraction.proofs.Parts.{classes_by_all}
 use Rattle.predicate_abstraction.proofs.predicates.PredicatesAbstraction.classes.Goals as goal
 

@@ -1,0 +1,5 @@
+-- What only contracts of private functions cite.
+pub mod MergedEdges
+pub mod PairGraph
+pub mod Products
+pub mod Search

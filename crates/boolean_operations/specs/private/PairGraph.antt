@@ -1,0 +1,41 @@
+-- Pairs of a state of a nondeterministic automaton and a state of a deterministic one or none, as a graph.
+use Rattle.std.specs.Prelude.{◌≡◌, ◌<◌, ◌&&◌, ℕ, Bool, not, List, Option, None, Some, Contains, length, slice_get}
+use Rattle.word_automata.specs.Path.{edges_of, is_accepting}
+use Rattle.word_automata.specs.Automaton.{Automaton, IsValid}
+use Rattle.word_automata.specs.Nondeterministic.{NondeterministicAutomaton, IsInRange}
+use Rattle.boolean_operations.specs.OptionalStates.{start_of, follow, accepts_at, IsStateOrNone}
+
+-- both automata are valid, and the pair has a state of the first, and one of the second or none
+abbrev pub IsPair : NondeterministicAutomaton → Automaton → ℕ × Option ℕ → Type 0
+IsPair n m pair = IsInRange n × IsValid m × (pair.0 < length n.states) × IsStateOrNone m pair.1
+
+-- both words begin here
+abbrev pub IsStartPair : NondeterministicAutomaton → Automaton → ℕ × Option ℕ → Type 0
+IsStartPair n m pair = Contains n.starts pair.0 × (pair.1 ≡ start_of m.states)
+
+-- where a letter or none leads
+abbrev pub advance : Automaton → Option ℕ → Option ℕ → Option ℕ
+advance m q None = q
+advance m q (Some a) = follow m q a
+
+-- an edge of the first automaton, along which the second one goes
+abbrev pub PairEdge : NondeterministicAutomaton → Automaton → ℕ × Option ℕ → Option ℕ → ℕ × Option ℕ → Type 0
+PairEdge n m s l r = Contains (edges_of n.states s.0) (l, r.0) × (r.1 ≡ advance m s.1 l)
+
+-- the first accepts, and the second does not
+abbrev pub is_outside_pair : NondeterministicAutomaton → Automaton → ℕ × Option ℕ → Bool
+is_outside_pair n m pair = is_accepting n.states pair.0 && not (accepts_at m pair.1)
+
+-- both accept
+abbrev pub is_common_pair : NondeterministicAutomaton → Automaton → ℕ × Option ℕ → Bool
+is_common_pair n m pair = is_accepting n.states pair.0 && accepts_at m pair.1
+
+-- what the first k starts or edges become
+abbrev pub IsStartAmong : Automaton → List ℕ → ℕ → ℕ × Option ℕ → Type 0
+IsStartAmong m starts k s = (i : ℕ) × (i < k) × (slice_get starts i ≡ Some s.0) × (s.1 ≡ start_of m.states)
+
+abbrev pub IsSilentAmong : Option ℕ → List (Option ℕ × ℕ) → ℕ → ℕ × Option ℕ → Type 0
+IsSilentAmong q edges k r = (i : ℕ) × (i < k) × (slice_get edges i ≡ Some (None, r.0)) × (r.1 ≡ q)
+
+abbrev pub IsStepAmong : Automaton → Option ℕ → List (Option ℕ × ℕ) → ℕ → ℕ × (ℕ × Option ℕ) → Type 0
+IsStepAmong m q edges k step = (i : ℕ) × (i < k) × (slice_get edges i ≡ Some (Some step.0, step.1.0)) × (step.1.1 ≡ follow m q step.0)

@@ -1,6 +1,0 @@
-use Rattle.std.proofs.Common.{◌≡◌, take}
-use Rattle.determinise.specs.Reduction.{with_starts}
-use Rattle.determinise.proofs.copying.add_starts.Given as goal
-
-abbrev pub invariant-starts : goal.invariant-starts
-invariant-starts l = l.builder ≡ with_starts l.fn.builder (take l.start-index l.starts)

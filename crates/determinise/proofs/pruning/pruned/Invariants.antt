@@ -1,5 +1,0 @@
-use Rattle.determinise.specs.Reduction.{IsReduced}
-use Rattle.determinise.proofs.pruning.pruned.Given as goal
-
-abbrev pub invariant-states : goal.invariant-states
-invariant-states l = IsReduced l.automaton l.builder l.state

@@ -1,6 +1,0 @@
-use Rattle.std.proofs.Common.{take}
-use Rattle.determinise.specs.Simulation.{DropsMatched}
-use Rattle.determinise.proofs.pruning.unmatched_before.Given as goal
-
-abbrev pub invariant-edges : goal.invariant-edges
-invariant-edges l = DropsMatched l.pairs (take l.letter-index l.edges) l.kept.items

@@ -1,0 +1,56 @@
+-- Rounds of refinement by hashes of signatures, classes that are stable, and first states of classes.
+use Rattle.std.specs.Prelude.{◌≡◌, ◌<◌, ◌+◌, ◌*◌, ◌%◌, ◌/◌, ◌^◌, ℕ, suc, List, Option, ltb, length, slice_index, if◌then◌else◌}
+use Rattle.std.specs.List.{filter_map, fold}
+use Rattle.word_automata.specs.Path.{edges_of, is_accepting}
+use Rattle.word_automata.specs.Automaton.{Automaton, accepts_from}
+use Rattle.minimise.specs.Signatures.{Signature}
+use Rattle.minimise.specs.Refinement.{live_class, live_edge, no_word}
+
+-- some word tells the states apart
+abbrev pub AreApart : Automaton → ℕ → ℕ → Type 0
+AreApart m p q = (w : List ℕ) × (accepts_from m p w ≡ accepts_from m q w → ⊥)
+
+-- states in different classes are told apart by some word
+pub record AreToldApart (m : Automaton) (classes : List ℕ) : Type 0 where
+  pub count : length classes ≡ length m.states
+  pub told_apart : (p q : ℕ) → (slice_index classes p ≡ slice_index classes q → ⊥) → AreApart m p q
+
+-- the signature of the state without its own class
+abbrev pub outgoing : Automaton → List ℕ → ℕ → Signature
+outgoing m classes q = record {
+  class = 0;
+  accepting = is_accepting m.states q;
+  edges = filter_map (live_edge classes) (edges_of m.states q);
+}
+
+-- a number of 64 bits with a multiple of its own upper half, and a number in which a part is mixed
+abbrev pub with_square : ℕ → ℕ
+with_square n = (n * (2 * (n / 4294967296) + 1)) % 2 ^ 64
+
+abbrev pub mixed_in : ℕ → ℕ → ℕ
+mixed_in value part = with_square ((((value + part) % 2 ^ 64) * 11400714819323198485) % 2 ^ 64)
+
+abbrev pub mixed_in_edge : ℕ → ℕ × ℕ → ℕ
+mixed_in_edge value edge = mixed_in (mixed_in value edge.0) edge.1
+
+-- the hash of a signature without its class, of which that of no word is 0
+abbrev pub hash_of : Signature → ℕ
+hash_of s = fold mixed_in_edge (if s.accepting then 1 else 0) s.edges
+
+-- each state's class in the finer list is the hash of its signature by the coarser
+pub record AreHashes (m : Automaton) (classes finer : List ℕ) : Type 0 where
+  pub count : length finer ≡ length m.states
+  pub each : (q : ℕ) → q < length m.states → slice_index finer q ≡ hash_of (outgoing m classes q)
+
+-- the state has the signature of the least state of its class, and that of no word in class 0
+pub record IsLikeLeast (m : Automaton) (classes : List ℕ) (q : ℕ) : Type 0 where
+  pub dead : slice_index classes q ≡ 0 → outgoing m classes q ≡ no_word
+  pub live : (r : ℕ) → slice_index classes q ≡ suc r → outgoing m classes q ≡ outgoing m classes r
+
+-- states of one class have one signature
+abbrev pub AreAlike : Automaton → List ℕ → Type 0
+AreAlike m classes = (p q : ℕ) → slice_index classes p ≡ slice_index classes q → outgoing m classes p ≡ outgoing m classes q
+
+-- what the table has at the class, none for 0, and beyond the table what is known beside it
+abbrev pub first_in : List ℕ → (ℕ → Option ℕ) → ℕ → Option ℕ
+first_in small others class = if ltb class (length small) then live_class (slice_index small class) else others class

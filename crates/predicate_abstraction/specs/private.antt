@@ -1,0 +1,6 @@
+-- What only contracts of private functions cite.
+pub mod Pairs
+pub mod Reversal
+pub mod SharedWords
+pub mod Sources
+pub mod Splitting

@@ -1,0 +1,39 @@
+-- The search for pairs of states that share a word.
+use Rattle.std.specs.Prelude.{◌≡◌, ◌↔◌, ◌<◌, ◌≤◌, ◌+◌, ◌*◌, ℕ, List, Option, Some, Contains, IsTrue, length, slice_index_or}
+use Rattle.word_automata.specs.Path.{Node, edges_of, is_accepting}
+use Rattle.word_automata.specs.Automaton.{Automaton}
+use Rattle.predicate_abstraction.specs.Predicates.{SharesWord}
+use Rattle.predicate_abstraction.specs.private.Pairs.{Pairs}
+
+-- the pairs are those of a state of a and one of b that share a word
+pub record AreShared (a b : Automaton) (set : Pairs) : Type 0 where
+  pub rows : set.rows ≡ length a.states
+  pub columns : set.columns ≡ length b.states
+  pub shared : (p s : ℕ) → Contains set.pairs (p, s) ↔ SharesWord a p b s
+
+-- states that are accepting share a word; pairs share a word; and with each of the first pairs those that lead to it are there
+pub record SharesWords (a b : Automaton) (set : Pairs) (next : ℕ) : Type 0 where
+  pub rows : set.rows ≡ length a.states
+  pub columns : set.columns ≡ length b.states
+  pub within : next ≤ length set.pairs
+  pub sound : (p s : ℕ) → Contains set.pairs (p, s) → SharesWord a p b s
+  pub accepting : (p s : ℕ) → IsTrue (is_accepting a.states p) → IsTrue (is_accepting b.states s) → Contains set.pairs (p, s)
+  pub led : (k letter p s : ℕ) → k < next → Contains (edges_of a.states p) (letter, (slice_index_or set.pairs k (0, 0)).0)
+      → Contains (edges_of b.states s) (letter, (slice_index_or set.pairs k (0, 0)).1) → Contains set.pairs (p, s)
+
+-- a pair of the row and an accepting state of b before i
+abbrev pub IsAcceptingIn : Automaton → ℕ → ℕ → ℕ × ℕ → Type 0
+IsAcceptingIn b row i pair = (pair.0 ≡ row) × (pair.1 < i) × IsTrue (is_accepting b.states pair.1)
+
+-- a pair of accepting states, that of a before i
+abbrev pub AreAccepting : Automaton → Automaton → ℕ → ℕ × ℕ → Type 0
+AreAccepting a b i pair = (pair.0 < i) × IsTrue (is_accepting a.states pair.0) × (pair.1 < length b.states) × IsTrue (is_accepting b.states pair.1)
+
+-- a pair of the row and the target of an edge
+abbrev pub IsSource : ℕ → List (Option ℕ × ℕ) → ℕ × ℕ → Type 0
+IsSource row edges pair = (pair.0 ≡ row) × (label : Option ℕ) × Contains edges (label, pair.1)
+
+-- a pair of sources of edges with the same letter, the second of which are kept at the place of the state s and the letter
+abbrev pub AreSources : List (Option ℕ × ℕ) → List (Node (Option ℕ)) → ℕ → ℕ → ℕ × ℕ → Type 0
+AreSources into_a into_b letters s pair =
+    (letter : ℕ) × Contains into_a (Some letter, pair.0) × (label : Option ℕ) × Contains (edges_of into_b (s * letters + letter)) (label, pair.1)

@@ -1,0 +1,6 @@
+pub mod Copies
+pub mod ForCallers
+pub mod PairEquality
+pub mod Reductions
+pub mod Rejection
+pub mod Simulations

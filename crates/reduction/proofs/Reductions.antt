@@ -1,0 +1,173 @@
+-- Copies with fewer start states and edges that accept along the same labels accept the same words.
+use Rattle.std.proofs.Common.{◌≡◌, ◌+◌, ◌≤◌, ◌↔◌, ℕ, List, [], ◌∷◌, ◌++◌, Option, Contains, IsPermutation, IsTrue, length, map, refl, sym, ap, subst, ◌∙◌, inl, inr, arith}
+use Rattle.std.proofs.lemmas.Bool.{cases_eq}
+use Rattle.std.proofs.lemmas.List.{length-map}
+use Rattle.std.proofs.lemmas.List.Elements.{Contains-append_left, Contains-push, Contains-push_cases}
+use Rattle.std.proofs.lemmas.List.Sorted.{Contains-permutation, IsPermutation-sym}
+use Rattle.word_automata.specs.Path.{edges_of, is_accepting, IsPath, spelled, spelled_one}
+use Rattle.word_automata.specs.Nondeterministic.{NondeterministicAutomaton, Accepts, AcceptsFromAny}
+use Rattle.word_automata.proofs.Members.{Contains-none}
+use Rattle.reduction.specs.Reduction.{AcceptsAlong, KeepsStarts}
+use Rattle.reduction.specs.private.Copies.{without_edges, states_alone, with_starts, AddsEdges, KeepsEdges, IsReduced, KeepsWhere}
+use Rattle.reduction.proofs.Copies.{is_accepting-alone, edges_of-alone, edges_within}
+
+-- elements one by one
+module _ {X : Type 0} (P : X → Type 0) where
+  pub keeps_none : KeepsWhere P [] []
+  keeps_none = record { only = λ x there. there; kept = λ x there p. there }
+
+  module _ (xs ys : List X) (x : X) (so : KeepsWhere P xs ys) where
+    pub keeps_skip : (P x → ⊥) → KeepsWhere P (xs ++ x ∷ []) ys
+    keeps_skip without = record {
+      only = λ y there. Contains-append_left xs (x ∷ []) y (so.only y there);
+      kept = λ y there p. elim (Contains-push_cases xs x y there) [
+        | inl earlier ↦ so.kept y earlier p
+        | inr is ↦ absurd (without (subst P (sym is) p))
+      ];
+    }
+
+    pub keeps_more : KeepsWhere P (xs ++ x ∷ []) (ys ++ x ∷ [])
+    keeps_more = record {
+      only = λ y there. elim (Contains-push_cases ys x y there) [
+        | inl earlier ↦ Contains-append_left xs (x ∷ []) y (so.only y earlier)
+        | inr is ↦ subst (Contains (xs ++ x ∷ [])) is (Contains-push xs x)
+      ];
+      kept = λ y there p. elim (Contains-push_cases xs x y there) [
+        | inl earlier ↦ Contains-append_left ys (x ∷ []) y (so.kept y earlier p)
+        | inr is ↦ subst (Contains (ys ++ x ∷ [])) is (Contains-push ys x)
+      ];
+    }
+
+-- the word of labels
+spelled_labels : List (Option ℕ) → List ℕ
+spelled_labels [] = []
+spelled_labels (label ∷ labels) = spelled_one label ++ spelled_labels labels
+
+spelled_path : (moves : List (Option ℕ × ℕ)) → spelled (λ l. l) moves ≡ spelled_labels (map (λ (move : Option ℕ × ℕ). move.0) moves)
+unfolding spelled_labels
+spelled_path [] = refl
+spelled_path (move ∷ moves) = ap (λ v. spelled_one move.0 ++ v) (spelled_path moves)
+
+module _ (n : NondeterministicAutomaton) where
+  along_path : (moves : List (Option ℕ × ℕ)) (p end : ℕ) → IsPath n.states p moves end → IsTrue (is_accepting n.states end)
+      → AcceptsAlong n p (map (λ (move : Option ℕ × ℕ). move.0) moves)
+  along_path [] p end path accepting = subst (λ q. IsTrue (is_accepting n.states q)) (sym path) accepting
+  along_path (move ∷ moves) p end path accepting = (move.1, path.0, along_path moves move.1 end path.1 accepting)
+
+  path_along : (labels : List (Option ℕ)) (p : ℕ) → AcceptsAlong n p labels
+      → (moves : List (Option ℕ × ℕ)) × (end : ℕ) × IsPath n.states p moves end × IsTrue (is_accepting n.states end) × (spelled (λ l. l) moves ≡ spelled_labels labels)
+  unfolding spelled_labels
+  path_along [] p along = ([], p, refl, along, refl)
+  path_along (label ∷ labels) p along =
+      let rest = path_along labels along.0 along.2 in
+      ((label, along.0) ∷ rest.0, rest.1, (along.1, rest.2), rest.3, ap (λ v. spelled_one label ++ v) rest.4)
+
+module _ (n m : NondeterministicAutomaton) (next : ℕ) (so : IsReduced n m next) (all : length n.states ≤ next) where
+  pub up : (labels : List (Option ℕ)) (p : ℕ) → AcceptsAlong m p labels → AcceptsAlong n p labels
+  up [] p along = sym (so.same_acceptance p) ∙ along
+  up (label ∷ labels) p along =
+      let within = edges_within m.states p (label, along.0) along.1 in
+      let size = so.same_size in
+      (along.0, (so.done p (omega arith)).only (label, along.0) along.1, up labels along.0 along.2)
+
+  pub down : (labels : List (Option ℕ)) (p : ℕ) → AcceptsAlong n p labels → AcceptsAlong m p labels
+  down [] p along = so.same_acceptance p ∙ along
+  down (label ∷ labels) p along =
+      let within = edges_within n.states p (label, along.0) along.1 in
+      let kept = (so.done p (omega arith)).kept label along.0 labels along.1 along.2 in
+      (kept.0, kept.1, down labels kept.0 kept.2)
+
+  pub reduced_accepts : (w : List ℕ) → Accepts m w ↔ Accepts n w
+  reduced_accepts w = (
+    λ run.
+        let labels = map (λ (move : Option ℕ × ℕ). move.0) run.1 in
+        let path = path_along n labels run.0 (up labels run.0 (along_path m run.1 run.0 run.2 run.4 run.5)) in
+        (run.0, path.0, path.1, so.starts.only run.0 run.3, path.2, path.3, path.4 ∙ sym (spelled_path run.1) ∙ run.6),
+    λ run.
+        let labels = map (λ (move : Option ℕ × ℕ). move.0) run.1 in
+        let start = so.starts.kept run.0 labels run.3 (along_path n run.1 run.0 run.2 run.4 run.5) in
+        let path = path_along m labels start.0 (down labels start.0 start.2) in
+        (start.0, path.0, path.1, start.1, path.2, path.3, path.4 ∙ sym (spelled_path run.1) ∙ run.6),
+  )
+
+-- states one by one, of which some are kept
+pub states_keep_none : (n : NondeterministicAutomaton) → KeepsStarts n [] []
+states_keep_none n = record { only = λ q there. there; kept = λ q labels there along. absurd (Contains-none q there) }
+
+module _ (n : NondeterministicAutomaton) (xs ys : List ℕ) (x : ℕ) (so : KeepsStarts n xs ys) where
+  pub states_keep_skip : ((labels : List (Option ℕ)) → AcceptsAlong n x labels → (r : ℕ) × Contains ys r × AcceptsAlong n r labels) → KeepsStarts n (xs ++ x ∷ []) ys
+  states_keep_skip covered = record {
+    only = λ q there. Contains-append_left xs (x ∷ []) q (so.only q there);
+    kept = λ q labels there along. elim (Contains-push_cases xs x q there) [
+      | inl earlier ↦ so.kept q labels earlier along
+      | inr is ↦ covered labels (subst (λ s. AcceptsAlong n s labels) (sym is) along)
+    ];
+  }
+
+  pub states_keep_more : KeepsStarts n (xs ++ x ∷ []) (ys ++ x ∷ [])
+  states_keep_more = record {
+    only = λ q there. elim (Contains-push_cases ys x q there) [
+      | inl earlier ↦ Contains-append_left xs (x ∷ []) q (so.only q earlier)
+      | inr is ↦ subst (Contains (xs ++ x ∷ [])) is (Contains-push xs x)
+    ];
+    kept = λ q labels there along. elim (Contains-push_cases xs x q there) [
+      | inl earlier ↦ let k = so.kept q labels earlier along in (k.0, Contains-append_left ys (x ∷ []) k.0 k.1, k.2)
+      | inr is ↦ (x, Contains-push ys x, subst (λ s. AcceptsAlong n s labels) (sym is) along)
+    ];
+  }
+
+pub states_keep_turned : (n : NondeterministicAutomaton) (old new turned : List ℕ) → KeepsStarts n old new → IsPermutation new turned → KeepsStarts n old turned
+states_keep_turned n old new turned so turns = record {
+  only = λ q there. so.only q (Contains-permutation turned new q (IsPermutation-sym new turned turns) there);
+  kept = λ q labels there along. let k = so.kept q labels there along in (k.0, Contains-permutation new turned k.0 turns k.1, k.2);
+}
+
+pub states_keep_twice : (n : NondeterministicAutomaton) (old mid new : List ℕ) → KeepsStarts n old mid → KeepsStarts n mid new → KeepsStarts n old new
+states_keep_twice n old mid new once twice = record {
+  only = λ q there. once.only q (twice.only q there);
+  kept = λ q labels there along. let k = once.kept q labels there along in twice.kept k.0 labels k.1 k.2;
+}
+
+-- what is kept accepts the same words
+pub kept_accept : (n : NondeterministicAutomaton) (old new : List ℕ) → KeepsStarts n old new → (w : List ℕ) → AcceptsFromAny n old w ↔ AcceptsFromAny n new w
+kept_accept n old new so w = (
+  λ run.
+      let labels = map (λ (move : Option ℕ × ℕ). move.0) run.1 in
+      let start = so.kept run.0 labels run.3 (along_path n run.1 run.0 run.2 run.4 run.5) in
+      let path = path_along n labels start.0 start.2 in
+      (start.0, path.0, path.1, start.1, path.2, path.3, path.4 ∙ sym (spelled_path run.1) ∙ run.6),
+  λ run. (run.0, run.1, run.2, so.only run.0 run.3, run.4, run.5, run.6),
+)
+
+-- all start states
+pub starts_keep : (n : NondeterministicAutomaton) (starts : List ℕ) → KeepsStarts n starts starts
+starts_keep n starts = record { only = λ q there. there; kept = λ q labels there along. (q, there, along) }
+
+-- state by state
+pub reduced_none : (n alone m : NondeterministicAutomaton) (starts : List ℕ) → alone ≡ states_alone n → m ≡ with_starts alone starts → KeepsStarts n n.starts starts → IsReduced n m 0
+reduced_none n alone m starts is built keeps = subst (λ x. IsReduced n x 0) (sym (built ∙ ap (λ a. with_starts a starts) is)) (record {
+  same_letters = refl;
+  same_size = length-map n.states without_edges;
+  same_acceptance = λ q. is_accepting-alone n.states q;
+  starts = keeps;
+  done = λ p below. absurd (omega arith);
+  later = λ p past. edges_of-alone n.states p;
+})
+
+pub reduced_more : (n old new : NondeterministicAutomaton) (state : ℕ) (edges : List (Option ℕ × ℕ)) → IsReduced n old state → KeepsEdges n (edges_of n.states state) edges
+    → AddsEdges state edges old new → IsReduced n new (state + 1)
+reduced_more n old new state edges so keeps adds =
+    let here : edges_of new.states state ≡ edges = adds.edges_here ∙ ap (λ es. es ++ edges) (so.later state (omega arith)) in
+    record {
+      same_letters = adds.same_letters ∙ so.same_letters;
+      same_size = adds.same_size ∙ so.same_size;
+      same_acceptance = λ q. adds.same_acceptance q ∙ so.same_acceptance q;
+      starts = subst (KeepsStarts n n.starts) (sym adds.same_starts) so.starts;
+      done = λ p below. elim (cases_eq p state) [
+        | inl is ↦
+            subst (λ x. KeepsEdges n (edges_of n.states x) (edges_of new.states x)) (sym is)
+            (subst (KeepsEdges n (edges_of n.states state)) (sym here) keeps)
+        | inr other ↦ subst (KeepsEdges n (edges_of n.states p)) (sym (adds.edges_else p other)) (so.done p (omega arith))
+      ];
+      later = λ p past. adds.edges_else p (λ is. absurd (omega arith)) ∙ so.later p (omega arith);
+    }

@@ -1,0 +1,3 @@
+pub mod Reduction
+pub mod Simulation
+pub mod private

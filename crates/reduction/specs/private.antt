@@ -1,0 +1,4 @@
+-- What only contracts of private functions cite.
+pub mod Copies
+pub mod Emptiness
+pub mod Pruning

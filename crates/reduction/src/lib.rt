@@ -1,0 +1,19 @@
+//! Smaller nondeterministic automata of the same words: without edges to states from which no word is accepted, and without edges and
+//! states that others simulate. [`live_part`] takes time linear in the edges, up to sorting; [`simulation`], which compares a bounded
+//! number of pairs of states, finds what [`pruned`] and [`maximal_states`] leave out.
+#![tactic(auto)]
+
+mod copying;
+mod emptiness;
+mod maximal;
+mod order;
+mod pruning;
+mod simulation_search;
+mod state_pairs;
+mod trimming;
+
+pub use maximal::maximal_states;
+pub use pruning::pruned;
+pub use simulation_search::simulation;
+pub use state_pairs::StatePairs;
+pub use trimming::live_part;

@@ -1,0 +1,119 @@
+//! Pairs of states in the order in which they were added. A pair is looked up by its code in the table of places of the pairs that were
+//! found, in constant time, on average.
+
+ghost use Rattle.std.specs.Prelude.{◌≡◌, ◌<◌, [], Contains, IsTrue, IfOk, OnOk, length, slice_index_or};
+
+use exploration::FoundStates;
+use std::alloc::{AllocError, Global};
+use std::marker::Model;
+
+/// So many states, or fewer, have pairs of different codes.
+const STATES: usize = 1 << 32;
+
+/// Pairs of states. One that was taken out became a pair of a state with itself, and is not found any more.
+#[derive(Drop)]
+pub struct StatePairs {
+    alloc: Global,
+    found: FoundStates<(usize, usize)>,
+    lows: Vec<bool>,
+    asked: usize,
+}
+
+impl Model for StatePairs {
+    ghost use Rattle.std.specs.Prelude.{List, ℕ};
+
+    ghost Value = { List (ℕ × ℕ) };
+
+    ghost view = { λ s. s.found.states.items };
+}
+
+impl StatePairs {
+    /// No pair, in constant time and without memory. `AllocError` where memory runs out.
+    pub fn new(alloc: Global) -> Result<StatePairs, AllocError>
+        ensures { IfOk result (λ pairs. pairs ≡ []) }
+    {
+        Ok(StatePairs {
+            alloc,
+            found: FoundStates::new(alloc, usize::MAX)?,
+            lows: Vec::new(alloc),
+            asked: 0,
+        })
+    }
+
+    /// The number of pairs that were added.
+    pub(crate) fn len(&self) -> usize
+        ensures { result ≡ length self.now }
+    {
+        self.found.len()
+    }
+
+    /// How often a pair was to be added.
+    pub(crate) fn asked(&self) -> usize {
+        self.asked
+    }
+
+    /// The pair that was added after so many others, or what it became.
+    pub(crate) fn pair(&self, place: usize) -> (usize, usize)
+        requires { place < length self.now }
+        ensures { slice_index_or self.now place (0, 0) ≡ result }
+    {
+        self.found.states[place]
+    }
+
+    /// Whether the pair is there.
+    pub(crate) fn contains(&self, low: usize, high: usize) -> bool
+        ensures { IsTrue result → Contains self.now (low, high) }
+    {
+        match self.found.find(code(low, high), &(low, high)) {
+            Some(_) => true,
+            None => false,
+        }
+    }
+
+    /// Adds the pair, if it is not there. More than 2 to the 32 pairs are answered as running out of memory.
+    pub(crate) fn add(&mut self, low: usize, high: usize) -> Result<(), AllocError> {
+        self.asked = self.asked.saturating_add(1);
+        let pair = (low, high);
+        if self.found.look_up(code(low, high), &pair)?.is_none() {
+            self.found.push(pair)?;
+        }
+        Ok(())
+    }
+
+    /// Takes out the pair at the place.
+    pub(crate) fn take_out(&mut self, place: usize)
+        requires { place < length self.old }
+        ensures { length self.new ≡ length self.old }
+    {
+        let low = self.found.states[place].0;
+        self.found.states[place] = (low, low);
+    }
+
+    /// Notes which of so many states are the first of a pair of different states, and tells whether one of the first pairs is left.
+    pub(crate) fn note_lows(&mut self, count: usize, first: usize) -> Result<bool, AllocError>
+        ensures { OnOk result (self.new ≡ self.old) }
+    {
+        let mut lows = vec![in self.alloc; false; count]?;
+        let mut is_some = false;
+        let mut place: usize = 0;
+        'pairs: for &(low, high) in &self.found.states {
+            if low != high && low < lows.len() {
+                lows[low] = true;
+                is_some = is_some || place < first;
+            }
+            place = place.saturating_add(1);
+        }
+        self.lows = lows;
+        Ok(is_some)
+    }
+
+    /// Whether the state was noted.
+    pub(crate) fn is_low(&self, state: usize) -> bool {
+        state < self.lows.len() && self.lows[state]
+    }
+}
+
+/// The code of the pair.
+fn code(low: usize, high: usize) -> usize {
+    low.wrapping_mul(STATES) ^ high
+}
