@@ -7,9 +7,8 @@ use Rattle.transducers.specs.declared.Label.{Label}
 use Rattle.transducers.specs.Transducer.{IsEdge, IsValid, Relates}
 use Rattle.transducers.specs.Combination.{exchange, copy_edges}
 use Rattle.transducers.proofs.CopyLemmas.{IsEdge-copies, exchange_from_copy, copy_from_edge, Contains-single, nothing_in_nil}
-use Rattle.protocol_model.specs.declared.system.Move.{Move}
-use Rattle.protocol_model.specs.declared.system.Move.TheVariants.{At, Pair, Ring, Two, Set, Send, Recv, Stack, Spawn, Exit, Lose}
-use Rattle.protocol_model.specs.System.{AllBelow, IsValidMove}
+use Rattle.protocol_syntax.specs.declared.protocol.Move.TheVariants.{Pair, Ring, Two}
+use Rattle.protocol_model.specs.System.{Move, AllBelow, IsValidMove}
 use Rattle.protocol_model.specs.Moves.{IsMove, IsPairMove, IsRingMove, IsTwoMove, ChangesTwo}
 use Rattle.protocol_model.specs.Raised.{IsRaisedMove}
 use Rattle.protocol_model.proofs.Below.{AllBelow-left, AllBelow-right}
@@ -385,28 +384,14 @@ module _ (a b c d offset count : ℕ) (valid : AllBelow count (a ∷ b ∷ c ∷
 -- the machine of a move that changes two positions
 pub fixed_valid : (m : Move) (offset count letters : ℕ) → ChangesTwoPositions m → IsValidMove count m → offset + count ≤ letters
     → IsValid (record { letters = letters; starts = 0 ∷ []; states = fixed_states m offset count })
-fixed_valid (At f t guards table) offset count letters two valid fits = absurd two
-fixed_valid (Pair a b c d) offset count letters two valid fits = pair_valid a b c d offset count valid letters fits
-fixed_valid (Ring a b c d) offset count letters two valid fits = ring_valid a b c d offset count valid letters fits
-fixed_valid (Two a b c d) offset count letters two valid fits = two_valid a b c d offset count valid letters fits
-fixed_valid (Set a b) offset count letters two valid fits = absurd two
-fixed_valid (Send a) offset count letters two valid fits = absurd two
-fixed_valid (Recv a) offset count letters two valid fits = absurd two
-fixed_valid (Stack pop push) offset count letters two valid fits = absurd two
-fixed_valid (Spawn a) offset count letters two valid fits = absurd two
-fixed_valid (Exit a) offset count letters two valid fits = absurd two
-fixed_valid (Lose set) offset count letters two valid fits = absurd two
+fixed_valid (Pair a b c d) offset count letters two valid fits = pair_valid a b c d offset count valid.in_range letters fits
+fixed_valid (Ring a b c d) offset count letters two valid fits = ring_valid a b c d offset count valid.in_range letters fits
+fixed_valid (Two a b c d) offset count letters two valid fits = two_valid a b c d offset count valid.in_range letters fits
+fixed_valid _ offset count letters two valid fits = absurd two
 
 pub fixed_relates : (m : Move) (offset count letters : ℕ) → ChangesTwoPositions m → IsValidMove count m → (u w : List ℕ)
     → Relates (record { letters = letters; starts = 0 ∷ []; states = fixed_states m offset count }) u w ↔ IsRaisedMove (IsMove m) offset count u w
-fixed_relates (At f t guards table) offset count letters two valid u w = absurd two
-fixed_relates (Pair a b c d) offset count letters two valid u w = pair_relates a b c d offset count valid letters u w
-fixed_relates (Ring a b c d) offset count letters two valid u w = ring_relates a b c d offset count valid letters u w
-fixed_relates (Two a b c d) offset count letters two valid u w = two_relates a b c d offset count valid letters u w
-fixed_relates (Set a b) offset count letters two valid u w = absurd two
-fixed_relates (Send a) offset count letters two valid u w = absurd two
-fixed_relates (Recv a) offset count letters two valid u w = absurd two
-fixed_relates (Stack pop push) offset count letters two valid u w = absurd two
-fixed_relates (Spawn a) offset count letters two valid u w = absurd two
-fixed_relates (Exit a) offset count letters two valid u w = absurd two
-fixed_relates (Lose set) offset count letters two valid u w = absurd two
+fixed_relates (Pair a b c d) offset count letters two valid u w = pair_relates a b c d offset count valid.in_range letters u w
+fixed_relates (Ring a b c d) offset count letters two valid u w = ring_relates a b c d offset count valid.in_range letters u w
+fixed_relates (Two a b c d) offset count letters two valid u w = two_relates a b c d offset count valid.in_range letters u w
+fixed_relates _ offset count letters two valid u w = absurd two

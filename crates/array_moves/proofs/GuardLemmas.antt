@@ -8,7 +8,7 @@ use Rattle.std.proofs.lemmas.Bool.{and_parts, and_from, or_cases, or_left, or_ri
 use Rattle.transducers.proofs.ListLemmas.{slice_get-cases}
 use Rattle.protocol_syntax.specs.declared.protocol.Region.{Region}
 use Rattle.protocol_syntax.specs.declared.protocol.Region.TheVariants.{Left, Right, Others}
-use Rattle.protocol_model.specs.declared.system.Guard.{Guard}
+use Rattle.protocol_model.specs.System.{Guard}
 use Rattle.protocol_model.specs.Moves.{is_in, region_letters, guard_holds}
 use Rattle.array_moves.specs.Flags.{flag, four_flags, no_flags, union_of, covers_one, covers, permits, meets, meets_at, effect_of}
 use Rattle.array_moves.specs.Flags.{asks_at, widened}

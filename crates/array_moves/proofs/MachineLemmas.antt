@@ -13,8 +13,8 @@ use Rattle.transducers.specs.Combination.{exchange}
 use Rattle.transducers.proofs.ListLemmas.{slice_get-within, slice_get-map_cases, Contains-from_place}
 use Rattle.transducers.proofs.PathLemmas.{edges_of-at, is_accepting-at, node_from_edge}
 use Rattle.transducers.proofs.CopyLemmas.{nothing_in_nil}
-use Rattle.protocol_model.specs.declared.system.Guard.{Guard}
-use Rattle.protocol_model.specs.System.{AllBelow, IsValidAt}
+use Rattle.protocol_syntax.specs.declared.protocol.Move.TheVariants.{At}
+use Rattle.protocol_model.specs.System.{Guard, AllBelow, IsValidMove}
 use Rattle.protocol_model.specs.Moves.{table_value, IsAtMove}
 use Rattle.array_moves.specs.declared.guard_table.ControlState.{ControlState}
 use Rattle.array_moves.specs.declared.guard_table.GuardTable.{GuardTable}
@@ -33,7 +33,7 @@ All-from_places P xs each k d h = each k (get_or xs k d) (slice_get-get_or xs k 
 
 -- raised letters fit
 pub has_room : (f t : ℕ) (guards : List Guard) (table : List (ℕ × ℕ)) (offset count : ℕ) (guard_table : GuardTable)
-    → IsGuardTable f t guards table count guard_table → IsValidAt count f t guards table → offset + count < 2 ^ 32 → HasRoom offset count guard_table
+    → IsGuardTable f t guards table count guard_table → IsValidMove count (At f t guards table) → offset + count < 2 ^ 32 → HasRoom offset count guard_table
 has_room f t guards table offset count guard_table is_guard_table valid fits =
     let images : List ℕ = map (table_value table) (range_with_len 0 count) in
     let each : All (λ y. y + offset < 2 ^ 32) images =
@@ -47,8 +47,8 @@ has_room f t guards table offset count guard_table is_guard_table valid fits =
     record {
       each_image = ap length is_guard_table.images_are ∙ length-map (range_with_len 0 count) (table_value table) ∙ length-range_with_len 0 count;
       image_fits = subst (All (λ y. y + offset < 2 ^ 32)) (sym is_guard_table.images_are) each;
-      from_fits = omega (arith, is_guard_table.from_is, valid.from_in_range, fits);
-      into_fits = omega (arith, is_guard_table.into_is, valid.to_in_range, fits);
+      from_fits = omega (arith, is_guard_table.from_is, valid.in_range.0, fits);
+      into_fits = omega (arith, is_guard_table.into_is, valid.in_range.1.0, fits);
       letters_fit = omega (arith, fits);
     }
 
@@ -233,7 +233,7 @@ module _ (f t : ℕ) (guards : List Guard) (table : List (ℕ × ℕ)) (offset c
         subst (λ v. Changes offset states 0 v t') (sym m.was)
         (subst (λ v. Changes offset states 0 (m.before ++ f ∷ m.after) v) (sym m.becomes) changes)
 
-  module _ (valid : IsValidAt count f t guards table) where
+  module _ (valid : IsValidMove count (At f t guards table)) where
     -- the control state of a state
     pub control_at : (k : ℕ) (node : Node Label) → slice_get states k ≡ Some node → (p : ControlState) × IsStateOf guard_table offset count controls p node
         × (slice_get controls k ≡ Some p)
@@ -255,9 +255,9 @@ module _ (f t : ℕ) (guards : List Guard) (table : List (ℕ × ℕ)) (offset c
     letters_of_edge p edge (inr m) = (
       guard_table.from,
       guard_table.into,
-      subst (λ x. x < count) (sym is_guard_table.from_is) valid.from_in_range,
+      subst (λ x. x < count) (sym is_guard_table.from_is) valid.in_range.0,
       subst (λ x. x < count)
-          (sym is_guard_table.into_is) valid.to_in_range,
+          (sym is_guard_table.into_is) valid.in_range.1.0,
       m.label,
     )
 
@@ -312,7 +312,7 @@ module _ (f t : ℕ) (guards : List Guard) (table : List (ℕ × ℕ)) (offset c
     at_relates letters starts is u w = by (can_end guard_table first_control) refl
       where
         limit : length guards ≤ 4
-        limit = valid.guards_limit
+        limit = valid.limits
 
         some_start : (n : ℕ) → 0 < n → starts_of n ≡ 0 ∷ []
         some_start zero h = absurd (omega arith)

@@ -6,8 +6,7 @@ use Rattle.std.proofs.lemmas.List.FromFn.{length-range_with_len, get_or-range_wi
 use Rattle.std.proofs.lemmas.Option.{same_Some, none-some, slice_get_within, slice_get-get_or, get_or_from_slice_get}
 use Rattle.std.proofs.lemmas.Bool.{and_from, or_cases, or_left, or_right}
 use Rattle.transducers.proofs.ListLemmas.{slice_get-map_image}
-use Rattle.protocol_model.specs.declared.system.Guard.{Guard}
-use Rattle.protocol_model.specs.System.{AllBelow}
+use Rattle.protocol_model.specs.System.{Guard, AllBelow}
 use Rattle.protocol_model.specs.Moves.{table_value, guard_holds}
 use Rattle.array_moves.specs.declared.guard_table.ControlState.{ControlState}
 use Rattle.array_moves.specs.declared.guard_table.GuardTable.{GuardTable}

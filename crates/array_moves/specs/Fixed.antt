@@ -1,8 +1,8 @@
 -- The states of the machines for moves that change two positions. Only private contracts speak of this.
 use Rattle.std.specs.Prelude.{ℕ, ◌+◌, Bool, true, false, List, [], ◌∷◌, ◌++◌}
 use Rattle.word_automata.specs.Path.{Node}
-use Rattle.protocol_model.specs.declared.system.Move.{Move}
-use Rattle.protocol_model.specs.declared.system.Move.TheVariants.{At, Pair, Ring, Two, Set, Send, Recv, Stack, Spawn, Exit, Lose}
+use Rattle.protocol_model.specs.System.{Move}
+use Rattle.protocol_syntax.specs.declared.protocol.Move.TheVariants.{Pair, Ring, Two}
 use Rattle.transducers.specs.declared.Label.{Label}
 use Rattle.transducers.specs.Combination.{exchange, copy_edges}
 
@@ -41,28 +41,14 @@ two_states a b c d offset count =
 
 -- the move changes two positions
 abbrev pub ChangesTwoPositions : Move → Type 0
-ChangesTwoPositions (At f t guards table) = ⊥
 ChangesTwoPositions (Pair a b c d) = Unit {0}
 ChangesTwoPositions (Ring a b c d) = Unit {0}
 ChangesTwoPositions (Two a b c d) = Unit {0}
-ChangesTwoPositions (Set a b) = ⊥
-ChangesTwoPositions (Send a) = ⊥
-ChangesTwoPositions (Recv a) = ⊥
-ChangesTwoPositions (Stack pop push) = ⊥
-ChangesTwoPositions (Spawn a) = ⊥
-ChangesTwoPositions (Exit a) = ⊥
-ChangesTwoPositions (Lose letters) = ⊥
+ChangesTwoPositions _ = ⊥
 
 -- the states of its machine; there are none for other moves
 abbrev pub fixed_states : Move → ℕ → ℕ → List (Node Label)
-fixed_states (At f t guards table) offset count = []
 fixed_states (Pair a b c d) offset count = pair_states a b c d offset count
 fixed_states (Ring a b c d) offset count = ring_states a b c d offset count
 fixed_states (Two a b c d) offset count = two_states a b c d offset count
-fixed_states (Set a b) offset count = []
-fixed_states (Send a) offset count = []
-fixed_states (Recv a) offset count = []
-fixed_states (Stack pop push) offset count = []
-fixed_states (Spawn a) offset count = []
-fixed_states (Exit a) offset count = []
-fixed_states (Lose letters) offset count = []
+fixed_states _ offset count = []

@@ -3,7 +3,8 @@
 
 ghost use Rattle.std.specs.Prelude.{◌≡◌, ◌↔◌, ◌≤◌, ◌<◌, ◌+◌, ◌^◌, List, ℕ, Some, IfOk, length, slice_get};
 ghost use Rattle.indexmap.specs.IndexSet.{index_set_len};
-ghost use Rattle.protocol_model.specs.System.{IsValidAt};
+ghost use Rattle.protocol_syntax.specs.declared.protocol.Move.TheVariants.{At};
+ghost use Rattle.protocol_model.specs.System.{IsValidMove};
 ghost use Rattle.protocol_model.specs.Moves.{IsAtMove};
 ghost use Rattle.transducers.specs.Transducer.{Relates};
 ghost use Rattle.protocol_model.specs.Raised.{IsRaisedMove};
@@ -26,7 +27,7 @@ pub(crate) fn compile_at(
     table: &[(u32, u32)],
     alphabet: SectionLetters,
 ) -> Result<Transducer, AllocError>
-    requires valid { IsValidAt alphabet.count from into guards.now table.now }
+    requires valid { IsValidMove alphabet.count (At from into guards.now table.now) }
     requires fits { alphabet.offset + alphabet.count ≤ alphabet.letters }
     ensures letters { IfOk result (λ t. t.letters ≡ alphabet.letters) }
     ensures relates { IfOk result (λ t. (u w : List ℕ) → Relates t u w

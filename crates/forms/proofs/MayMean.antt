@@ -22,7 +22,7 @@ use Rattle.forms.specs.declared.symbol.Symbol.{Symbol}
 use Rattle.forms.specs.declared.symbol.Symbol.TheVariants.{Unreserved}
 use Rattle.forms.specs.Symbol.{Source, source_of, symbol, symbol_of_kind, symbol_of_keyword, keyword_of, spelled}
 use Rattle.forms.specs.Grammar.{Grammar, sign, name, one_of, gives, ◌>>=◌, ◌or◌, optional, many_by, item, only, Says, SaysMany, Passes, IsWithin}
-use Rattle.forms.specs.Shape.{Shape, one, word, listed, none, after, either, perhaps, often, limited, allowed, HasShape, IsUniform, shape, grows, more, is_told}
+use Rattle.forms.specs.Shape.{Shape, one, word, listed, none, after, either, perhaps, often, limited, allowed, HasShape, IsUniform, shape, grows, is_told}
 use Rattle.forms.proofs.Tells.{law}
 
 -- a name is a word that is not reserved, of 32 bytes at most

@@ -3,12 +3,12 @@ use Rattle.std.proofs.Common.{◌≡◌, ℕ, ◌+◌, ◌<◌, ◌≤◌, List,
 use Rattle.std.proofs.lemmas.List.{append-nil, map-append}
 use Rattle.std.proofs.lemmas.List.Elements.{All-nil, All-cons, All-append}
 use Rattle.transducers.specs.Combination.{exchange}
-use Rattle.protocol_model.specs.declared.system.Move.TheVariants.{Set, Send, Recv, Stack}
-use Rattle.protocol_model.specs.System.{AllBelow, IsValidStack, IsValidPop}
+use Rattle.protocol_syntax.specs.declared.protocol.Move.TheVariants.{Set, Send, Recv, Stack}
+use Rattle.protocol_model.specs.System.{AllBelow}
 use Rattle.protocol_model.specs.Words.{raised}
 use Rattle.protocol_model.specs.Moves.{IsMove, popped}
 use Rattle.protocol_model.specs.Raised.{IsRaisedMove}
-use Rattle.protocol_model.proofs.Below.{AllBelow-right, AllBelow-append}
+use Rattle.protocol_model.proofs.Below.{AllBelow-left, AllBelow-right, AllBelow-append}
 use Rattle.memory_moves.specs.Machine.{IsLabel, IsCopiedBetween, reading, writing, stack_prefix, read_word, written_word}
 
 -- labels in range
@@ -29,17 +29,13 @@ module _ (offset count : ℕ) where
       All-cons (IsLabel letters) (writing (a + offset)) (map (λ a. writing (a + offset)) push)
       (IsLabel-writing letters (a + offset) (omega (arith, h.0))) (writings_in_range letters push fits h.1)
 
-  pub stack_in_range : (letters : ℕ) (pop : Option ℕ) (push : List ℕ) → offset + count ≤ letters → IsValidStack count pop push
+  pub stack_in_range : (letters : ℕ) (pop : Option ℕ) (push : List ℕ) → offset + count ≤ letters → AllBelow count (popped pop ++ push)
       → All (IsLabel letters) (stack_prefix offset pop push)
-  stack_in_range letters None push fits valid = writings_in_range letters push fits valid.push_in_range
+  stack_in_range letters None push fits valid = writings_in_range letters push fits valid
   stack_in_range letters (Some a) push fits valid =
       All-append (IsLabel letters) (reading (a + offset) ∷ []) (map (λ a. writing (a + offset)) push)
-      (All-single (IsLabel letters) (reading (a + offset)) (IsLabel-reading letters (a + offset) (omega (arith, valid.pops))))
-      (writings_in_range letters push fits valid.push_in_range)
-
-  popped_in_range : (pop : Option ℕ) (push : List ℕ) → IsValidPop count pop push → AllBelow count (popped pop)
-  popped_in_range None push h = tt
-  popped_in_range (Some a) push h = (h, tt)
+      (All-single (IsLabel letters) (reading (a + offset)) (IsLabel-reading letters (a + offset) (omega (arith, valid.0))))
+      (writings_in_range letters push fits valid.1)
 
   -- what the labels of a stack move read and write
   reads-writings : (push : List ℕ) → read_word (map (λ a. writing (a + offset)) push) ≡ []
@@ -134,15 +130,15 @@ module _ (offset count : ℕ) (u w : List ℕ) where
     },
   )
 
-  pub stack_relates : (pop : Option ℕ) (push : List ℕ) → IsValidStack count pop push
+  pub stack_relates : (pop : Option ℕ) (push : List ℕ) → AllBelow count (popped pop ++ push)
       → (IsCopiedBetween (stack_prefix offset pop push) None offset count u w → IsRaisedMove (IsMove (Stack pop push)) offset count u w)
       × (IsRaisedMove (IsMove (Stack pop push)) offset count u w → IsCopiedBetween (stack_prefix offset pop push) None offset count u w)
   stack_relates pop push valid = (
     λ so. record {
       old = popped pop ++ so.copied;
       new = push ++ so.copied;
-      old_in_range = AllBelow-append count (popped pop) so.copied (popped_in_range offset count pop push valid.pops) so.in_range;
-      new_in_range = AllBelow-append count push so.copied valid.push_in_range so.in_range;
+      old_in_range = AllBelow-append count (popped pop) so.copied (AllBelow-left count (popped pop) push valid) so.in_range;
+      new_in_range = AllBelow-append count push so.copied (AllBelow-right count (popped pop) push valid) so.in_range;
       word_before = so.reads ∙ front_is offset count (read_word (stack_prefix offset pop push)) (popped pop) so.copied (reads-stack offset count pop push);
       word_after = so.writes ∙ front_is offset count (written_word (stack_prefix offset pop push)) push so.copied (writes-stack offset count pop push);
       leads = record { below = so.copied; was = refl; becomes = refl };

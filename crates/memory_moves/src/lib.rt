@@ -6,6 +6,7 @@ mod cut;
 mod machine;
 
 ghost use Rattle.std.specs.Prelude.{◌≡◌, ◌↔◌, ◌+◌, ◌<◌, ◌≤◌, ◌^◌, ℕ, List, All, IfOk, IfSome, IsTrue};
+ghost use Rattle.protocol_syntax.specs.declared.protocol.Move.TheVariants.{Set};
 ghost use Rattle.protocol_model.specs.System.{IsValidMove, belongs_to};
 ghost use Rattle.protocol_model.specs.Moves.{IsMove};
 ghost use Rattle.protocol_model.specs.Raised.{IsRaisedMove};
@@ -27,11 +28,11 @@ pub fn compile_cell(
     to: u32,
     alphabet: SectionLetters,
 ) -> Result<Transducer, AllocError>
-    requires valid { IsValidMove alphabet.count (Move.Set from to) }
+    requires valid { IsValidMove alphabet.count (Set from to) }
     requires fits { alphabet.offset + alphabet.count ≤ alphabet.letters }
     ensures letters { IfOk result (λ t. t.letters ≡ alphabet.letters) }
     ensures relates { IfOk result (λ t. (u w : List ℕ) → Relates t u w
-        ↔ IsRaisedMove (IsMove (Move.Set from to)) alphabet.offset alphabet.count u w) }
+        ↔ IsRaisedMove (IsMove (Set from to)) alphabet.offset alphabet.count u w) }
 {
     let change = Label::exchange(from + alphabet.offset, to + alphabet.offset);
     let without_copies = SectionLetters {

@@ -5,19 +5,19 @@ use Rattle.std.specs.List.{flat_map}
 use Rattle.protocol_lexer.specs.declared.TokenKind.TheVariants.{Arrow}
 use Rattle.forms.specs.declared.fault.What.TheVariants as Limits
 use Rattle.forms.specs.declared.name.Name.{Name}
-use Rattle.protocol_syntax.specs.declared.protocol.MoveBody.TheVariants as Moves
+use Rattle.protocol_syntax.specs.declared.protocol.Move.TheVariants as Moves
 use Rattle.protocol_syntax.specs.declared.protocol.Region.{Region}
 use Rattle.protocol_syntax.specs.declared.protocol.Region.TheVariants as Regions
 use Rattle.forms.specs.declared.symbol.Keyword.{Keyword}
 use Rattle.forms.specs.declared.symbol.Keyword.TheVariants as Words
 use Rattle.forms.specs.declared.symbol.Symbol.TheVariants.{Sign}
-use Rattle.forms.specs.Symbol.{spelling}
 use Rattle.forms.specs.Grammar.{sign, optional}
 use Rattle.protocol_syntax.specs.Grammar.{quantifier, region, guard, entry, table, at_move, four_names, pair_move, ring_move, two_move, set_move, send_move, recv_move, pushed, pop_move, push_move, channel_or_stack_move, common_move, spawn_move, exit_move, lose_move, later_move, any_move, step, rule}
+use Rattle.protocol_syntax.specs.MoveLetters.{renamed_guard, renamed_pair}
 use Rattle.protocol_syntax.proofs.Lexing.{IsToken-arrow}
-use Rattle.protocol_syntax.proofs.Printed.{Prints, Writes, prints_sign, prints_keyword, prints_means, prints_gives, prints_bind, prints_last, prints_after, prints_left, prints_right, prints_absent, prints_present, prints_only, prints_same, writes_many, writes_up_to}
+use Rattle.protocol_syntax.proofs.Printed.{Prints, Writes, spelling, prints_sign, prints_keyword, prints_means, prints_gives, prints_bind, prints_last, prints_after, prints_left, prints_right, prints_absent, prints_present, prints_only, prints_same, writes_many, writes_up_to}
 use Rattle.protocol_layout.specs.Layout.{in_braces, region_word, guard_words, entry_words, table_words, pushed_words, four_words, move_words, step_words, rule_words}
-use Rattle.protocol_layout.specs.Places.{name_without_place, guard_without_places, entry_without_places, move_without_places, step_without_places, rule_without_places}
+use Rattle.protocol_layout.specs.Places.{name_without_place, move_without_places, step_without_places, rule_without_places}
 use Rattle.protocol_layout.proofs.PartsWritten.{left_brace, right_brace, colon, semicolon, name_again, names_up_to_written, set_written, base_written}
 
 arrow : Prints (sign (Sign Arrow)) (λ _. ⊤) (codes "->" ∷ [])
@@ -34,10 +34,10 @@ region_written Regions.Left = prints_left (prints_means Words.Left Regions.Left 
 region_written Regions.Right = prints_right (prints_left (prints_means Words.Right Regions.Right refl))
 region_written Regions.Others = prints_right (prints_right (prints_means Words.Others Regions.Others refl))
 
-guard_written : Writes guard guard_words guard_without_places
+guard_written : Writes guard guard_words (renamed_guard name_without_place)
 unfolding guard
 guard_written a (u, tu, (all, va, (r, vr, (w, tw, (letters, v, e))))) =
-    prints_same guard_words guard_without_places e
+    prints_same guard_words (renamed_guard name_without_place) e
     (prints_after (prints_keyword Words.When)
     (prints_bind (quantifier_written all) (λ b p.
     prints_bind (region_written r) (λ s q.
@@ -45,10 +45,10 @@ guard_written a (u, tu, (all, va, (r, vr, (w, tw, (letters, v, e))))) =
     (prints_last (set_written letters v) (λ found t.
     prints_gives (record { all = b; region = s; letters = found }) (rw (p, q, t) refl)))))))
 
-entry_written : Writes entry entry_words entry_without_places
+entry_written : Writes entry entry_words (renamed_pair name_without_place)
 unfolding entry
 entry_written a (from, v, (u, tu, (to, w, (x, tx, e)))) =
-    prints_same entry_words entry_without_places e
+    prints_same entry_words (renamed_pair name_without_place) e
     (prints_bind (name_again from v) (λ m p.
     prints_after arrow
     (prints_bind (name_again to w) (λ n q.
@@ -58,17 +58,17 @@ entry_written a (from, v, (u, tu, (to, w, (x, tx, e)))) =
 full_table_words : List (Name × Name) → List (List ℕ)
 full_table_words entries = codes "map" ∷ in_braces (flat_map entry_words entries)
 
-table_written : Writes table full_table_words (map entry_without_places)
+table_written : Writes table full_table_words (map (renamed_pair name_without_place))
 unfolding table full_table_words
 table_written a (u, tu, (w, tw, (entries, v, (x, tx, e)))) =
-    prints_same full_table_words (map entry_without_places) e
+    prints_same full_table_words (map (renamed_pair name_without_place)) e
     (prints_after (prints_keyword Words.Map)
     (prints_after left_brace
     (prints_bind (writes_many entry_written entries v) (λ found p.
     prints_after right_brace (prints_gives found p)))))
 
 -- a table without an entry is left out
-optional_table_written : Writes (optional [] table) table_words (map entry_without_places)
+optional_table_written : Writes (optional [] table) table_words (map (renamed_pair name_without_place))
 unfolding full_table_words
 optional_table_written [] v = prints_absent [] refl
 optional_table_written (e ∷ entries) (inl none) = absurd cc

@@ -17,12 +17,11 @@ use Rattle.protocol_syntax.specs.declared.protocol.Many.TheVariants as Counts
 use Rattle.forms.specs.declared.symbol.Keyword.{Keyword}
 use Rattle.forms.specs.declared.symbol.Keyword.TheVariants as Words
 use Rattle.forms.specs.declared.symbol.Symbol.TheVariants.{Sign}
-use Rattle.forms.specs.Symbol.{spelling}
 use Rattle.forms.specs.Grammar.{Grammar, sign, name, optional, many, item, up_to}
 use Rattle.protocol_syntax.specs.Grammar.{common_kind, lossy_kind, kind, section, more_sections, letters_of, set, letter_base, set_base, base, count, atom, atoms, pattern, part, row_body, row}
 use Rattle.protocol_syntax.proofs.Lexing.{IsToken-brace_left, IsToken-brace_right, IsToken-colon, IsToken-semicolon, IsToken-star, IsToken-plus}
 use Rattle.forms.proofs.MayMean.{MayMean, IsName}
-use Rattle.protocol_syntax.proofs.Printed.{Prints, Writes, prints_sign, prints_keyword, prints_means, prints_name, prints_gives, prints_bind, prints_last, prints_after, prints_left, prints_right, prints_absent, prints_present, prints_only, prints_item, prints_all, prints_same, same_length, writes_many, writes_up_to}
+use Rattle.protocol_syntax.proofs.Printed.{Prints, Writes, spelling, prints_sign, prints_keyword, prints_means, prints_name, prints_gives, prints_bind, prints_last, prints_after, prints_left, prints_right, prints_absent, prints_present, prints_only, prints_item, prints_all, prints_same, same_length, writes_many, writes_up_to}
 use Rattle.protocol_layout.specs.Layout.{names_words, in_braces, kind_word, kind_rest, section_words, count_words, base_words, atom_words, pattern_words, part_words, row_words}
 use Rattle.protocol_layout.specs.Places.{name_without_place, section_without_places, base_without_places, atom_without_places, part_without_places, row_without_places}
 

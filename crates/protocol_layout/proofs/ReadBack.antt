@@ -12,7 +12,7 @@ use Rattle.forms.specs.Grammar.{optional}
 use Rattle.protocol_syntax.specs.Grammar.{IsProtocol, second_language, protocol}
 use Rattle.protocol_syntax.proofs.Lexing.{IsToken}
 use Rattle.protocol_syntax.proofs.Told.{protocol_is_told, protocol_is_uniform}
-use Rattle.forms.proofs.MayMean.{within_may_mean}
+use Rattle.forms.proofs.MayMean.{MayMean, within_may_mean}
 use Rattle.forms.proofs.SaidWithin.{within_from_said}
 use Rattle.protocol_syntax.proofs.Printed.{HasWords, Writes, prints_keyword, prints_one_of, prints_gives, prints_bind, prints_fixed, prints_last, prints_after, prints_absent, prints_present, prints_same, prints_assoc, writes_up_to, words_stand}
 use Rattle.protocol_layout.specs.Layout.{language_words, section_words, row_words, rule_words, items, layout}
@@ -71,11 +71,10 @@ lines_of_tokens : (lines : List (List (List ℕ))) → AllByRecursion IsToken (f
 lines_of_tokens [] h = tt
 lines_of_tokens (ws ∷ lines) h = let parts = tokens_before ws (flat_map (λ ws. ws) lines) h in (parts.0, lines_of_tokens lines parts.1)
 
--- the layout of a protocol that a text says is a text that says it again
-pub layout_says : (source : List ℕ) (p : Protocol) → IsProtocol source p
-    → (q : Protocol) × IsProtocol (layout p) q × (without_places q ≡ without_places p)
-layout_says source p (tokens, are, within) =
-    let written = protocol_written p (within_may_mean source tokens are protocol protocol_is_uniform protocol_is_told p within) in
+-- what may be said within the limits, the layout says, apart from places
+pub layout_says_again : (p : Protocol) → MayMean protocol p → (q : Protocol) × IsProtocol (layout p) q × (without_places q ≡ without_places p)
+layout_says_again p may =
+    let written = protocol_written p may in
     let same = words_of_items p in
     let lexed = tokens_of_lines (items p) (lines_of_tokens (items p) (subst (AllByRecursion IsToken) (sym same) written.tokens)) in
     let s : Source = source_of (layout p) lexed.0 in
@@ -83,3 +82,9 @@ layout_says source p (tokens, are, within) =
     subst (λ (ws : List (List ℕ)). HasWords s 0 ws (length lexed.0)) same (words_stand s (flat_map (λ ws. ws) (items p)) [] lexed.0 0 refl refl lexed.2) in
     let again = written.says s 0 (length lexed.0) stand in
     (again.0, (lexed.0, lexed.1, within_from_said s protocol protocol_is_uniform protocol_is_told again.0 again.1), again.2)
+
+-- the layout of a protocol that a text says is a text that says it again
+pub layout_says : (source : List ℕ) (p : Protocol) → IsProtocol source p
+    → (q : Protocol) × IsProtocol (layout p) q × (without_places q ≡ without_places p)
+layout_says source p (tokens, are, within) =
+    layout_says_again p (within_may_mean source tokens are protocol protocol_is_uniform protocol_is_told p within)

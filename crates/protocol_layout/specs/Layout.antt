@@ -11,15 +11,14 @@ use Rattle.protocol_syntax.specs.declared.protocol.BaseText.{BaseText}
 use Rattle.protocol_syntax.specs.declared.protocol.BaseText.TheVariants.{Letter, Set, Any}
 use Rattle.protocol_syntax.specs.declared.protocol.RuleText.{RuleText}
 use Rattle.protocol_syntax.specs.declared.protocol.MoveText.{MoveText}
-use Rattle.protocol_syntax.specs.declared.protocol.MoveBody.{MoveBody}
-use Rattle.protocol_syntax.specs.declared.protocol.MoveBody.TheVariants as Moves
-use Rattle.protocol_syntax.specs.declared.protocol.GuardText.{GuardText}
+use Rattle.protocol_syntax.specs.declared.protocol.Move.TheVariants as Moves
 use Rattle.protocol_syntax.specs.declared.protocol.Kind.{Kind}
 use Rattle.protocol_syntax.specs.declared.protocol.Kind.TheVariants as Kinds
 use Rattle.protocol_syntax.specs.declared.protocol.Many.{Many}
 use Rattle.protocol_syntax.specs.declared.protocol.Many.TheVariants as Counts
 use Rattle.protocol_syntax.specs.declared.protocol.Region.{Region}
 use Rattle.protocol_syntax.specs.declared.protocol.Region.TheVariants as Regions
+use Rattle.protocol_syntax.specs.MoveLetters.{MoveBody, GuardText}
 use Rattle.protocol_syntax.specs.Spacing.{Word, spaced}
 
 -- the words of an item on a line of their own

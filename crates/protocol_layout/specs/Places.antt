@@ -1,5 +1,5 @@
 -- A protocol apart from the places of its names: each name is put at the start of the text.
-use Rattle.std.specs.Prelude.{◌≡◌, ℕ, List, map, Option, Some, None}
+use Rattle.std.specs.Prelude.{◌≡◌, ℕ, List, map}
 use Rattle.protocol_lexer.specs.Place.{start_place}
 use Rattle.forms.specs.declared.name.Name.{Name}
 use Rattle.protocol_syntax.specs.declared.protocol.Protocol.{Protocol}
@@ -11,9 +11,7 @@ use Rattle.protocol_syntax.specs.declared.protocol.BaseText.{BaseText}
 use Rattle.protocol_syntax.specs.declared.protocol.BaseText.TheVariants.{Letter, Set, Any}
 use Rattle.protocol_syntax.specs.declared.protocol.RuleText.{RuleText}
 use Rattle.protocol_syntax.specs.declared.protocol.MoveText.{MoveText}
-use Rattle.protocol_syntax.specs.declared.protocol.MoveBody.{MoveBody}
-use Rattle.protocol_syntax.specs.declared.protocol.MoveBody.TheVariants as Moves
-use Rattle.protocol_syntax.specs.declared.protocol.GuardText.{GuardText}
+use Rattle.protocol_syntax.specs.MoveLetters.{MoveBody, renamed}
 use Rattle.protocol_syntax.specs.Grammar.{IsProtocol}
 
 abbrev pub name_without_place : Name → Name
@@ -36,29 +34,8 @@ part_without_places p = record { section = name_without_place p.section; atoms =
 abbrev pub row_without_places : RowText → RowText
 row_without_places r = record { parts = map part_without_places r.parts }
 
-abbrev pub guard_without_places : GuardText → GuardText
-guard_without_places g = record { all = g.all; region = g.region; letters = map name_without_place g.letters }
-
-abbrev pub entry_without_places : Name × Name → Name × Name
-entry_without_places e = (name_without_place e.0, name_without_place e.1)
-
-abbrev pub popped_without_place : Option Name → Option Name
-popped_without_place None = None
-popped_without_place (Some n) = Some (name_without_place n)
-
 abbrev pub move_without_places : MoveBody → MoveBody
-move_without_places (Moves.At from to guards table) =
-    Moves.At (name_without_place from) (name_without_place to) (map guard_without_places guards) (map entry_without_places table)
-move_without_places (Moves.Pair a b c d) = Moves.Pair (name_without_place a) (name_without_place b) (name_without_place c) (name_without_place d)
-move_without_places (Moves.Ring a b c d) = Moves.Ring (name_without_place a) (name_without_place b) (name_without_place c) (name_without_place d)
-move_without_places (Moves.Two a b c d) = Moves.Two (name_without_place a) (name_without_place b) (name_without_place c) (name_without_place d)
-move_without_places (Moves.Set from to) = Moves.Set (name_without_place from) (name_without_place to)
-move_without_places (Moves.Send letter) = Moves.Send (name_without_place letter)
-move_without_places (Moves.Recv letter) = Moves.Recv (name_without_place letter)
-move_without_places (Moves.Stack pop push) = Moves.Stack (popped_without_place pop) (map name_without_place push)
-move_without_places (Moves.Spawn letter) = Moves.Spawn (name_without_place letter)
-move_without_places (Moves.Exit letter) = Moves.Exit (name_without_place letter)
-move_without_places (Moves.Lose base) = Moves.Lose (base_without_places base)
+move_without_places m = renamed name_without_place base_without_places m
 
 abbrev pub step_without_places : MoveText → MoveText
 step_without_places m = record { section = name_without_place m.section; body = move_without_places m.body }

@@ -369,7 +369,7 @@ fn write_body(out: &mut Vec<u8>, body: &MoveBody) -> Result<(), AllocError>
         MoveBody::Stack { pop, push } => write_stack_move(out, pop, push.as_slice()),
         MoveBody::Spawn { letter } => write_letter_move(out, b"spawn", letter),
         MoveBody::Exit { letter } => write_letter_move(out, b"exit", letter),
-        MoveBody::Lose { base } => write_lose_move(out, base),
+        MoveBody::Lose { letters: base } => write_lose_move(out, base),
     }
 }
 

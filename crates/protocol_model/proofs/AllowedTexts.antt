@@ -10,7 +10,7 @@ use Rattle.protocol_syntax.specs.declared.protocol.Protocol.{Protocol}
 use Rattle.protocol_syntax.specs.declared.protocol.SectionText.{SectionText}
 use Rattle.protocol_syntax.specs.declared.protocol.RuleText.{RuleText}
 use Rattle.protocol_syntax.specs.declared.protocol.MoveText.{MoveText}
-use Rattle.protocol_syntax.specs.declared.protocol.MoveBody.{MoveBody}
+use Rattle.protocol_syntax.specs.MoveLetters.{MoveBody, IsAllowedMove}
 use Rattle.forms.specs.declared.symbol.Keyword.TheVariants as Words
 use Rattle.forms.specs.Grammar.{name}
 use Rattle.protocol_syntax.specs.Grammar.{section, letters_of, more_sections, row, guard, at_move, pair_move, ring_move, two_move, set_move, send_move, recv_move, pushed, pop_move, push_move, channel_or_stack_move, common_move, spawn_move, exit_move, lose_move, later_move, any_move, step, rule, protocol, IsProtocol}
@@ -19,7 +19,7 @@ use Rattle.forms.proofs.MayMean as Grammar
 use Rattle.protocol_syntax.proofs.Told.{protocol_is_told, protocol_is_uniform}
 use Rattle.protocol_syntax.proofs.Within.{up_to_within, each_item, row_within}
 use Rattle.protocol_model.specs.Names.{IsName}
-use Rattle.protocol_model.specs.Allowed.{IsAllowed, IsAllowedSection, IsAllowedRule, IsAllowedRow, IsAllowedBody}
+use Rattle.protocol_model.specs.Allowed.{IsAllowed, IsAllowedSection, IsAllowedRule, IsAllowedRow}
 
 pub named : (n : Name) → Grammar.IsName n → IsName n.text
 named n is =
@@ -64,42 +64,42 @@ pushed_within names (u, tu, (first, v, (rest, w, e))) =
     let more = up_to_within 3 Limits.Pushed name (λ _. ⊤) (λ _ _. tt) rest w in
     rw e (omega arith, omega (arith, more.1))
 
-common_within : (b : MoveBody) → MayMean common_move b → IsAllowedBody b
+common_within : (b : MoveBody) → MayMean common_move b → IsAllowedMove b
 unfolding common_move at_move pair_move ring_move two_move set_move channel_or_stack_move send_move recv_move pop_move push_move
 common_within b (inl (u, tu, (from, vf, (x, tx, (to, vt, (guards, vg, (map, vm, e))))))) =
-    subst IsAllowedBody (sym e) (up_to_within 4 Limits.Guards guard (λ _. ⊤) (λ _ _. tt) guards vg).1
-common_within b (inr (inl (n, v, e))) = subst IsAllowedBody (sym e) tt
-common_within b (inr (inr (inl (n, v, e)))) = subst IsAllowedBody (sym e) tt
-common_within b (inr (inr (inr (inl (n, v, e))))) = subst IsAllowedBody (sym e) tt
-common_within b (inr (inr (inr (inr (inl (u, tu, (f, vf, (x, tx, (t, vt, e))))))))) = subst IsAllowedBody (sym e) tt
-common_within b (inr (inr (inr (inr (inr (inl (u, tu, (n, v, e)))))))) = subst IsAllowedBody (sym e) tt
-common_within b (inr (inr (inr (inr (inr (inr (inl (u, tu, (n, v, e))))))))) = subst IsAllowedBody (sym e) tt
+    subst IsAllowedMove (sym e) (up_to_within 4 Limits.Guards guard (λ _. ⊤) (λ _ _. tt) guards vg).1
+common_within b (inr (inl (n, v, e))) = subst IsAllowedMove (sym e) tt
+common_within b (inr (inr (inl (n, v, e)))) = subst IsAllowedMove (sym e) tt
+common_within b (inr (inr (inr (inl (n, v, e))))) = subst IsAllowedMove (sym e) tt
+common_within b (inr (inr (inr (inr (inl (u, tu, (f, vf, (x, tx, (t, vt, e))))))))) = subst IsAllowedMove (sym e) tt
+common_within b (inr (inr (inr (inr (inr (inl (u, tu, (n, v, e)))))))) = subst IsAllowedMove (sym e) tt
+common_within b (inr (inr (inr (inr (inr (inr (inl (u, tu, (n, v, e))))))))) = subst IsAllowedMove (sym e) tt
 common_within b (inr (inr (inr (inr (inr (inr (inr (inl (u, tu, (n, v, (push, inl none, e))))))))))) =
-    subst IsAllowedBody (sym e) (tt, rw none (omega arith))
+    subst IsAllowedMove (sym e) (tt, rw none (omega arith))
 common_within b (inr (inr (inr (inr (inr (inr (inr (inl (u, tu, (n, v, (push, inr w, e))))))))))) =
-    subst IsAllowedBody (sym e) (tt, (pushed_within push w).1)
-common_within b (inr (inr (inr (inr (inr (inr (inr (inr (push, v, e))))))))) = subst IsAllowedBody (sym e) (pushed_within push v)
+    subst IsAllowedMove (sym e) (tt, (pushed_within push w).1)
+common_within b (inr (inr (inr (inr (inr (inr (inr (inr (push, v, e))))))))) = subst IsAllowedMove (sym e) (pushed_within push v)
 
-later_within : (b : MoveBody) → MayMean later_move b → IsAllowedBody b
+later_within : (b : MoveBody) → MayMean later_move b → IsAllowedMove b
 unfolding later_move spawn_move exit_move lose_move
-later_within b (inl (u, tu, (n, v, e))) = subst IsAllowedBody (sym e) tt
-later_within b (inr (inl (u, tu, (n, v, e)))) = subst IsAllowedBody (sym e) tt
-later_within b (inr (inr (u, tu, (base, v, e)))) = subst IsAllowedBody (sym e) tt
+later_within b (inl (u, tu, (n, v, e))) = subst IsAllowedMove (sym e) tt
+later_within b (inr (inl (u, tu, (n, v, e)))) = subst IsAllowedMove (sym e) tt
+later_within b (inr (inr (u, tu, (base, v, e)))) = subst IsAllowedMove (sym e) tt
 
-body_within : (language : ℕ) (b : MoveBody) → MayMean (any_move language) b → IsAllowedBody b
+body_within : (language : ℕ) (b : MoveBody) → MayMean (any_move language) b → IsAllowedMove b
 unfolding any_move
 body_within language b (inl v) = later_within b v.1
 body_within language b (inr v) = common_within b v
 
-step_within : (language : ℕ) (m : MoveText) → MayMean (step language) m → IsAllowedBody m.body
+step_within : (language : ℕ) (m : MoveText) → MayMean (step language) m → IsAllowedMove m.body
 unfolding step
 step_within language m (n, v, (u, tu, (body, w, (x, tx, e)))) =
-    subst (λ (t : MoveText). IsAllowedBody t.body) (sym e) (body_within language body w)
+    subst (λ (t : MoveText). IsAllowedMove t.body) (sym e) (body_within language body w)
 
 rule_within : (language : ℕ) (r : RuleText) → MayMean (rule language) r → IsAllowedRule r
 unfolding rule
 rule_within language r (u, tu, (n, v, (w, tw, (moves, vm, (x, tx, e))))) =
-    subst IsAllowedRule (sym e) (record { named = named n v; bodies = each_item (step language) (λ m. IsAllowedBody m.body) (step_within language) moves [] vm })
+    subst IsAllowedRule (sym e) (record { named = named n v; bodies = each_item (step language) (λ m. IsAllowedMove m.body) (step_within language) moves [] vm })
 
 protocol_within : (p : Protocol) → MayMean protocol p → IsAllowed p
 unfolding protocol more_sections

@@ -61,7 +61,7 @@ range_below a zero m e = tt
 range_below a (suc n) m e = (omega arith, range_below (a + 1) n m (omega arith))
 
 pub base_in : (letters : List (List ℕ)) (base : BaseText) → base_fault letters base ≡ None → AllBelow (length letters) (base_numbers letters base)
-base_in letters (Letter name) h = (number_in letters name h, tt)
+base_in letters (Letter name) h = numbers_in letters (name ∷ []) h
 base_in letters (SetText names) h = numbers_in letters names h
 base_in letters Any h = range_below 0 (length letters) (length letters) (omega arith)
 

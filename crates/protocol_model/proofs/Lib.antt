@@ -4,6 +4,7 @@ pub mod Cuts
 pub mod KindLemmas
 pub mod Lists
 pub mod Walk
+pub mod MoveFaults
 pub mod Known
 pub mod Distinct
 pub mod InRange

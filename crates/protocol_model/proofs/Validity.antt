@@ -1,6 +1,8 @@
 -- The system of a protocol that is allowed and has no fault is valid.
-use Rattle.std.proofs.Common.{◌≡◌, ◌≢◌, ℕ, ◌<◌, ◌≤◌, Bool, true, false, List, [], ◌∷◌, Option, None, Some, map, length, refl, ap, subst, ◌∙◌}
-use Rattle.std.specs.List.{list_any, AllByRecursion}
+use Rattle.std.proofs.Common.{◌≡◌, ◌≢◌, ℕ, ◌<◌, ◌≤◌, Bool, true, false, List, [], ◌∷◌, ◌++◌, Option, None, Some, map, length, refl, ap, sym, subst, ◌∙◌}
+use Rattle.std.proofs.lemmas.List.{map-append}
+use Rattle.std.specs.Prelude.{AllPairs}
+use Rattle.std.specs.List.{list_any, flat_map, AllByRecursion}
 use Rattle.std.specs.Option.{option_map, option_map_or}
 use Rattle.std.specs.Str.{bytes_eq}
 use Rattle.std.proofs.lemmas.Option.{slice_get-map}
@@ -10,16 +12,15 @@ use Rattle.protocol_syntax.specs.declared.protocol.Protocol.{Protocol}
 use Rattle.protocol_syntax.specs.declared.protocol.SectionText.{SectionText}
 use Rattle.protocol_syntax.specs.declared.protocol.RowText.{RowText}
 use Rattle.protocol_syntax.specs.declared.protocol.PartText.{PartText}
-use Rattle.protocol_syntax.specs.declared.protocol.GuardText.{GuardText}
 use Rattle.protocol_syntax.specs.declared.protocol.MoveText.{MoveText}
-use Rattle.protocol_syntax.specs.declared.protocol.MoveBody.{MoveBody}
-use Rattle.protocol_syntax.specs.declared.protocol.MoveBody.TheVariants.{At, Pair, Ring, Two, Set, Send, Recv, Stack, Spawn, Exit, Lose}
+use Rattle.protocol_syntax.specs.declared.protocol.Move.TheVariants.{At, Stack, Lose}
 use Rattle.protocol_syntax.specs.declared.protocol.RuleText.{RuleText}
+use Rattle.protocol_syntax.specs.MoveLetters.{MoveBody, GuardText, base_names, letters_before_table, table_of, renamed_guard, renamed_pair, IsAllowedMove, belongs_to}
 use Rattle.protocol_model.specs.declared.fault.ModelFault.TheVariants.{Duplicate, TouchedTwice, WrongKind}
-use Rattle.protocol_model.specs.System.{AllBelow, IsValidSection, IsValidPattern, IsValidRow, IsValidAt, IsValidPop, IsValidMove, IsValidPart, IsValidRule, IsValid, letter_count_at, belongs_to}
-use Rattle.protocol_model.specs.Numbering.{number_of, section_names, section_named, letters_named, section_of, texts_of, part_of, row_of, guard_of, entry_of, move_of_text, step_of, rule_of, system_of}
-use Rattle.protocol_model.specs.Faults.{is_among, unknown, duplicate, touched_twice, letters_fault, first_fault_of, section_fault, part_fault, row_fault, entry_fault, two_fault, four_fault, body_fault, body_belongs_to, wrong_kind, step_fault, rule_fault, first_fault}
-use Rattle.protocol_model.specs.Allowed.{IsAllowed, IsAllowedSection, IsAllowedRow, IsAllowedBody, IsAllowedRule, PopsOrPushes}
+use Rattle.protocol_model.specs.System.{AllBelow, IsValidSection, IsValidPattern, IsValidRow, IsValidMove, IsValidPart, IsValidRule, IsValid, letter_count_at}
+use Rattle.protocol_model.specs.Numbering.{number_of, section_names, section_named, letters_named, section_of, texts_of, part_of, row_of, move_of_text, step_of, rule_of, system_of}
+use Rattle.protocol_model.specs.Faults.{is_among, unknown, duplicate, touched_twice, letters_fault, first_fault_of, section_fault, part_fault, row_fault, entry_fault, body_fault, wrong_kind, step_fault, rule_fault, first_fault}
+use Rattle.protocol_model.specs.Allowed.{IsAllowed, IsAllowedSection, IsAllowedRow, IsAllowedRule}
 use Rattle.protocol_model.specs.Names.{IsName}
 use Rattle.protocol_model.proofs.Lists.{length_map}
 use Rattle.protocol_model.proofs.Distinct.{IsClean, each_clean, all_of_map, all_of_both, named_apart, none_first, none_second}
@@ -88,87 +89,62 @@ entry_in letters entry clean = (
       (none_second (duplicate (map (λ before. before.0.text) clean.before) entry.0) _ (none_second (unknown letters entry.0) _ clean.none)),
 )
 
-at_valid : (letters : List (List ℕ)) (f t : Name) (guards : List GuardText) (table : List (Name × Name)) →
-    body_fault letters (At f t guards table) ≡ None → length guards ≤ 4 →
-    IsValidAt (length letters) (number_of letters f) (number_of letters t) (map (guard_of letters) guards) (map (entry_of letters) table)
-at_valid letters f t guards table h limit =
-    let both = none_first (two_fault letters f t) _ h in
-    let rest = none_second (two_fault letters f t) _ h in
-    let each_guard = none_first (first_fault_of (λ _ guard. letters_fault letters guard.letters) [] guards) _ rest in
-    let entries = none_second (first_fault_of (λ _ guard. letters_fault letters guard.letters) [] guards) _ rest in
+-- what the letters of a move and its parts become
+guards_renamed : (letters : List (List ℕ)) (guards : List GuardText) →
+    flat_map (λ guard. guard.letters) (map (renamed_guard (number_of letters)) guards)
+    ≡ map (number_of letters) (flat_map (λ guard. guard.letters) guards)
+guards_renamed letters [] = refl
+guards_renamed letters (g ∷ guards) =
+    ap (λ xs. map (number_of letters) g.letters ++ xs) (guards_renamed letters guards)
+    ∙ sym (map-append (number_of letters) g.letters (flat_map (λ guard. guard.letters) guards))
+
+letters_in : (letters : List (List ℕ)) (body : MoveBody) → letters_fault letters (letters_before_table base_names body) ≡ None →
+    AllBelow (length letters) (letters_before_table (λ numbers. numbers) (move_of_text letters body))
+letters_in letters (At f t guards table) h =
+    subst (λ xs. AllBelow (length letters) (number_of letters f ∷ number_of letters t ∷ xs)) (sym (guards_renamed letters guards))
+    (numbers_in letters (f ∷ t ∷ flat_map (λ guard. guard.letters) guards) h)
+letters_in letters (Stack None push) h = numbers_in letters push h
+letters_in letters (Stack (Some a) push) h = numbers_in letters (a ∷ push) h
+letters_in letters (Lose base) h = base_in letters base h
+letters_in letters body h = numbers_in letters (letters_before_table base_names body) h
+
+table_renamed : (letters : List (List ℕ)) (body : MoveBody) →
+    table_of (move_of_text letters body) ≡ map (renamed_pair (number_of letters)) (table_of body)
+table_renamed letters (At f t guards table) = refl
+table_renamed letters _ = refl
+
+limits_kept : (letters : List (List ℕ)) (body : MoveBody) → IsAllowedMove body → IsAllowedMove (move_of_text letters body)
+limits_kept letters (At f t guards table) h = rw (length_map (renamed_guard (number_of letters)) guards) h
+limits_kept letters (Stack None push) h = (rw (length_map (number_of letters) push) h.0, rw (length_map (number_of letters) push) h.1)
+limits_kept letters (Stack (Some a) push) h = (tt, rw (length_map (number_of letters) push) h.1)
+limits_kept letters _ h = tt
+
+kind_kept : (letters : List (List ℕ)) (body : MoveBody) (kind : Kind) → belongs_to (move_of_text letters body) kind ≡ belongs_to body kind
+kind_kept letters (At f t guards table) kind = refl
+kind_kept letters _ kind = refl
+
+move_valid : (letters : List (List ℕ)) (body : MoveBody) → body_fault letters body ≡ None → IsAllowedMove body →
+    IsValidMove (length letters) (move_of_text letters body)
+move_valid letters body h allowed =
+    let names = none_first (letters_fault letters (letters_before_table base_names body)) _ h in
+    let entries = none_second (letters_fault letters (letters_before_table base_names body)) _ h in
     record {
-      from_in_range = number_in letters f (none_first (unknown letters f) _ both);
-      to_in_range = number_in letters t (none_second (unknown letters f) _ both);
-      guards_in_range =
-          all_of_map (IsClean (λ _ guard. letters_fault letters guard.letters)) (λ guard. AllBelow (length letters) guard.letters)
-          (guard_of letters) (λ guard clean. numbers_in letters guard.letters clean.none) guards
-          (each_clean (λ _ guard. letters_fault letters guard.letters) [] guards each_guard);
-      guards_limit = rw (length_map (guard_of letters) guards) limit;
+      in_range = letters_in letters body names;
       table_in_range =
-          all_of_map (IsClean (entry_fault letters)) (λ entry. (entry.0 < length letters) × (entry.1 < length letters)) (entry_of letters)
-          (entry_in letters) table (each_clean (entry_fault letters) [] table entries);
+          subst (λ (table : List (ℕ × ℕ)). AllByRecursion (λ entry. (entry.0 < length letters) × (entry.1 < length letters)) table)
+          (sym (table_renamed letters body))
+          (all_of_map (IsClean (entry_fault letters)) (λ entry. (entry.0 < length letters) × (entry.1 < length letters))
+          (renamed_pair (number_of letters)) (entry_in letters) (table_of body) (each_clean (entry_fault letters) [] (table_of body) entries));
       table_distinct =
-          named_apart (λ entry. entry.0.text) (entry_of letters) (entry_fault letters) (λ a b. a.0 ≢ b.0) (entry_fresh letters)
+          subst (λ (table : List (ℕ × ℕ)). AllPairs (λ a b. a.0 ≢ b.0) table) (sym (table_renamed letters body))
+          (named_apart (λ entry. entry.0.text) (renamed_pair (number_of letters)) (entry_fault letters) (λ a b. a.0 ≢ b.0) (entry_fresh letters)
           (λ a b before later none_a none_b differs e.
           differs (number_injective letters a.0 b.0
           (known letters a.0 (none_first (unknown letters a.0) _ none_a))
           (known letters b.0 (none_first (unknown letters b.0) _ none_b)) e))
-          [] table entries;
+          [] (table_of body) entries);
+      limits = limits_kept letters body allowed;
     }
-
-four_in : (letters : List (List ℕ)) (a b c d : Name) → four_fault letters a b c d ≡ None →
-    AllBelow (length letters) (number_of letters a ∷ (number_of letters b ∷ (number_of letters c ∷ (number_of letters d ∷ []))))
-four_in letters a b c d h =
-    let one = none_first (two_fault letters a b) _ h in
-    let two = none_second (two_fault letters a b) _ h in (
-      number_in letters a (none_first (unknown letters a) _ one),
-      (
-        number_in letters b (none_second (unknown letters a) _ one),
-        (
-          number_in letters c (none_first (unknown letters c) _ two),
-          (number_in letters d (none_second (unknown letters c) _ two), tt),
-        ),
-      ),
-    )
-
-pop_valid : (letters : List (List ℕ)) (pop : Option Name) (push : List Name) →
-    option_map_or (unknown letters) pop None ≡ None → PopsOrPushes pop push →
-    IsValidPop (length letters) (option_map (number_of letters) pop) (map (number_of letters) push)
-pop_valid letters None push h allowed = rw (length_map (number_of letters) push) allowed
-pop_valid letters (Some a) push h allowed = number_in letters a h
-
-move_valid : (letters : List (List ℕ)) (body : MoveBody) → body_fault letters body ≡ None → IsAllowedBody body →
-    IsValidMove (length letters) (move_of_text letters body)
-move_valid letters (At f t guards table) h allowed = at_valid letters f t guards table h allowed
-move_valid letters (Pair a b c d) h allowed = four_in letters a b c d h
-move_valid letters (Ring a b c d) h allowed = four_in letters a b c d h
-move_valid letters (Two a b c d) h allowed = four_in letters a b c d h
-move_valid letters (Set a b) h allowed =
-    (number_in letters a (none_first (unknown letters a) _ h), (number_in letters b (none_second (unknown letters a) _ h), tt))
-move_valid letters (Send a) h allowed = number_in letters a h
-move_valid letters (Recv a) h allowed = number_in letters a h
-move_valid letters (Stack pop push) h allowed =
-    record {
-      pops = pop_valid letters pop push (none_first (option_map_or (unknown letters) pop None) _ h) allowed.0;
-      push_in_range = numbers_in letters push (none_second (option_map_or (unknown letters) pop None) _ h);
-      push_limit = rw (length_map (number_of letters) push) allowed.1;
-    }
-move_valid letters (Spawn a) h allowed = number_in letters a h
-move_valid letters (Exit a) h allowed = number_in letters a h
-move_valid letters (Lose base) h allowed = base_in letters base h
-
-kind_kept : (letters : List (List ℕ)) (body : MoveBody) (kind : Kind) → belongs_to (move_of_text letters body) kind ≡ body_belongs_to body kind
-kind_kept letters (At f t guards table) kind = refl
-kind_kept letters (Pair a b c d) kind = refl
-kind_kept letters (Ring a b c d) kind = refl
-kind_kept letters (Two a b c d) kind = refl
-kind_kept letters (Set a b) kind = refl
-kind_kept letters (Send a) kind = refl
-kind_kept letters (Recv a) kind = refl
-kind_kept letters (Stack pop push) kind = refl
-kind_kept letters (Spawn a) kind = refl
-kind_kept letters (Exit a) kind = refl
-kind_kept letters (Lose base) kind = refl
 
 -- the section of a step, which passes a test of its kind
 record IsFound (found : Option SectionText) (test : Kind → Bool) : Type 0 where
@@ -180,7 +156,7 @@ found_of : (found : Option SectionText) (test : Kind → Bool) → option_map_or
 found_of None test h = cc
 found_of (Some section) test h = record { section = section; is = refl; passes = h }
 
-step_valid : (texts : List SectionText) (step : MoveText) → IsClean (step_fault texts) step → IsAllowedBody step.body →
+step_valid : (texts : List SectionText) (step : MoveText) → IsClean (step_fault texts) step → IsAllowedMove step.body →
     IsValidPart (map section_of texts) (step_of texts step)
 step_valid texts step clean allowed =
     let names = section_names texts in
@@ -189,8 +165,8 @@ step_valid texts step clean allowed =
     let after_fresh = none_second (touched_twice earlier step.section) _ after_known in
     let right = none_first (wrong_kind texts step) _ after_fresh in
     let body = none_second (wrong_kind texts step) _ after_fresh in
-    let found = found_of (section_named texts step.section) (body_belongs_to step.body)
-    (true_of_none (option_map_or (λ section. body_belongs_to step.body section.kind) (section_named texts step.section) false)
+    let found = found_of (section_named texts step.section) (belongs_to step.body)
+    (true_of_none (option_map_or (λ section. belongs_to step.body section.kind) (section_named texts step.section) false)
     (WrongKind step.section) right) in
     let letters : letters_named texts step.section ≡ texts_of found.section.letters =
     ap (λ o. option_map_or (λ section. texts_of section.letters) o []) found.is in
@@ -216,9 +192,9 @@ rule_valid texts rule h allowed =
     record {
       named = allowed.named;
       parts =
-          all_of_map (λ step. IsClean (step_fault texts) step × IsAllowedBody step.body) (IsValidPart (map section_of texts)) (step_of texts)
+          all_of_map (λ step. IsClean (step_fault texts) step × IsAllowedMove step.body) (IsValidPart (map section_of texts)) (step_of texts)
           (λ step ok. step_valid texts step ok.0 ok.1) rule.moves
-          (all_of_both (IsClean (step_fault texts)) (λ step. IsAllowedBody step.body) rule.moves
+          (all_of_both (IsClean (step_fault texts)) (λ step. IsAllowedMove step.body) rule.moves
           (each_clean (step_fault texts) [] rule.moves h) allowed.bodies);
       distinct =
           named_apart (λ step. step.section.text) (step_of texts) (step_fault texts) (λ a b. a.0 ≢ b.0) (step_fresh texts)

@@ -1,25 +1,20 @@
 -- The first fault of a protocol. Its names are tested in the order of the text.
-use Rattle.std.specs.Prelude.{ℕ, Bool, false, List, [], ◌∷◌, ◌++◌, ◌||◌, Option, None, Some, map, if◌then◌else◌}
+use Rattle.std.specs.Prelude.{ℕ, Bool, false, List, [], ◌∷◌, ◌++◌, Option, None, Some, map, if◌then◌else◌}
 use Rattle.std.specs.List.{list_any}
 use Rattle.std.specs.Option.{option_or, option_map_or}
 use Rattle.std.specs.Str.{bytes_eq}
-use Rattle.protocol_syntax.specs.declared.protocol.Kind.{Kind}
-use Rattle.protocol_syntax.specs.declared.protocol.Kind.TheVariants.{Cell, Array, Channel, Stack, LossyChannel}
 use Rattle.forms.specs.declared.name.Name.{Name}
 use Rattle.protocol_syntax.specs.declared.protocol.Protocol.{Protocol}
 use Rattle.protocol_syntax.specs.declared.protocol.SectionText.{SectionText}
 use Rattle.protocol_syntax.specs.declared.protocol.RowText.{RowText}
 use Rattle.protocol_syntax.specs.declared.protocol.PartText.{PartText}
 use Rattle.protocol_syntax.specs.declared.protocol.BaseText.{BaseText}
-use Rattle.protocol_syntax.specs.declared.protocol.BaseText.TheVariants.{Letter, Set as SetText, Any}
 use Rattle.protocol_syntax.specs.declared.protocol.MoveText.{MoveText}
-use Rattle.protocol_syntax.specs.declared.protocol.MoveBody.{MoveBody}
-use Rattle.protocol_syntax.specs.declared.protocol.MoveBody.TheVariants as text
 use Rattle.protocol_syntax.specs.declared.protocol.RuleText.{RuleText}
+use Rattle.protocol_syntax.specs.MoveLetters.{MoveBody, base_names, letters_before_table, table_of, belongs_to}
 use Rattle.protocol_model.specs.declared.fault.ModelFault.{ModelFault}
 use Rattle.protocol_model.specs.declared.fault.ModelFault.TheVariants.{Duplicate, Unknown, TouchedTwice, WrongKind}
 use Rattle.protocol_model.specs.Numbering.{texts_of, section_names, section_named, letters_named}
-use Rattle.protocol_model.specs.System.{same_kind}
 
 -- the first fault of the items, each of which is tested with the items before it
 abbrev pub first_fault_of : {X : Type 0} → (List X → X → Option ModelFault) → List X → List X → Option ModelFault
@@ -50,9 +45,7 @@ abbrev pub letters_fault : List (List ℕ) → List Name → Option ModelFault
 letters_fault letters names = first_fault_of (λ _. unknown letters) [] names
 
 abbrev pub base_fault : List (List ℕ) → BaseText → Option ModelFault
-base_fault letters (Letter name) = unknown letters name
-base_fault letters (SetText names) = letters_fault letters names
-base_fault letters Any = None
+base_fault letters base = letters_fault letters (base_names base)
 
 -- a part of a row: its section is there and is not that of an earlier part, and its letters are letters of the section
 abbrev pub part_fault : List SectionText → List PartText → PartText → Option ModelFault
@@ -70,47 +63,14 @@ entry_fault letters earlier entry =
     option_or (unknown letters entry.0)
     (option_or (duplicate (map (λ before. before.0.text) earlier) entry.0) (unknown letters entry.1))
 
--- two letters of a move, and four
-abbrev pub two_fault : List (List ℕ) → Name → Name → Option ModelFault
-two_fault letters a b = option_or (unknown letters a) (unknown letters b)
-
-abbrev pub four_fault : List (List ℕ) → Name → Name → Name → Name → Option ModelFault
-four_fault letters a b c d = option_or (two_fault letters a b) (two_fault letters c d)
-
+-- a move: its letters are there, in the order of the text, and its table comes last
 abbrev pub body_fault : List (List ℕ) → MoveBody → Option ModelFault
-body_fault letters (text.At f t guards table) =
-    option_or (two_fault letters f t)
-    (option_or (first_fault_of (λ _ guard. letters_fault letters guard.letters) [] guards)
-    (first_fault_of (entry_fault letters) [] table))
-body_fault letters (text.Pair a b c d) = four_fault letters a b c d
-body_fault letters (text.Ring a b c d) = four_fault letters a b c d
-body_fault letters (text.Two a b c d) = four_fault letters a b c d
-body_fault letters (text.Set a b) = two_fault letters a b
-body_fault letters (text.Send a) = unknown letters a
-body_fault letters (text.Recv a) = unknown letters a
-body_fault letters (text.Stack pop push) =
-    option_or (option_map_or (unknown letters) pop None) (letters_fault letters push)
-body_fault letters (text.Spawn a) = unknown letters a
-body_fault letters (text.Exit a) = unknown letters a
-body_fault letters (text.Lose base) = base_fault letters base
-
--- whether the move belongs to sections of the kind
-abbrev pub body_belongs_to : MoveBody → Kind → Bool
-body_belongs_to (text.At f t guards table) kind = same_kind Array kind
-body_belongs_to (text.Pair a b c d) kind = same_kind Array kind
-body_belongs_to (text.Ring a b c d) kind = same_kind Array kind
-body_belongs_to (text.Two a b c d) kind = same_kind Array kind
-body_belongs_to (text.Set a b) kind = same_kind Cell kind
-body_belongs_to (text.Send a) kind = same_kind Channel kind || same_kind LossyChannel kind
-body_belongs_to (text.Recv a) kind = same_kind Channel kind || same_kind LossyChannel kind
-body_belongs_to (text.Stack pop push) kind = same_kind Stack kind
-body_belongs_to (text.Spawn a) kind = same_kind Array kind
-body_belongs_to (text.Exit a) kind = same_kind Array kind
-body_belongs_to (text.Lose base) kind = same_kind LossyChannel kind
+body_fault letters body =
+    option_or (letters_fault letters (letters_before_table base_names body)) (first_fault_of (entry_fault letters) [] (table_of body))
 
 abbrev pub wrong_kind : List SectionText → MoveText → Option ModelFault
 wrong_kind sections step =
-    if option_map_or (λ section. body_belongs_to step.body section.kind) (section_named sections step.section) false
+    if option_map_or (λ section. belongs_to step.body section.kind) (section_named sections step.section) false
     then None
     else Some (WrongKind step.section)
 

@@ -1,11 +1,11 @@
 -- What a move does to the list of its section. A list is cut at the positions that change.
-use Rattle.std.specs.Prelude.{◌≡◌, ◌==◌, ◌⊎◌, ℕ, Bool, List, [], ◌∷◌, ◌++◌, Option, None, Some, IsTrue, map, if◌then◌else◌}
+use Rattle.std.specs.Prelude.{◌≡◌, ◌==◌, ◌⊎◌, ℕ, Bool, List, [], ◌∷◌, ◌++◌, Option, IsTrue, map, if◌then◌else◌}
 use Rattle.std.specs.List.{list_all, list_any}
 use Rattle.protocol_syntax.specs.declared.protocol.Region.{Region}
 use Rattle.protocol_syntax.specs.declared.protocol.Region.TheVariants.{Left, Right, Others}
-use Rattle.protocol_model.specs.declared.system.Guard.{Guard}
-use Rattle.protocol_model.specs.declared.system.Move.{Move}
-use Rattle.protocol_model.specs.declared.system.Move.TheVariants.{At, Pair, Ring, Two, Set, Send, Recv, Stack, Spawn, Exit, Lose}
+use Rattle.protocol_model.specs.System.{Guard, Move}
+pub use Rattle.protocol_syntax.specs.MoveLetters.{popped}
+use Rattle.protocol_syntax.specs.declared.protocol.Move.TheVariants.{At, Pair, Ring, Two, Set, Send, Recv, Stack, Spawn, Exit, Lose}
 
 -- whether the letter is in the set
 abbrev pub is_in : List ℕ → ℕ → Bool
@@ -61,11 +61,6 @@ pub record ChangesTwo (a b c d : ℕ) (old new : List ℕ) : Type 0 where
 -- two positions, in either order
 abbrev pub IsTwoMove : ℕ → ℕ → ℕ → ℕ → List ℕ → List ℕ → Type 0
 IsTwoMove a b c d old new = ChangesTwo a b c d old new ⊎ ChangesTwo b a d c old new
-
--- the letter that is popped, as a list of one letter or none
-abbrev pub popped : Option ℕ → List ℕ
-popped None = []
-popped (Some a) = a ∷ []
 
 -- the popped letter leaves the left end, and then the pushed letters stand there
 pub record IsStackMove (pop : Option ℕ) (push old new : List ℕ) : Type 0 where

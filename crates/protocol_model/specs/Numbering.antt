@@ -1,7 +1,7 @@
 -- A protocol with its names replaced by numbers. A name's number is its first index in its list of names.
 use Rattle.std.specs.Prelude.{ℕ, List, [], ◌∷◌, Option, map, length, slice_get}
 use Rattle.std.specs.List.{position_or_len, range_with_len}
-use Rattle.std.specs.Option.{option_map, option_map_or}
+use Rattle.std.specs.Option.{option_map_or}
 use Rattle.std.specs.Str.{bytes_eq}
 use Rattle.forms.specs.declared.name.Name.{Name}
 use Rattle.protocol_syntax.specs.declared.protocol.Protocol.{Protocol}
@@ -11,20 +11,15 @@ use Rattle.protocol_syntax.specs.declared.protocol.PartText.{PartText}
 use Rattle.protocol_syntax.specs.declared.protocol.AtomText.{AtomText}
 use Rattle.protocol_syntax.specs.declared.protocol.BaseText.{BaseText}
 use Rattle.protocol_syntax.specs.declared.protocol.BaseText.TheVariants.{Letter, Set as SetText, Any}
-use Rattle.protocol_syntax.specs.declared.protocol.GuardText.{GuardText}
 use Rattle.protocol_syntax.specs.declared.protocol.MoveText.{MoveText}
-use Rattle.protocol_syntax.specs.declared.protocol.MoveBody.{MoveBody}
-use Rattle.protocol_syntax.specs.declared.protocol.MoveBody.TheVariants as text
 use Rattle.protocol_syntax.specs.declared.protocol.RuleText.{RuleText}
+use Rattle.protocol_syntax.specs.MoveLetters.{MoveBody, renamed}
 use Rattle.protocol_model.specs.declared.system.Section.{Section}
 use Rattle.protocol_model.specs.declared.system.Atom.{Atom}
 use Rattle.protocol_model.specs.declared.system.Pattern.{Pattern}
 use Rattle.protocol_model.specs.declared.system.Row.{Row}
-use Rattle.protocol_model.specs.declared.system.Guard.{Guard}
-use Rattle.protocol_model.specs.declared.system.Move.{Move}
-use Rattle.protocol_model.specs.declared.system.Move.TheVariants.{At, Pair, Ring, Two, Set, Send, Recv, Stack, Spawn, Exit, Lose}
 use Rattle.protocol_model.specs.declared.system.Rule.{Rule}
-use Rattle.protocol_model.specs.System.{SystemData, data_of}
+use Rattle.protocol_model.specs.System.{Move, SystemData, data_of}
 
 -- the texts of names
 abbrev pub texts_of : List Name → List (List ℕ)
@@ -68,31 +63,9 @@ part_of sections part = (
 abbrev pub row_of : List SectionText → RowText → Row
 row_of sections row = record { parts = map (part_of sections) row.parts }
 
-abbrev pub guard_of : List (List ℕ) → GuardText → Guard
-guard_of letters guard =
-    record { all = guard.all; region = guard.region; letters = map (number_of letters) guard.letters }
-
-abbrev pub entry_of : List (List ℕ) → Name × Name → ℕ × ℕ
-entry_of letters entry = (number_of letters entry.0, number_of letters entry.1)
-
 -- a move, where these are the letters of its section
 abbrev pub move_of_text : List (List ℕ) → MoveBody → Move
-move_of_text letters (text.At f t guards table) =
-    At (number_of letters f) (number_of letters t) (map (guard_of letters) guards) (map (entry_of letters) table)
-move_of_text letters (text.Pair a b c d) =
-    Pair (number_of letters a) (number_of letters b) (number_of letters c) (number_of letters d)
-move_of_text letters (text.Ring a b c d) =
-    Ring (number_of letters a) (number_of letters b) (number_of letters c) (number_of letters d)
-move_of_text letters (text.Two a b c d) =
-    Two (number_of letters a) (number_of letters b) (number_of letters c) (number_of letters d)
-move_of_text letters (text.Set a b) = Set (number_of letters a) (number_of letters b)
-move_of_text letters (text.Send a) = Send (number_of letters a)
-move_of_text letters (text.Recv a) = Recv (number_of letters a)
-move_of_text letters (text.Stack pop push) =
-    Stack (option_map (number_of letters) pop) (map (number_of letters) push)
-move_of_text letters (text.Spawn a) = Spawn (number_of letters a)
-move_of_text letters (text.Exit a) = Exit (number_of letters a)
-move_of_text letters (text.Lose base) = Lose (base_numbers letters base)
+move_of_text letters body = renamed (number_of letters) (base_numbers letters) body
 
 abbrev pub step_of : List SectionText → MoveText → ℕ × Move
 step_of sections step =

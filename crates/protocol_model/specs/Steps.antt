@@ -1,9 +1,8 @@
 -- One step of a system: one firing of one rule.
 use Rattle.std.specs.Prelude.{◌≡◌, ◌==◌, ◌<◌, ℕ, List, [], ◌∷◌, Option, None, Some, IsTrue, length, slice_get, if◌then◌else◌}
-use Rattle.protocol_model.specs.declared.system.Move.{Move}
 use Rattle.protocol_model.specs.declared.system.Rule.{Rule}
 use Rattle.protocol_model.specs.declared.system.Configuration.{Configuration}
-use Rattle.protocol_model.specs.System.{SystemData}
+use Rattle.protocol_model.specs.System.{Move, SystemData}
 use Rattle.protocol_model.specs.Moves.{IsMove}
 use Rattle.protocol_model.specs.Patterns.{fits, list_at}
 

@@ -2,7 +2,7 @@
 //! Each function copies one level, so a copy costs what the value holds; the copy is equal to it.
 
 ghost use Rattle.std.specs.Prelude.{◌≡◌, IfOk};
-ghost use Rattle.protocol_model.specs.declared.system.Move.TheVariants.{At};
+ghost use Rattle.protocol_syntax.specs.declared.protocol.Move.TheVariants.{At};
 
 use crate::sections::copy_text;
 use crate::system::{Atom, Configuration, Guard, Move, Pattern, Row, Rule, Section, System};

@@ -1,10 +1,10 @@
 //! Letters of a section by number.
 //! A letter is looked up once for each name; sets of letters keep the order of the text.
 
-ghost use Rattle.std.specs.Prelude.{◌≡◌, IfOk, map};
+ghost use Rattle.std.specs.Prelude.{◌≡◌, ◌∷◌, [], IfOk, map};
 ghost use Rattle.std.specs.List.{range_with_len};
 ghost use Rattle.protocol_model.specs.Numbering.{number_of};
-ghost use Rattle.protocol_model.specs.Faults.{unknown, letters_fault, two_fault};
+ghost use Rattle.protocol_model.specs.Faults.{unknown, letters_fault};
 ghost use Rattle.protocol_model.specs.Outcome.{IsOutcome};
 
 use crate::fault::ModelFault;
@@ -58,7 +58,7 @@ pub fn two_numbers(
     a: &Name,
     b: &Name,
 ) -> Result<(u32, u32), ModelFault>
-    ensures { IsOutcome (two_fault letters.now a.now b.now) (number_of letters.now a.now, number_of letters.now b.now) result }
+    ensures { IsOutcome (letters_fault letters.now (a.now ∷ b.now ∷ [])) (number_of letters.now a.now, number_of letters.now b.now) result }
 {
     let first = letter_number(alloc, letters, a)?;
     let second = letter_number(alloc, letters, b)?;

@@ -6,6 +6,7 @@ ghost use Rattle.std.specs.List.{list_any, position_or_len};
 ghost use Rattle.std.specs.Str.{bytes_eq};
 ghost use Rattle.protocol_model.specs.Names.{is_name, is_word};
 
+use forms::MAX_NAME_BYTES;
 use indexmap::IndexSet;
 use protocol_lexer::are_word_bytes;
 use protocol_syntax::keyword_of;
@@ -75,5 +76,5 @@ pub fn is_name(text: &[u8]) -> bool
 pub fn is_word(text: &[u8]) -> bool
     ensures { result ≡ is_word text.now }
 {
-    !text.is_empty() && text.len() <= 32 && are_word_bytes(text)
+    !text.is_empty() && text.len() <= MAX_NAME_BYTES && are_word_bytes(text)
 }

@@ -2,12 +2,14 @@
 //! Each move is checked against the kind of its section, and each letter is looked up once; what a rule or a table names before is searched
 //! through, so a rule costs the square of its names at most.
 
-ghost use Rattle.std.specs.Prelude.{◌≡◌, ◌≤◌, [], length, map};
+ghost use Rattle.std.specs.Prelude.{◌≡◌, ◌≤◌, ◌∷◌, [], None, length, map};
 ghost use Rattle.std.specs.List.{list_any};
+ghost use Rattle.std.specs.Option.{option_map_or, option_or};
 ghost use Rattle.std.specs.Str.{bytes_eq};
-ghost use Rattle.protocol_model.specs.Numbering.{number_of, guard_of, entry_of, move_of_text, step_of, rule_of};
-ghost use Rattle.protocol_model.specs.Faults.{letters_fault, four_fault, entry_fault, body_fault, body_belongs_to, step_fault, rule_fault, first_fault_of};
-ghost use Rattle.protocol_syntax.specs.declared.protocol.MoveBody.TheVariants as text;
+ghost use Rattle.protocol_syntax.specs.MoveLetters.{belongs_to, renamed_guard, renamed_pair};
+ghost use Rattle.protocol_syntax.specs.declared.protocol.Move.TheVariants.{At, Stack};
+ghost use Rattle.protocol_model.specs.Numbering.{number_of, move_of_text, step_of, rule_of};
+ghost use Rattle.protocol_model.specs.Faults.{unknown, letters_fault, entry_fault, body_fault, step_fault, rule_fault, first_fault_of};
 ghost use Rattle.protocol_model.specs.Outcome.{IsOutcome, IsFault};
 ghost use Rattle.protocol_model.specs.declared.fault.ModelFault.TheVariants as fault;
 
@@ -30,18 +32,20 @@ fn four_numbers(
     c: &Name,
     d: &Name,
 ) -> Result<((u32, u32), (u32, u32)), ModelFault>
-    ensures { IsOutcome (four_fault letters.now a.now b.now c.now d.now)
+    ensures { IsOutcome (letters_fault letters.now (a.now ∷ b.now ∷ c.now ∷ d.now ∷ []))
         ((number_of letters.now a.now, number_of letters.now b.now), (number_of letters.now c.now, number_of letters.now d.now))
         result }
 {
-    let first = two_numbers(alloc, letters, a, b)?;
-    let second = two_numbers(alloc, letters, c, d)?;
-    Ok((first, second))
+    let first = letter_number(alloc, letters, a)?;
+    let second = letter_number(alloc, letters, b)?;
+    let third = letter_number(alloc, letters, c)?;
+    let fourth = letter_number(alloc, letters, d)?;
+    Ok(((first, second), (third, fourth)))
 }
 
 /// A guard of a move.
 fn resolve_guard(alloc: Global, letters: &Names, guard: &GuardText) -> Result<Guard, ModelFault>
-    ensures { IsOutcome (letters_fault letters.now guard.now.letters) (guard_of letters.now guard.now) result }
+    ensures { IsOutcome (letters_fault letters.now guard.now.letters) (renamed_guard (number_of letters.now) guard.now) result }
 {
     let numbers = letter_numbers(alloc, letters, guard.letters.as_slice())?;
     Ok(Guard {
@@ -58,7 +62,7 @@ fn resolve_guards(
     guards: &[GuardText],
 ) -> Result<Sequence<Guard>, ModelFault>
     ensures { IsOutcome (first_fault_of (λ _ guard. letters_fault letters.now guard.letters) [] guards.now)
-        (map (guard_of letters.now) guards.now) result }
+        (map (renamed_guard (number_of letters.now)) guards.now) result }
 {
     let mut resolved = Vec::new(alloc);
     'guards: for guard in guards {
@@ -84,7 +88,7 @@ fn resolve_entry(
     earlier: &[(Name, Name)],
     entry: &(Name, Name),
 ) -> Result<(u32, u32), ModelFault>
-    ensures { IsOutcome (entry_fault letters.now earlier.now entry.now) (entry_of letters.now entry.now) result }
+    ensures { IsOutcome (entry_fault letters.now earlier.now entry.now) (renamed_pair (number_of letters.now) entry.now) result }
 {
     let from = letter_number(alloc, letters, &entry.0)?;
     if is_replaced(earlier, &entry.0) {
@@ -100,7 +104,7 @@ fn resolve_table(
     letters: &Names,
     entries: &[(Name, Name)],
 ) -> Result<Sequence<(u32, u32)>, ModelFault>
-    ensures { IsOutcome (first_fault_of (entry_fault letters.now) [] entries.now) (map (entry_of letters.now) entries.now) result }
+    ensures { IsOutcome (first_fault_of (entry_fault letters.now) [] entries.now) (map (renamed_pair (number_of letters.now)) entries.now) result }
 {
     let mut resolved = Vec::new(alloc);
     'entries: for (i, entry) in entries.iter().enumerate() {
@@ -119,8 +123,10 @@ fn resolve_at(
     guards: &[GuardText],
     entries: &[(Name, Name)],
 ) -> Result<Move, ModelFault>
-    ensures { IsOutcome (body_fault letters.now (text.At from.now to.now guards.now entries.now))
-        (move_of_text letters.now (text.At from.now to.now guards.now entries.now)) result }
+    ensures { IsOutcome (option_or (letters_fault letters.now (from.now ∷ to.now ∷ []))
+        (option_or (first_fault_of (λ _ guard. letters_fault letters.now guard.letters) [] guards.now)
+        (first_fault_of (entry_fault letters.now) [] entries.now)))
+        (move_of_text letters.now (At from.now to.now guards.now entries.now)) result }
 {
     let (from, to) = two_numbers(alloc, letters, from, to)?;
     let guards = resolve_guards(alloc, letters, guards)?;
@@ -140,8 +146,8 @@ fn resolve_stack(
     pop: &Option<Name>,
     push: &[Name],
 ) -> Result<Move, ModelFault>
-    ensures { IsOutcome (body_fault letters.now (text.Stack pop.now push.now))
-        (move_of_text letters.now (text.Stack pop.now push.now)) result }
+    ensures { IsOutcome (option_or (option_map_or (unknown letters.now) pop.now None) (letters_fault letters.now push.now))
+        (move_of_text letters.now (Stack pop.now push.now)) result }
 {
     let pop = match pop {
         Some(name) => Some(letter_number(alloc, letters, name)?),
@@ -191,7 +197,7 @@ fn resolve_body(alloc: Global, letters: &Names, body: &MoveBody) -> Result<Move,
         MoveBody::Exit { letter } => Ok(Move::Exit {
             letter: letter_number(alloc, letters, letter)?,
         }),
-        MoveBody::Lose { base } => Ok(Move::Lose {
+        MoveBody::Lose { letters: base } => Ok(Move::Lose {
             letters: resolve_base(alloc, letters, base)?,
         }),
     }
@@ -199,7 +205,7 @@ fn resolve_body(alloc: Global, letters: &Names, body: &MoveBody) -> Result<Move,
 
 /// Whether the move belongs to sections of this kind.
 fn is_of_kind(body: &MoveBody, kind: Kind) -> bool
-    ensures { result ≡ body_belongs_to body.now kind }
+    ensures { result ≡ belongs_to body.now kind }
 {
     match body {
         MoveBody::At { .. }

@@ -1,7 +1,7 @@
 //! The data of systems, configurations and runs.
 //! A system is seen as its data, with its validity as the invariant: whoever has one knows that numbers are in range and names distinct.
 
-use protocol_syntax::{Kind, Many, Region};
+use protocol_syntax::{Kind, Many};
 use sequence::{Sequence, Text};
 use std::marker::Model;
 
@@ -39,104 +39,11 @@ pub struct Row {
     pub parts: Sequence<(u32, Pattern)>,
 }
 
-/// A guard of a moving position: all or some letters of a region belong to a set.
-#[derive(Drop, Debug)]
-pub struct Guard {
-    /// Whether all letters of the region must belong to the set; else some letter must.
-    pub all: bool,
-    /// The positions that the guard speaks of; the moving position is in none of them.
-    pub region: Region,
-    /// The letters of the set, by their numbers in the section.
-    pub letters: Sequence<u32>,
-}
+/// A guard of a move, with the numbers of letters in the section.
+pub type Guard = protocol_syntax::Guard<u32>;
 
-/// What a rule does to one section. Letters are numbers in this section.
-#[derive(Drop, Debug)]
-pub enum Move {
-    /// Of an array: a position changes from `from` to `to` where every guard holds, and the table changes all others.
-    At {
-        /// The letter of the moving position before the step.
-        from: u32,
-        /// Its letter after the step.
-        to: u32,
-        /// What must hold of the other positions before the step.
-        guards: Sequence<Guard>,
-        /// What the letters of the other positions become; a letter that is not on the left stays.
-        map: Sequence<(u32, u32)>,
-    },
-    /// Of an array: two neighbours `a b` become `c d`.
-    Pair {
-        /// The left letter before.
-        a: u32,
-        /// The right letter before.
-        b: u32,
-        /// The left letter after.
-        c: u32,
-        /// The right letter after.
-        d: u32,
-    },
-    /// Of an array of two or more: the last position changes from `a` to `c` and the first from `b` to `d`.
-    Ring {
-        /// The last letter before.
-        a: u32,
-        /// The first letter before.
-        b: u32,
-        /// The last letter after.
-        c: u32,
-        /// The first letter after.
-        d: u32,
-    },
-    /// Of an array: two distinct positions, in either order, change from `a` to `c` and from `b` to `d`.
-    Two {
-        /// The letter of the one before.
-        a: u32,
-        /// The letter of the other before.
-        b: u32,
-        /// The letter of the one after.
-        c: u32,
-        /// The letter of the other after.
-        d: u32,
-    },
-    /// Of a cell: its letter changes from `from` to `to`.
-    Set {
-        /// The letter before.
-        from: u32,
-        /// The letter after.
-        to: u32,
-    },
-    /// Of a channel: the letter is appended at the right.
-    Send {
-        /// The letter that is sent.
-        letter: u32,
-    },
-    /// Of a channel: the letter at the left is removed.
-    Recv {
-        /// The letter that is received.
-        letter: u32,
-    },
-    /// Of a stack: the top, at the left, is removed, and then the pushed letters stand at the left in this order.
-    Stack {
-        /// The letter that is popped, if any.
-        pop: Option<u32>,
-        /// The letters that are pushed.
-        push: Sequence<u32>,
-    },
-    /// Of an array: a position with the letter is added at the right.
-    Spawn {
-        /// The letter of the new position.
-        letter: u32,
-    },
-    /// Of an array: a position with the letter is removed, wherever it stands.
-    Exit {
-        /// The letter of the position that is removed.
-        letter: u32,
-    },
-    /// Of a lossy channel: a letter of the set is removed, wherever it stands.
-    Lose {
-        /// The letters that may be lost.
-        letters: Sequence<u32>,
-    },
-}
+/// What a rule does to one section, with the numbers of letters in this section.
+pub type Move = protocol_syntax::Move<u32, Sequence<u32>>;
 
 /// A rule: its name, and a move for each section that it names. Every other section stays.
 #[derive(Drop, Debug)]

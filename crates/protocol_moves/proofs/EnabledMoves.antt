@@ -3,7 +3,7 @@ use Rattle.std.proofs.Common.{◌≡◌, ◌==◌, ◌↔◌, inl, inr, ℕ, zer
 use Rattle.std.specs.List.{Contains}
 use Rattle.std.proofs.lemmas.Bool.{ne_eqb, eq-eqb, cases_lt, false_from_ne_true, or_cases, or_left, or_right}
 use Rattle.std.proofs.lemmas.List.Folds.{list_any_at}
-use Rattle.protocol_model.specs.declared.system.Guard.{Guard}
+use Rattle.protocol_model.specs.System.{Guard}
 use Rattle.protocol_moves.specs.declared.extent.Extent.{Extent}
 use Rattle.protocol_model.specs.Moves.{is_in, table_value, popped, IsAtMove, IsPairMove, IsRingMove, IsTwoMove, IsStackMove}
 use Rattle.protocol_moves.specs.Extents.{HaveExtents, all_hold}

@@ -7,7 +7,7 @@ use Rattle.std.proofs.lemmas.List.Folds.{list_any-append}
 use Rattle.std.proofs.lemmas.Bool.Decides.{Decides-eqb}
 use Rattle.protocol_syntax.specs.declared.protocol.Region.{Region}
 use Rattle.protocol_syntax.specs.declared.protocol.Region.TheVariants.{Left, Right, Others}
-use Rattle.protocol_model.specs.declared.system.Guard.{Guard}
+use Rattle.protocol_model.specs.System.{Guard}
 use Rattle.protocol_model.specs.Moves.{is_in, table_value, guard_holds, region_letters, IsAtMove, IsPairMove}
 use Rattle.protocol_model.proofs.Lists.{list_any_map}
 use Rattle.protocol_moves.specs.Extents.{is_marked, IsExtent, is_hit, changes, is_region_hit, holds_at, is_at, is_pair_at}

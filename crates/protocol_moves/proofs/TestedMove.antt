@@ -1,7 +1,7 @@
 -- What the tests of moves compute, by extents.
 use Rattle.std.proofs.Common.{◌≡◌, ◌==◌, ℕ, zero, suc, ◌+◌, ◌-◌, ◌<◌, ◌≤◌, min, Bool, true, false, List, [], ◌∷◌, length, refl, ap, sym, subst, ◌∙◌, ◌&&◌, not, nat_lt, arith, take, drop, set, get_or, add-one, map, if◌then◌else◌}
 use Rattle.std.specs.List.{list_all}
-use Rattle.protocol_model.specs.declared.system.Guard.{Guard}
+use Rattle.protocol_model.specs.System.{Guard}
 use Rattle.protocol_moves.specs.declared.extent.Extent.{Extent}
 use Rattle.protocol_model.specs.Moves.{table_value, guard_holds}
 use Rattle.protocol_moves.specs.Extents.{is_marked, IsExtent, is_hit, changes, is_at, is_pair_at, HaveExtents, all_hold}

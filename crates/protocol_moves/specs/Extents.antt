@@ -4,7 +4,7 @@ use Rattle.std.specs.List.{list_any, list_all}
 use Rattle.std.specs.Prelude.{◌&&◌, slice_index_or as get_or}
 use Rattle.protocol_syntax.specs.declared.protocol.Region.{Region}
 use Rattle.protocol_syntax.specs.declared.protocol.Region.TheVariants.{Left, Right, Others}
-use Rattle.protocol_model.specs.declared.system.Guard.{Guard}
+use Rattle.protocol_model.specs.System.{Guard}
 use Rattle.protocol_moves.specs.declared.extent.Extent.{Extent}
 use Rattle.protocol_model.specs.Moves.{is_in, table_value, guard_holds}
 

@@ -3,3 +3,4 @@ pub mod Told
 pub mod Within
 pub mod Lexing
 pub mod Printed
+pub mod FirstLanguage

@@ -1,10 +1,11 @@
 -- Words that are written: they are tokens, and wherever they stand a form says them again, within the limits.
+use denote.Enum.Bare.{sameb}
 use Rattle.std.proofs.Common.{◌≡◌, ℕ, ◌+◌, ◌-◌, ◌<◌, Bool, true, false, List, [], ◌∷◌, ◌++◌, Option, Some, None, length, map, refl, sym, ap, subst, ◌∙◌, inl, inr, arith, slice_get, nat_le, position, append_assoc, append-nil, length-append}
 use Rattle.std.proofs.lemmas.List.{length-map, map-append}
 use Rattle.std.specs.Prelude.{⊤}
-use Rattle.std.specs.List.{flat_map, list_all, AllByRecursion}
+use Rattle.std.specs.List.{find, flat_map, list_all, AllByRecursion}
 use Rattle.protocol_lexer.specs.Piece.{is_word_byte}
-use Rattle.std.specs.Option.{option_map}
+use Rattle.std.specs.Option.{option_map, unwrap_or}
 use Rattle.std.specs.Str.{bytes_eq}
 use Rattle.protocol_lexer.specs.declared.Token.{Token}
 use Rattle.protocol_lexer.specs.declared.TokenKind.{TokenKind}
@@ -15,7 +16,8 @@ use Rattle.forms.specs.declared.symbol.Keyword.{Keyword}
 use Rattle.forms.specs.declared.symbol.Keyword.TheVariants as Words
 use Rattle.forms.specs.declared.symbol.Symbol.{Symbol}
 use Rattle.forms.specs.declared.symbol.Symbol.TheVariants.{Unreserved, Reserved}
-use Rattle.forms.specs.Symbol.{Source, keyword_of, spelling, spelled, symbol, symbol_of_kind, symbol_of_keyword}
+use Rattle.forms.specs.contracts.symbol.Keyword.{the_type}
+use Rattle.forms.specs.Symbol.{Source, reserved_words, keyword_of, spelled, symbol, symbol_of_kind, symbol_of_keyword}
 use Rattle.forms.specs.Grammar.{Grammar, sign, name, one_of, gives, ◌>>=◌, ◌or◌, optional, many, many_by, item, only, up_to, means, SaysMany, IsAt, name_of}
 use Rattle.protocol_syntax.proofs.Lexing.{kind_of, kind_of_word, is_word, IsToken, IsToken-word, AreWords}
 use Rattle.forms.proofs.MayMean.{MayMean, AllAfter, IsName}
@@ -56,6 +58,10 @@ prints_sign x w token e = record {
   some = (tt, tt);
   says = λ s i k h. (tt, (h.1, (h.0.spot, subst (λ (y : Symbol). IsAt s i y h.0.spot) e h.0.at, refl)), tt);
 }
+
+-- how a reserved word is written
+abbrev pub spelling : Keyword → List ℕ
+spelling k = unwrap_or (option_map (λ word. word.1) (find (λ word. sameb the_type word.0 k) reserved_words)) []
 
 keyword_is_word : (k : Keyword) → (is_word (spelling k) ≡ true) × (symbol_of (spelling k) ≡ Reserved k)
 unfolding keyword_of

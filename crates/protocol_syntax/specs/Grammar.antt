@@ -14,9 +14,7 @@ use Rattle.protocol_syntax.specs.declared.protocol.BaseText.{BaseText}
 use Rattle.protocol_syntax.specs.declared.protocol.BaseText.TheVariants.{Letter, Set, Any}
 use Rattle.protocol_syntax.specs.declared.protocol.RuleText.{RuleText}
 use Rattle.protocol_syntax.specs.declared.protocol.MoveText.{MoveText}
-use Rattle.protocol_syntax.specs.declared.protocol.MoveBody.{MoveBody}
-use Rattle.protocol_syntax.specs.declared.protocol.MoveBody.TheVariants as Moves
-use Rattle.protocol_syntax.specs.declared.protocol.GuardText.{GuardText}
+use Rattle.protocol_syntax.specs.declared.protocol.Move.TheVariants as Moves
 use Rattle.protocol_syntax.specs.declared.protocol.Kind.{Kind}
 use Rattle.protocol_syntax.specs.declared.protocol.Kind.TheVariants as Kinds
 use Rattle.protocol_syntax.specs.declared.protocol.Many.{Many}
@@ -28,6 +26,7 @@ use Rattle.forms.specs.declared.symbol.Keyword.TheVariants as Words
 use Rattle.forms.specs.declared.symbol.Symbol.TheVariants.{Reserved, Sign}
 use Rattle.forms.specs.FirstFault.{IsMeaning, IsFault}
 use Rattle.forms.specs.Grammar.{Grammar, name, one_of, sign, gives, ◌>>=◌, ◌or◌, optional, many, many_by, item, up_to, only, means}
+use Rattle.protocol_syntax.specs.MoveLetters.{MoveBody, GuardText}
 use Rattle.protocol_syntax.specs.declared.limits.TheConstants.{MAX_SECTIONS, MAX_LETTERS, MAX_ROWS, MAX_RULES, MAX_ATOMS, MAX_GUARDS, MAX_PUSHED}
 
 -- what came with language 2 stands in texts of this language alone

@@ -1,4 +1,6 @@
+pub mod MoveLetters
 pub mod Grammar
 pub mod Properties
 pub mod Spacing
 pub mod OneReading
+pub mod FirstLanguage

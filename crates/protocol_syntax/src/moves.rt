@@ -310,8 +310,8 @@ fn lose_move(source: &Source<'_>, at: &mut usize) -> Result<MoveBody, SyntaxFaul
     ensures { IsRead lose_move (source_of source.now.text.now source.now.tokens.now) at.old at.new result }
 {
     LOSE.read(source, at)?;
-    let base = Base.read(source, at)?;
-    Ok(MoveBody::Lose { base })
+    let letters = Base.read(source, at)?;
+    Ok(MoveBody::Lose { letters })
 }
 
 /// A move that came with language 2.

@@ -9,10 +9,9 @@ use Rattle.std.proofs.lemmas.List.Sums.{sum_by-append, sum_by-cons}
 use Rattle.std.proofs.lemmas.List.Elements.{All-nil, All-cons, All-weaker, All-from_recursion}
 use Rattle.std.proofs.lemmas.Option.{same_Some, slice_get_read}
 use Rattle.protocol_model.specs.declared.system.Section.{Section}
-use Rattle.protocol_model.specs.declared.system.Move.{Move}
 use Rattle.protocol_model.specs.declared.system.Rule.{Rule}
 use Rattle.protocol_model.specs.declared.system.Configuration.{Configuration}
-use Rattle.protocol_model.specs.System.{SystemData, IsValid, IsValidPart, IsValidRule, letter_count, total_letters}
+use Rattle.protocol_model.specs.System.{Move, SystemData, IsValid, IsValidPart, IsValidRule, letter_count, total_letters}
 use Rattle.protocol_model.specs.Steps.{ChangesBy, move_of}
 use Rattle.protocol_model.specs.Words.{separator_of, automata_letters, IsWordStep}
 use Rattle.transducers.specs.Transducer.{Transducer, Relates}

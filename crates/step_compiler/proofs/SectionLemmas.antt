@@ -7,9 +7,8 @@ use Rattle.std.proofs.lemmas.List.Elements.{All-nil, All-cons, All-head, All-tai
 use Rattle.protocol_syntax.specs.declared.Kind.{Kind}
 use Rattle.protocol_syntax.specs.declared.Kind.TheVariants.{Cell}
 use Rattle.protocol_model.specs.declared.system.Section.{Section}
-use Rattle.protocol_model.specs.declared.system.Move.{Move}
-use Rattle.protocol_model.specs.declared.system.Move.TheVariants.{At, Pair, Ring, Two, Set, Send, Recv, Stack, Spawn, Exit, Lose}
-use Rattle.protocol_model.specs.System.{AllBelow, belongs_to, letter_count}
+use Rattle.protocol_syntax.specs.declared.protocol.Move.TheVariants.{Set}
+use Rattle.protocol_model.specs.System.{Move, AllBelow, belongs_to, letter_count}
 use Rattle.protocol_model.specs.Moves.{IsMove}
 use Rattle.protocol_model.specs.Patterns.{has_any_length}
 use Rattle.protocol_model.specs.Raised.{IsRaisedMove}
@@ -68,17 +67,8 @@ any_lengths m kind old new no_cell e =
 
 move_lengths : (m : Move) (kind : Kind) (old new : List ℕ) → IsTrue (belongs_to m kind) → IsMove m old new
     → IsTrue (has_length kind old) × IsTrue (has_length kind new)
-move_lengths (At f t guards table) kind old new e h = any_lengths (At f t guards table) kind old new refl e
-move_lengths (Pair a b c d) kind old new e h = any_lengths (Pair a b c d) kind old new refl e
-move_lengths (Ring a b c d) kind old new e h = any_lengths (Ring a b c d) kind old new refl e
-move_lengths (Two a b c d) kind old new e h = any_lengths (Two a b c d) kind old new refl e
 move_lengths (Set a b) kind old new e h = (one_letter kind a old h.0, one_letter kind b new h.1)
-move_lengths (Send a) kind old new e h = any_lengths (Send a) kind old new refl e
-move_lengths (Recv a) kind old new e h = any_lengths (Recv a) kind old new refl e
-move_lengths (Stack pop push) kind old new e h = any_lengths (Stack pop push) kind old new refl e
-move_lengths (Spawn a) kind old new e h = any_lengths (Spawn a) kind old new refl e
-move_lengths (Exit a) kind old new e h = any_lengths (Exit a) kind old new refl e
-move_lengths (Lose letters) kind old new e h = any_lengths (Lose letters) kind old new refl e
+move_lengths m kind old new e h = any_lengths m kind old new refl e
 
 -- a transducer of the section, from its move or from none
 pub moved_transducer : (section : Section) (m : Move) (move : Option Move) (letters offset count : ℕ) (t : Transducer)

@@ -3,8 +3,7 @@ use Rattle.std.proofs.Common.{◌≡◌, ℕ, zero, suc, ◌+◌, ◌<◌, true,
 use Rattle.std.proofs.Common.{refl, sym, ap, ◌∙◌, subst, arith, true≢false, add-zero}
 use Rattle.std.proofs.lemmas.Bool.{and_parts, and_from}
 use Rattle.protocol_model.specs.declared.system.Section.{Section}
-use Rattle.protocol_model.specs.declared.system.Move.{Move}
-use Rattle.protocol_model.specs.System.{letter_count}
+use Rattle.protocol_model.specs.System.{Move, letter_count}
 use Rattle.protocol_model.specs.Patterns.{list_fits, lists_fit}
 use Rattle.protocol_model.specs.Steps.{ChangesBy, move_of}
 use Rattle.protocol_model.specs.Words.{raised, raised_lists, joined}

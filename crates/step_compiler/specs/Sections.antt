@@ -2,8 +2,7 @@
 use Rattle.std.specs.Prelude.{◌≡◌, ◌==◌, ◌||◌, ◌+◌, ◌↔◌, ℕ, List, [], ◌∷◌, Option, IsTrue, length}
 use Rattle.protocol_syntax.specs.declared.protocol.Kind.{Kind}
 use Rattle.protocol_model.specs.declared.system.Section.{Section}
-use Rattle.protocol_model.specs.declared.system.Move.{Move}
-use Rattle.protocol_model.specs.System.{belongs_to, IsValidMove, letter_count}
+use Rattle.protocol_model.specs.System.{Move, belongs_to, IsValidMove, letter_count}
 use Rattle.protocol_model.specs.Patterns.{has_any_length, list_fits}
 use Rattle.protocol_model.specs.Steps.{ChangesBy, move_of}
 use Rattle.protocol_model.specs.Words.{raised}

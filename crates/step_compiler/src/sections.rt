@@ -3,11 +3,10 @@
 
 ghost use Rattle.std.specs.Prelude.{◌≡◌, ◌↔◌, ◌+◌, ◌^◌, ◌<◌, ◌≤◌, ℕ, List, Some, None, IfOk, MatchOption, length};
 ghost use Rattle.std.specs.List.{AllByRecursion};
-ghost use Rattle.protocol_model.specs.System.{IsValidMove, IsValidPart, letter_count, total_letters};
+ghost use Rattle.protocol_model.specs.System.{Move, IsValidMove, IsValidPart, letter_count, total_letters};
 ghost use Rattle.protocol_model.specs.Moves.{IsMove};
 ghost use Rattle.protocol_model.specs.Raised.{IsRaisedMove};
 ghost use Rattle.protocol_model.specs.Steps.{move_of};
-ghost use Rattle.protocol_model.specs.declared.system.Move.{Move};
 ghost use Rattle.transducers.specs.Transducer.{Relates};
 ghost use Rattle.step_compiler.specs.Sections.{Stays, IsMoveOf, IsSectionTransducer, AreSectionTransducers};
 

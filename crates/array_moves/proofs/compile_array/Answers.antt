@@ -1,7 +1,8 @@
 use Rattle.std.proofs.Common.{◌↔◌, ◌∷◌, [], ℕ, List, IfOk, sym, subst}
 use Rattle.std.proofs.lemmas.Result.{IfOk-weaker}
 use Rattle.sequence.proofs.Tests.{joined}
-use Rattle.protocol_model.specs.declared.system.Move.TheVariants.{Exit}
+use Rattle.protocol_syntax.specs.declared.protocol.Move.TheVariants.{Exit}
+use Rattle.protocol_model.specs.System.{IsValidMove}
 use Rattle.protocol_model.specs.Moves.{IsMove, IsAtMove, IsLoss}
 use Rattle.protocol_model.proofs.Cuts.{raised_cut}
 use Rattle.transducers.specs.Transducer.{Relates}
@@ -18,6 +19,11 @@ returns-in-At-clause-relates c =
     ↔ IsRaisedMove (IsAtMove c.in-At.from c.in-At.to c.as_slice.result.now table) c.args.alphabet.offset c.args.alphabet.count u w))
     c.as_slice-in-At.ensures
     c.compile_at.ensures.relates))
+
+pub compile_channel-requires-clause-valid : goal.compile_channel-requires-clause-valid
+compile_channel-requires-clause-valid c =
+    let valid = subst (IsValidMove c.args.alphabet.count) c.in-Spawn.is c.requires.valid in
+    record { in_range = valid.in_range; table_in_range = valid.table_in_range; table_distinct = valid.table_distinct; limits = valid.limits }
 
 pub returns-in-Spawn-clause-relates : goal.returns-in-Spawn-clause-relates
 returns-in-Spawn-clause-relates c =

@@ -1,7 +1,7 @@
 use Rattle.std.proofs.Common.{◌↔◌, ◌+◌, ◌<◌, ℕ, List, ◌∷◌, [], Some, None, IfOk, sym, subst}
 use Rattle.std.proofs.lemmas.Result.{IfOk-weaker}
 use Rattle.transducers.specs.Transducer.{Relates}
-use Rattle.protocol_model.specs.declared.system.Move.TheVariants.{Send, Recv}
+use Rattle.protocol_syntax.specs.declared.protocol.Move.TheVariants.{Send, Recv}
 use Rattle.protocol_model.specs.System.{IsValidMove}
 use Rattle.protocol_model.specs.Moves.{IsMove, IsLoss}
 use Rattle.protocol_model.specs.Raised.{IsRaisedMove}
@@ -14,7 +14,7 @@ pub returns-in-Send-clause-relates : goal.returns-in-Send-clause-relates
 returns-in-Send-clause-relates c =
     let alphabet = c.args.alphabet in
     let a = c.in-Send.letter in
-    let valid : a < alphabet.count = subst (IsValidMove alphabet.count) c.in-Send.is c.requires.valid in
+    let valid : a < alphabet.count = (subst (IsValidMove alphabet.count) c.in-Send.is c.requires.valid).in_range.0 in
     subst (λ m. IfOk c.copy_between.result (λ t. (u w : List ℕ) → Relates t u w ↔ IsRaisedMove (IsMove m) alphabet.offset alphabet.count u w))
     (sym c.in-Send.is)
     (IfOk-weaker c.copy_between.result
@@ -29,7 +29,7 @@ returns-in-Recv-clause-relates c =
     let alphabet = c.args.alphabet in
     let a = c.in-Recv.letter in
     let result = c.copy_between-in-Recv.result in
-    let valid : a < alphabet.count = subst (IsValidMove alphabet.count) c.in-Recv.is c.requires.valid in
+    let valid : a < alphabet.count = (subst (IsValidMove alphabet.count) c.in-Recv.is c.requires.valid).in_range.0 in
     subst (λ m. IfOk result (λ t. (u w : List ℕ) → Relates t u w ↔ IsRaisedMove (IsMove m) alphabet.offset alphabet.count u w)) (sym c.in-Recv.is)
     (IfOk-weaker result
     (λ t. (u w : List ℕ) → Relates t u w ↔ IsCopiedBetween (reading (a + alphabet.offset) ∷ []) None alphabet.offset alphabet.count u w)

@@ -1,5 +1,6 @@
 use Rattle.std.proofs.lemmas.Result.{err_from_is_err_and}
-use Rattle.protocol_model.specs.Numbering.{guard_of}
+use Rattle.protocol_syntax.specs.MoveLetters.{renamed_guard}
+use Rattle.protocol_model.specs.Numbering.{number_of}
 use Rattle.protocol_model.specs.Faults.{letters_fault}
 use Rattle.protocol_model.proofs.Walk.{stops, goes_on}
 use Rattle.protocol_model.proofs.rules.resolve_guards.Goals as goal
@@ -9,12 +10,12 @@ returns-in_err-next c =
     let walk = c.guards in
     let p = err_from_is_err_and c.from_residual.result c.from_residual.ensures.1 in
     rw (p.1, p.2)
-    (stops (λ _ guard. letters_fault c.args.letters.now guard.letters) (guard_of c.args.letters.now) c.args.guards.now walk.guard-index walk.resolved.items c.guard-item.result
+    (stops (λ _ guard. letters_fault c.args.letters.now guard.letters) (renamed_guard (number_of c.args.letters.now)) c.args.guards.now walk.guard-index walk.resolved.items c.guard-item.result
     c.in_err-next.field-0.0 c.guards-test.true walk.invariant c.guard-item.is c.in_err-next.ensures)
 
 pub guards-preserved : goal.guards-preserved
 guards-preserved c =
     let walk = c.guards in
     rw c.in_ok-push.ensures.items
-    (goes_on (λ _ guard. letters_fault c.args.letters.now guard.letters) (guard_of c.args.letters.now) c.args.guards.now walk.guard-index walk.resolved.items c.guard-item.result c.in_ok-next.next
+    (goes_on (λ _ guard. letters_fault c.args.letters.now guard.letters) (renamed_guard (number_of c.args.letters.now)) c.args.guards.now walk.guard-index walk.resolved.items c.guard-item.result c.in_ok-next.next
     c.guards-test.true walk.invariant c.guard-item.is c.in_ok-next.ensures.0 c.in_ok-next.ensures.1)

@@ -9,7 +9,8 @@ use Rattle.protocol_syntax.specs.declared.protocol.Kind.{Kind}
 use Rattle.protocol_syntax.specs.declared.protocol.SectionText.{SectionText}
 use Rattle.protocol_model.specs.declared.fault.ModelFault.TheVariants.{Unknown, TouchedTwice, WrongKind}
 use Rattle.protocol_model.specs.Numbering.{section_names, section_named, letters_named}
-use Rattle.protocol_model.specs.Faults.{is_among, unknown, touched_twice, wrong_kind, body_fault, body_belongs_to}
+use Rattle.protocol_model.specs.Faults.{is_among, unknown, touched_twice, wrong_kind, body_fault}
+use Rattle.protocol_syntax.specs.MoveLetters.{belongs_to}
 use Rattle.protocol_model.proofs.rules.resolve_step.Goals as goal
 
 -- the test of a kind, where the section is there
@@ -46,12 +47,12 @@ returns-then-not-is_of_kind c =
     list_any_map (bytes_eq name.text) (λ before. before.section.text) c.args.earlier.now ∙ sym c.is_touched.ensures ∙ c.if-is_touched.false in
     let fresh : touched_twice earlier name ≡ None = ap (λ b. cond b (Some (TouchedTwice name)) None) among in
     let body = body_fault (letters_named sections name) step.body in
-    let test = option_map_or (λ section. body_belongs_to step.body section.kind) (section_named sections name) false in
+    let test = option_map_or (λ section. belongs_to step.body section.kind) (section_named sections name) false in
     or_right (unknown (section_names sections) name) (option_or (touched_twice earlier name) (option_or (wrong_kind sections step) body)) c.wrong_kind_name.result known
     (or_right (touched_twice earlier name) (option_or (wrong_kind sections step) body) c.wrong_kind_name.result fresh
     (or_left (wrong_kind sections step) body c.wrong_kind_name.result
     (fault_where_false test (WrongKind name) c.wrong_kind_name.result
-    (kind_test (section_named sections name) (body_belongs_to step.body) c.in-Some.found.kind false c.in-Some.ensures.found.of_kind
+    (kind_test (section_named sections name) (belongs_to step.body) c.in-Some.found.kind false c.in-Some.ensures.found.of_kind
     (sym c.is_of_kind.ensures ∙ c.if-not-is_of_kind.true))
     c.wrong_kind_name.ensures)))
 
@@ -69,7 +70,7 @@ returns-in_err-body c =
     let body = body_fault (letters_named sections name) step.body in
     let right : wrong_kind sections step ≡ None =
     ap (λ b. cond b None (Some (WrongKind name)))
-    (kind_test (section_named sections name) (body_belongs_to step.body) c.in-Some.found.kind true c.in-Some.ensures.found.of_kind
+    (kind_test (section_named sections name) (belongs_to step.body) c.in-Some.found.kind true c.in-Some.ensures.found.of_kind
     (sym c.is_of_kind.ensures ∙ c.if-not-is_of_kind.false)) in
     let p = err_from_is_err_and c.from_residual.result c.from_residual.ensures.1 in
     rw (p.1, p.2)
@@ -92,7 +93,7 @@ returns c =
     let body = body_fault (letters_named sections name) step.body in
     let right : wrong_kind sections step ≡ None =
     ap (λ b. cond b None (Some (WrongKind name)))
-    (kind_test (section_named sections name) (body_belongs_to step.body) c.in-Some.found.kind true c.in-Some.ensures.found.of_kind
+    (kind_test (section_named sections name) (belongs_to step.body) c.in-Some.found.kind true c.in-Some.ensures.found.of_kind
     (sym c.is_of_kind.ensures ∙ c.if-not-is_of_kind.false)) in
     let done = rw c.in-Some.ensures.found.with_letters at c.in_ok-body.ensures in (
       or_none (unknown (section_names sections) name) (option_or (touched_twice earlier name) (option_or (wrong_kind sections step) body)) known
