@@ -4,6 +4,7 @@
 
 ghost use Rattle.std.specs.Prelude.{◌≡◌, ◌≤◌, ◌<◌, ◌++◌, IfOk, OnOk, string_bytes};
 ghost use Rattle.chain_protocol.specs.Chain.{chain_text, joined, next_letter, rule_line};
+ghost use Rattle.chain_protocol.specs.Meaning.{SaysChain};
 
 use std::alloc::{AllocError, Global};
 
@@ -29,13 +30,14 @@ fn write_rules(text: &mut String, count: u32) -> Result<(), AllocError>
     Ok(())
 }
 
-/// The text of the chain with `number` letters beside `dead`, in canonical layout: its rules change letter i into letter i + 1. The search
-/// proves it safe in one round, whose sizes grow with the number.
+/// The text of the chain with `number` letters beside `dead`, in canonical layout: its rules change letter i into letter i + 1. It says a
+/// protocol without a fault. The search proves it safe in one round, whose sizes grow with the number.
 ///
 /// Errors: `AllocError` where memory runs out.
 pub fn generate(alloc: Global, number: u32) -> Result<Vec<u8>, AllocError>
     requires { (1 ≤ number) × (number ≤ 255) }
-    ensures { IfOk result (λ text. text.items ≡ chain_text number) }
+    ensures text { IfOk result (λ text. text.items ≡ chain_text number) }
+    ensures chain { IfOk result (λ text. SaysChain number text.items) }
 {
     let mut text = String::from_str(alloc, "protocol chain\narray P {")?;
     write_letters(&mut text, number)?;
