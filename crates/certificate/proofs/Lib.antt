@@ -3,26 +3,18 @@ mod AlphabetLemmas
 mod FaultLemmas
 mod HasFaultLemmas
 mod IndexLemmas
-mod IndexedLineLemmas
-mod IndexedMeaningLemmas
-mod IndexedTextLemmas
 mod LayoutLemmas
-mod LetterIndexLemmas
-mod LetterTableLemmas
 mod LineLemmas
 mod NextLemmas
 mod NumberLemmas
 mod OneOpeningLemmas
 mod OneReadingLemmas
-mod OneRunLemmas
+pub mod OneRunLemmas
 mod OpeningLemmas
-mod ReadingLemmas
+pub mod ReadingLemmas
 mod RunLayoutLemmas
 mod RunLineLayoutLemmas
 mod RunLineLemmas
-mod RunWritingLemmas
-mod SafeTextLemmas
-mod SameAutomatonLemmas
-mod VersionLemmas
-mod WritingLemmas
-mod WrittenLemmas
+pub mod SafeTextLemmas
+pub mod SameAutomatonLemmas
+pub mod VersionLemmas

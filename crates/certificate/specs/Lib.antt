@@ -1,8 +1,6 @@
 pub mod Alphabet
 pub mod Bytes
 pub mod Faults
-pub mod IndexedWriting
-pub mod IndexedWritingParts
 pub mod LayoutParts
 pub mod LineLayout
 pub mod Meaning
@@ -15,5 +13,3 @@ pub mod RunFaults
 pub mod RunLayout
 pub mod RunText
 pub mod SafeText
-pub mod Writing
-pub mod WritingParts

@@ -10,7 +10,7 @@ use Rattle.protocol_model.specs.Words.{word_of}
 use Rattle.boolean_operations.specs.LeastWords.{AcceptsNothing, IsLeastAccepted}
 use Rattle.certificate_checker.specs.Answers.{IsLeastConfiguration}
 use Rattle.certificate_checker.specs.Parts.{AcceptsConfigurations, IsAcceptedWord}
-use Rattle.certificate_checker.proofs.WordFacts.{word_of-injective}
+use Rattle.configuration_words.proofs.WordFacts.{word_of-injective}
 
 module _ (s : SystemData) where
   -- properties of the same configurations have the same least ones

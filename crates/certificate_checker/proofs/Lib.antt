@@ -1,6 +1,5 @@
 pub mod Soundness
 pub mod SameLanguage
-pub mod WordFacts
 pub mod Least
 pub mod Parts
 pub mod SingleWords

@@ -19,7 +19,7 @@ use Rattle.certificate_checker.specs.Proof.{Proves}
 use Rattle.certificate_checker.specs.Answers.{IsAnswer, IsAutomatonAnswer, IsAnswerToRun, IsLeastConfiguration, IsLeastExit, IsMissing, IsHeld, IsLeft, IsAcceptedBefore, HasNone}
 use Rattle.certificate_checker.specs.declared.answer.Answer.{Answer}
 use Rattle.certificate_checker.specs.declared.answer.Answer.TheVariants.{Valid, InitialMissing, BadHeld, Leaves, NotInitial, NotStep, NotBad}
-use Rattle.certificate_checker.proofs.WordFacts.{word_of-injective}
+use Rattle.configuration_words.proofs.WordFacts.{word_of-injective}
 
 -- a property of configurations that fit has one least configuration at most
 least_once : (s : SystemData) (P : Configuration → Type 0) → ((c : Configuration) → P c → IsTrue (fits s c)) → (c d : Configuration)

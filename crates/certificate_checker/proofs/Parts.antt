@@ -18,7 +18,7 @@ use Rattle.boolean_operations.specs.Inclusion.{IsOutside, IsIncluded}
 use Rattle.certificate_checker.specs.Proof.{Proves}
 use Rattle.certificate_checker.specs.Answers.{IsLeastConfiguration, IsMissing, IsHeld, IsLeft, IsAcceptedBefore, HasNone}
 use Rattle.certificate_checker.specs.Parts.{AcceptsConfigurations, IsAcceptedWord, IsBefore}
-use Rattle.certificate_checker.proofs.WordFacts.{word_of-injective}
+use Rattle.configuration_words.proofs.WordFacts.{word_of-injective}
 use Rattle.certificate_checker.proofs.Least.{least-same, chosen-configurations, chosen-to, chosen-from, chosen-none}
 
 module _ (s : SystemData) (m : Automaton) where

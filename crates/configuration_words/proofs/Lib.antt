@@ -1,5 +1,6 @@
 pub mod CutLemmas
 pub mod WordLemmas
+pub mod WordFacts
 pub mod EncodingLemmas
 pub mod DecodingLemmas
 pub mod TextLemmas

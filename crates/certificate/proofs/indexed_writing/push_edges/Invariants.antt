@@ -1,7 +1,0 @@
-use Rattle.std.proofs.Common.{◌≡◌, ◌++◌, flat_map}
-use Rattle.std.specs.List.{range_with_len}
-use Rattle.certificate.specs.IndexedWritingParts.{text_from}
-use Rattle.certificate.proofs.indexed_writing.push_edges.Given as goal
-
-abbrev pub invariant-states : goal.invariant-states
-invariant-states l = l.text.items ≡ l.fn.text.items ++ flat_map (text_from l.indices l.proof) (range_with_len 0 l.state)

@@ -1,7 +1,0 @@
-use Rattle.std.proofs.Common.{◌≡◌, ◌++◌, take}
-use Rattle.certificate.specs.LineLayout.{lines_text}
-use Rattle.certificate.specs.Writing.{lines_from}
-use Rattle.certificate.proofs.writing.push_edges_from.Given as goal
-
-abbrev pub invariant-edges : goal.invariant-edges
-invariant-edges l = l.text.items ≡ l.fn.text.items ++ lines_text l.alphabet (lines_from l.from (take l.edge-index l.edges))

@@ -1,9 +1,0 @@
-use Rattle.std.proofs.Common.{◌≡◌, ◌++◌, drop, flat_map}
-use Rattle.certificate.specs.Writing.{final_states}
-use Rattle.certificate.specs.WritingParts.{final_text}
-use Rattle.certificate.proofs.writing.push_final_states.Given as goal
-
-abbrev pub invariant-states : goal.invariant-states
-invariant-states l =
-    l.text.items ++ flat_map final_text (final_states l.state (drop l.state l.proof.states))
-    ≡ l.fn.text.items ++ flat_map final_text (final_states 0 l.proof.states)

@@ -1,9 +1,0 @@
-use Rattle.std.proofs.Common.{sym, subst}
-use Rattle.certificate.specs.SafeText.{MeansAutomaton}
-use Rattle.certificate.proofs.WrittenLemmas.{written_means}
-use Rattle.certificate.proofs.writing.write_safe.Goals as goal
-
-pub returns-clause-meaning : goal.returns-clause-meaning
-returns-clause-meaning c =
-    subst (λ text. MeansAutomaton c.args.system.now text c.args.proof.now) (sym c.in_ok-text.ensures)
-    (written_means c.args.proof.now c.states-states.ensures.valid c.args.system.now c.requires.letters c.requires.limit)

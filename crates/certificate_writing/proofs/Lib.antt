@@ -1,0 +1,8 @@
+mod IndexedLineLemmas
+mod IndexedMeaningLemmas
+mod IndexedTextLemmas
+mod LetterIndexLemmas
+mod LetterTableLemmas
+mod RunWritingLemmas
+mod WritingLemmas
+mod WrittenLemmas

@@ -1,0 +1,9 @@
+use Rattle.std.proofs.Common.{sym, subst}
+use Rattle.certificate.specs.SafeText.{MeansAutomaton}
+use Rattle.certificate_writing.proofs.IndexedMeaningLemmas.{indexed_means}
+use Rattle.certificate_writing.proofs.indexed_writing.write_safe2.Goals as goal
+
+pub returns-clause-meaning : goal.returns-clause-meaning
+returns-clause-meaning c =
+    subst (λ text. MeansAutomaton c.args.system.now text c.args.proof.now) (sym c.in_ok-text.ensures)
+    (indexed_means c.args.proof.now c.states-states.ensures.valid c.args.system.now c.requires.letters c.requires.limit)

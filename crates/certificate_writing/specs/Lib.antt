@@ -1,0 +1,4 @@
+pub mod IndexedWriting
+pub mod IndexedWritingParts
+pub mod Writing
+pub mod WritingParts

@@ -1,0 +1,196 @@
+//! The text of version 2 of an automaton.
+//! The edges of each state are sorted by target, and those to the same state stay in the order of their letters, so that the indices of
+//! a line increase. Time is linear in the text and the letters, up to this sorting.
+
+ghost use Rattle.std.specs.Prelude.{◌≡◌, ◌<◌, ◌≤◌, ◌++◌, ◌∷◌, [], All, IfOk, OnOk, None, length, flat_map};
+ghost use Rattle.std.specs.Prelude.{codes, decimal};
+ghost use Rattle.std.specs.List.{range_with_len};
+ghost use Rattle.protocol_model.specs.Words.{automata_letters};
+ghost use Rattle.certificate.specs.SafeText.{letter_line, MeansAutomaton};
+ghost use Rattle.certificate.specs.LineLayout.{letters_text, states_line};
+ghost use Rattle.certificate_writing.specs.IndexedWriting.{indexed_text};
+ghost use Rattle.certificate_writing.specs.IndexedWritingParts.{AreByTarget, before_index, line_start, sorted_text, text_from};
+
+use crate::letter_table::{indices_of, used_letters};
+use crate::writing::{push_final_states, push_number};
+use certificate::Alphabet;
+use protocol_model::System;
+use std::alloc::{AllocError, Global};
+use word_automata::Dfa;
+
+/// The text of version 2 of a certificate that is this automaton: a line for each letter that labels an edge, by letter number, the
+/// number of states, the accepting states by increasing number, and one line for each pair of a source and a target with an edge, by
+/// source and then by target, with increasing indices of letters. The only error is that memory ran out.
+pub fn write_safe2(alloc: Global, system: &System, proof: &Dfa) -> Result<Vec<u8>, AllocError>
+    requires letters { proof.now.letters ≡ automata_letters system.now }
+    requires limit { length proof.now.states ≤ 1000000 }
+    ensures text { IfOk result (λ text. text.items ≡ indexed_text system.now proof.now) }
+    ensures meaning { IfOk result (λ text. MeansAutomaton system.now text.items proof.now) }
+{
+    let _states = proof.states();
+    let text = indexed_text(alloc, system, proof)?;
+    Ok(text)
+}
+
+/// The text of version 2 of this automaton.
+fn indexed_text(alloc: Global, system: &System, proof: &Dfa) -> Result<Vec<u8>, AllocError>
+    requires { proof.now.letters ≡ automata_letters system.now }
+    ensures { IfOk result (λ text. text.items ≡ indexed_text system.now proof.now) }
+{
+    let alphabet = Alphabet::new(alloc, system)?;
+    let count = proof.states();
+    let letters = used_letters(alloc, proof)?;
+    let indices = indices_of(alloc, letters.as_slice(), proof.letters())?;
+    let mut text = Vec::from_slice(alloc, b"armc 2 safe\n")?;
+    push_letters(&mut text, &alphabet, letters.as_slice())?;
+    push_states_line(&mut text, count)?;
+    push_final_states(&mut text, proof)?;
+    push_edges(alloc, &mut text, indices.as_slice(), proof)?;
+    text.extend_from_slice(b"end\n")?;
+    Ok(text)
+}
+
+/// Adds the lines that name the letters.
+fn push_letters(text: &mut Vec<u8>, alphabet: &Alphabet, letters: &[u32]) -> Result<(), AllocError>
+    requires { All (λ a. a < automata_letters alphabet.now) letters.now }
+    ensures { OnOk result (text.new.items ≡ text.old.items ++ letters_text alphabet.now letters.now) }
+{
+    'letters: for letter in letters {
+        push_letter(text, alphabet, *letter)?;
+    }
+    Ok(())
+}
+
+/// Adds the line that names a letter.
+fn push_letter(text: &mut Vec<u8>, alphabet: &Alphabet, letter: u32) -> Result<(), AllocError>
+    requires { letter < automata_letters alphabet.now }
+    ensures { OnOk result (text.new.items ≡ text.old.items ++ (letter_line alphabet.now letter ++ 10 ∷ [])) }
+{
+    text.extend_from_slice(b"letter ")?;
+    text.extend_from_slice(alphabet.text(letter))?;
+    text.push(b'\n')?;
+    Ok(())
+}
+
+/// Adds the line on states.
+fn push_states_line(text: &mut Vec<u8>, count: usize) -> Result<(), AllocError>
+    ensures { OnOk result (text.new.items ≡ text.old.items ++ (states_line count ++ 10 ∷ [])) }
+{
+    text.extend_from_slice(b"states ")?;
+    push_number(text, count)?;
+    text.push(b'\n')?;
+    Ok(())
+}
+
+/// Adds the lines of all edges. The letters have these indices.
+fn push_edges(
+    alloc: Global,
+    text: &mut Vec<u8>,
+    indices: &[usize],
+    proof: &Dfa,
+) -> Result<(), AllocError>
+    requires { length indices.now ≡ proof.now.letters }
+    ensures { OnOk result (text.new.items ≡ text.old.items ++ flat_map (text_from indices.now proof.now)
+        (range_with_len 0 (length proof.now.states))) }
+{
+    'states: for state in 0..proof.states() {
+        push_edges_from(alloc, text, indices, proof, state)?;
+    }
+    Ok(())
+}
+
+/// Adds the lines of the edges of one state.
+fn push_edges_from(
+    alloc: Global,
+    text: &mut Vec<u8>,
+    indices: &[usize],
+    proof: &Dfa,
+    from: usize,
+) -> Result<(), AllocError>
+    requires letters { length indices.now ≡ proof.now.letters }
+    requires state { from < length proof.now.states }
+    ensures { OnOk result (text.new.items ≡ text.old.items ++ text_from indices.now proof.now from) }
+{
+    let edges = by_target(alloc, proof.edges_from(from))?;
+    push_sorted(text, indices, from, edges.as_slice())?;
+    Ok(())
+}
+
+/// The edges sorted by target; those to the same state stay in their order.
+fn by_target(alloc: Global, edges: &[(u32, usize)]) -> Result<Vec<(u32, usize)>, AllocError>
+    ensures { IfOk result (λ sorted. AreByTarget edges.now sorted.items) }
+{
+    let mut sorted = Vec::from_slice(alloc, edges)?;
+    sorted.sort_by_key(|&(_, to)| to)?;
+    Ok(sorted)
+}
+
+/// Adds the lines of the edges of one state, which are sorted by target.
+fn push_sorted(
+    text: &mut Vec<u8>,
+    indices: &[usize],
+    from: usize,
+    edges: &[(u32, usize)],
+) -> Result<(), AllocError>
+    requires { All (λ edge. edge.0 < length indices.now) edges.now }
+    ensures { OnOk result (text.new.items ≡ text.old.items ++ sorted_text indices.now from None edges.now) }
+{
+    let mut line = None;
+    'edges: for edge in edges {
+        push_index(text, from, line, edge.1, indices[edge.0 as usize])?;
+        line = Some(edge.1);
+    }
+    if line.is_some() {
+        text.push(b'\n')?;
+    }
+    Ok(())
+}
+
+/// Adds the index of an edge, to the last line if it is that of edges to the same state, and else to a line that is begun.
+fn push_index(
+    text: &mut Vec<u8>,
+    from: usize,
+    line: Option<usize>,
+    to: usize,
+    index: usize,
+) -> Result<(), AllocError>
+    ensures { OnOk result (text.new.items ≡ text.old.items ++ (before_index from line to ++ codes " " ++ decimal index)) }
+{
+    begin_line(text, from, line, to)?;
+    text.push(b' ')?;
+    push_number(text, index)?;
+    Ok(())
+}
+
+/// Begins the line of the edges from one state to another, unless the last line is that one.
+fn begin_line(
+    text: &mut Vec<u8>,
+    from: usize,
+    line: Option<usize>,
+    to: usize,
+) -> Result<(), AllocError>
+    ensures { OnOk result (text.new.items ≡ text.old.items ++ before_index from line to) }
+{
+    match line {
+        Some(last) => {
+            if last == to {
+                return Ok(());
+            }
+            text.push(b'\n')?;
+            push_line_start(text, from, to)?;
+            Ok(())
+        }
+        None => push_line_start(text, from, to),
+    }
+}
+
+/// Adds the start of the line of the edges from one state to another.
+fn push_line_start(text: &mut Vec<u8>, from: usize, to: usize) -> Result<(), AllocError>
+    ensures { OnOk result (text.new.items ≡ text.old.items ++ line_start from to) }
+{
+    text.extend_from_slice(b"edge ")?;
+    push_number(text, from)?;
+    text.push(b' ')?;
+    push_number(text, to)?;
+    Ok(())
+}

@@ -1,0 +1,151 @@
+//! The texts of an automaton and of a search that reached its budget.
+//! The states are gone over twice, for the accepting ones and for the edges; time is linear in the text.
+
+ghost use Rattle.std.specs.Prelude.{◌≡◌, ◌++◌, ◌∷◌, ◌<◌, ◌≤◌, ℕ, [], All, IfOk, OnOk, decimal, length, flat_map};
+ghost use Rattle.std.specs.Prelude.{if◌then◌else◌};
+ghost use Rattle.word_automata.specs.Path.{is_accepting};
+ghost use Rattle.protocol_model.specs.Words.{automata_letters};
+ghost use Rattle.certificate.specs.declared.lines.Line.TheVariants.{Edge};
+ghost use Rattle.certificate.specs.SafeText.{line_text, MeansAutomaton};
+ghost use Rattle.certificate.specs.LineLayout.{lines_text};
+ghost use Rattle.certificate_writing.specs.Writing.{final_states, lines_from, edge_lines, automaton_text, written_text, counted_text, unknown_text};
+ghost use Rattle.certificate_writing.specs.WritingParts.{final_text};
+
+use certificate::Alphabet;
+use itoa::Buffer;
+use protocol_model::System;
+use std::alloc::{AllocError, Global};
+use word_automata::Dfa;
+
+/// The text of a certificate that is this automaton. After the number of states it has the accepting states by
+/// increasing number, and then the edges by source and letter.
+pub fn write_safe(alloc: Global, system: &System, proof: &Dfa) -> Result<Vec<u8>, AllocError>
+    requires letters { proof.now.letters ≡ automata_letters system.now }
+    requires limit { length proof.now.states ≤ 1000000 }
+    ensures text { IfOk result (λ text. text.items ≡ written_text system.now proof.now) }
+    ensures meaning { IfOk result (λ text. MeansAutomaton system.now text.items proof.now) }
+{
+    let _states = proof.states();
+    let text = write_automaton(alloc, "armc 1 safe", system, proof)?;
+    Ok(text)
+}
+
+/// The text of this automaton under a first line: the number of states, the accepting states by increasing number, and the edges by
+/// source and letter.
+pub fn write_automaton(
+    alloc: Global,
+    first: &str,
+    system: &System,
+    proof: &Dfa,
+) -> Result<Vec<u8>, AllocError>
+    requires { proof.now.letters ≡ automata_letters system.now }
+    ensures { IfOk result (λ text. text.items ≡ automaton_text first.now system.now proof.now) }
+{
+    let alphabet = Alphabet::new(alloc, system)?;
+    let count = proof.states();
+    let mut text = format!(in alloc; "{first}\nstates {count}\n")?.into_bytes();
+    push_final_states(&mut text, proof)?;
+    push_edges(&mut text, &alphabet, proof)?;
+    text.extend_from_slice(b"end\n")?;
+    Ok(text)
+}
+
+/// The text of a search that reached its budget when so many states were counted.
+pub fn write_unknown(alloc: Global, counted: u64, budget: u64) -> Result<Vec<u8>, AllocError>
+    ensures { IfOk result (λ text. text.items ≡ unknown_text counted budget) }
+{
+    write_counted(alloc, "armc 1 unknown", counted, budget)
+}
+
+/// The text of a search that reached its budget when so many states were counted, under a first line.
+pub fn write_counted(
+    alloc: Global,
+    first: &str,
+    counted: u64,
+    budget: u64,
+) -> Result<Vec<u8>, AllocError>
+    ensures { IfOk result (λ text. text.items ≡ counted_text first.now counted budget) }
+{
+    let text = format!(in alloc; "{first}\ncounted {counted}\nbudget {budget}\nend\n")?;
+    Ok(text.into_bytes())
+}
+
+/// Adds the lines of all accepting states.
+pub fn push_final_states(text: &mut Vec<u8>, proof: &Dfa) -> Result<(), AllocError>
+    ensures { OnOk result (text.new.items ≡ text.old.items ++ flat_map final_text (final_states 0 proof.now.states)) }
+{
+    'states: for state in 0..proof.states() {
+        push_if_final(text, proof, state)?;
+    }
+    Ok(())
+}
+
+/// Adds the line of the state if it accepts.
+fn push_if_final(text: &mut Vec<u8>, proof: &Dfa, state: usize) -> Result<(), AllocError>
+    requires { state < length proof.now.states }
+    ensures { OnOk result (text.new.items ≡ text.old.items ++ (if is_accepting proof.now.states state then final_text state else [])) }
+{
+    if proof.accepting(state) {
+        text.extend_from_slice(b"final ")?;
+        push_number(text, state)?;
+        text.push(b'\n')?;
+    }
+    Ok(())
+}
+
+/// Adds the lines of all edges.
+fn push_edges(text: &mut Vec<u8>, alphabet: &Alphabet, proof: &Dfa) -> Result<(), AllocError>
+    requires { proof.now.letters ≡ automata_letters alphabet.now }
+    ensures { OnOk result (text.new.items ≡ text.old.items ++ lines_text alphabet.now (edge_lines 0 proof.now.states)) }
+{
+    'states: for state in 0..proof.states() {
+        push_edges_from(text, alphabet, state, proof.edges_from(state))?;
+    }
+    Ok(())
+}
+
+/// Adds the lines of the edges of one state.
+fn push_edges_from(
+    text: &mut Vec<u8>,
+    alphabet: &Alphabet,
+    from: usize,
+    edges: &[(u32, usize)],
+) -> Result<(), AllocError>
+    requires { All (λ edge. edge.0 < automata_letters alphabet.now) edges.now }
+    ensures { OnOk result (text.new.items ≡ text.old.items ++ lines_text alphabet.now (lines_from from edges.now)) }
+{
+    'edges: for edge in edges {
+        push_edge(text, alphabet, from, edge.0, edge.1)?;
+    }
+    Ok(())
+}
+
+/// Adds the line of an edge.
+fn push_edge(
+    text: &mut Vec<u8>,
+    alphabet: &Alphabet,
+    from: usize,
+    letter: u32,
+    to: usize,
+) -> Result<(), AllocError>
+    requires { letter < automata_letters alphabet.now }
+    ensures { OnOk result (text.new.items ≡ text.old.items ++ (line_text alphabet.now (Edge from letter to) ++ 10 ∷ [])) }
+{
+    text.extend_from_slice(b"edge ")?;
+    push_number(text, from)?;
+    text.push(b' ')?;
+    text.extend_from_slice(alphabet.text(letter))?;
+    text.push(b' ')?;
+    push_number(text, to)?;
+    text.push(b'\n')?;
+    Ok(())
+}
+
+/// Adds a number in decimal.
+pub fn push_number(text: &mut Vec<u8>, number: usize) -> Result<(), AllocError>
+    ensures { OnOk result (text.new.items ≡ text.old.items ++ decimal number) }
+{
+    let mut buffer = Buffer::new();
+    text.extend_from_slice(buffer.format(number).as_bytes())?;
+    Ok(())
+}
