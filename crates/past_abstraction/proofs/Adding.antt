@@ -1,5 +1,5 @@
 -- Sets that are added, and the blocks that they split.
-use Rattle.std.proofs.Common.{◌≡◌, ◌<◌, ◌≤◌, ◌+◌, ◌++◌, ◌↔◌, ℕ, List, [], ◌∷◌, Some, Contains, All, length, get_or, slice_get, refl, sym, ap, subst, ◌∙◌, inl, inr, arith}
+use Rattle.std.proofs.Common.{◌≡◌, ◌<◌, ◌≤◌, ◌+◌, ◌++◌, ◌↔◌, ◌⊎◌, ℕ, List, [], ◌∷◌, Some, Contains, All, length, get_or, slice_get, refl, sym, ap, subst, ◌∙◌, inl, inr, arith}
 use Rattle.std.specs.Prelude.{replicate}
 use Rattle.std.proofs.lemmas.Bool.{cases_lt}
 use Rattle.std.proofs.lemmas.List.{append-nil, append_assoc, length-replicate, get_or-replicate, get_or_append_left, get_or_default, get_or_push}
@@ -9,7 +9,9 @@ use Rattle.word_automata.specs.Automaton.{Automaton, IsValid}
 use Rattle.word_automata.proofs.Members.{Contains-none, All-from_contains}
 use Rattle.word_automata.proofs.Targets.{target_within}
 use Rattle.abstraction.specs.Partitions.{AreNumbers, IsRefined}
-use Rattle.past_abstraction.specs.WordSets.{IsImage, AreBlocksOf, AddsSet, HasImage, AddsImages, AddsImagesOf}
+use Rattle.determinise.specs.private.Subsets.{letter_of, IsRun}
+use Rattle.past_abstraction.specs.WordSets.{IsImage, AreEdgesOf, AreBlocksOf, AddsSet, HasImage, AddsImages, AddsImagesOf}
+use Rattle.past_abstraction.proofs.ImageStates.{letter_at}
 
 -- no set, and one block
 pub blocks_of_none : (a : Automaton) (blocks : List ℕ) → IsValid a → blocks ≡ replicate (length a.states) 0 → AreBlocksOf a [] blocks
@@ -35,14 +37,9 @@ zeros_are_numbers count classes zeros = record {
 pub read_new : (old sets : List (List ℕ)) (set read : List ℕ) (i : ℕ) → read ≡ get_or sets i read → sets ≡ old ++ set ∷ [] → i ≡ length old → read ≡ set
 read_new old sets set read i is grown last = is ∙ ap (λ xs. get_or xs i read) grown ∙ get_or_push old set read i (sym last)
 
--- what is read at an old place is what stood there, and still does
-pub read_old : (old sets more : List (List ℕ)) (read : List ℕ) (i : ℕ) → sets ≡ old ++ more → i < length old → read ≡ get_or sets i read → read ≡ get_or old i []
-read_old old sets more read i begins less is =
-    is ∙ ap (λ xs. get_or xs i read) begins ∙ get_or_append_left old more read i less ∙ get_or_default old i read [] less
-
-pub still_there : (old sets more : List (List ℕ)) (i : ℕ) → sets ≡ old ++ more → i < length old → Contains sets (get_or old i [])
-still_there old sets more i begins less =
-    subst (λ xs. Contains xs (get_or old i [])) (sym begins) (Contains-append_left old more (get_or old i []) (Contains-get_or old i [] less))
+-- what is read at a place is what stands there
+pub read_at : (sets read_sets : List (List ℕ)) (read : List ℕ) (i : ℕ) → read_sets ≡ sets → i < length sets → read ≡ get_or read_sets i read → read ≡ get_or sets i []
+read_at sets read_sets read i same less is = is ∙ ap (λ xs. get_or xs i read) same ∙ get_or_default sets i read [] less
 
 -- a set that is read is there
 pub there_at : (sets : List (List ℕ)) (set : List ℕ) (i : ℕ) → slice_get sets i ≡ Some set → Contains sets set
@@ -98,29 +95,48 @@ set_states a sets blocks set are there = All-from_contains (λ p. p < length a.s
 pub image_states : (a : Automaton) → IsValid a → (set image : List ℕ) (letter : ℕ) → IsImage a set letter image → All (λ p. p < length a.states) image
 image_states a valid set image letter is = All-from_contains (λ p. p < length a.states) image (λ q there. let step = (is q).0 there in target_within a valid step.0 letter q step.2)
 
--- the images under one letter after another
-pub images_none : (a : Automaton) (set : List ℕ) (old : List (List ℕ)) → AddsImages a set 0 old old
-images_none a set old = record { begins = ([], sym (append-nil old)); images = λ letter less. absurd (omega arith); only = λ other there. inl there }
+-- the images under the letters of the edges before a place
+pub record AddsImagesBefore (a : Automaton) (set : List ℕ) (edges : List (ℕ × ℕ)) (at : ℕ) (old new : List (List ℕ)) : Type 0 where
+  pub begins : (more : List (List ℕ)) × (new ≡ old ++ more)
+  pub images : (k : ℕ) → k < at → (image : List ℕ) × Contains new image × IsImage a set (letter_of edges k) image
+  pub only : (other : List ℕ) → Contains new other → Contains old other ⊎ ((letter : ℕ) × IsImage a set letter other)
 
-pub images_more : (a : Automaton) (set image : List ℕ) (i : ℕ) (old mid new : List (List ℕ)) → IsImage a set i image → AddsImages a set i old mid → AddsSet image mid new
-    → AddsImages a set (i + 1) old new
-images_more a set image i old mid new is before adds = record {
+pub images_none : (a : Automaton) (set : List ℕ) (edges : List (ℕ × ℕ)) (old : List (List ℕ)) → AddsImagesBefore a set edges 0 old old
+images_none a set edges old = record { begins = ([], sym (append-nil old)); images = λ k less. absurd (omega arith); only = λ other there. inl there }
+
+-- one more run of edges with one letter
+pub images_more : (a : Automaton) (set image : List ℕ) (edges : List (ℕ × ℕ)) (at end : ℕ) (old mid new : List (List ℕ)) → IsRun edges at end
+    → IsImage a set (letter_of edges at) image → AddsImagesBefore a set edges at old mid → AddsSet image mid new → AddsImagesBefore a set edges end old new
+images_more a set image edges at end old mid new run is before adds = record {
   begins = (
     before.begins.0 ++ adds.begins.0,
     adds.begins.1 ∙ ap (λ sets. sets ++ adds.begins.0) before.begins.1 ∙ append_assoc old before.begins.0 adds.begins.0,
   );
-  images = λ letter less. elim (cases_lt letter i) [
-    | inl earlier ↦ let there = before.images letter earlier in (there.0, kept there.0 there.1, there.2)
-    | inr from ↦ let here : i ≡ letter = omega arith in subst (λ l. HasImage a new set l) here (image, adds.added, is)
+  images = λ k less. elim (cases_lt k at) [
+    | inl earlier ↦ let there = before.images k earlier in (there.0, kept there.0 there.1, there.2)
+    | inr from ↦ (image, adds.added, subst (λ letter. IsImage a set letter image) (sym (run.same k from less)) is)
   ];
   only = λ other there. elim (adds.only other there) [
     | inl earlier ↦ before.only other earlier
-    | inr same ↦ inr (i, subst (IsImage a set i) same is)
+    | inr same ↦ inr (letter_of edges at, subst (IsImage a set (letter_of edges at)) same is)
   ];
 }
   where
     kept : (other : List ℕ) → Contains mid other → Contains new other
     kept other there = subst (λ sets. Contains sets other) (sym adds.begins.1) (Contains-append_left mid adds.begins.0 other there)
+
+-- all edges out of the set
+pub images_all : (a : Automaton) (set : List ℕ) (edges : List (ℕ × ℕ)) (at : ℕ) (old new : List (List ℕ)) → AreEdgesOf a set edges → length edges ≤ at
+    → AddsImagesBefore a set edges at old new → AddsImages a set old new
+images_all a set edges at old new of all before = record {
+  begins = before.begins;
+  images = λ letter q leads.
+      let there = (of letter q).1 leads in
+      let here : letter_of edges there.0 ≡ letter = letter_at edges there.0 letter q there.1 there.2 in
+      let image = before.images there.0 (let less = there.1 in omega arith) in
+      (image.0, image.1, subst (λ l. IsImage a set l image.0) here image.2);
+  only = before.only;
+}
 
 -- what stood at a place still does
 pub same_place : (old new : List (List ℕ)) (i : ℕ) (more : List (List ℕ)) → new ≡ old ++ more → i < length old → get_or new i [] ≡ get_or old i []
@@ -135,17 +151,17 @@ images_of_none a first old = record {
 }
 
 pub images_of_more : (a : Automaton) (first end : ℕ) (old mid new : List (List ℕ)) → end < length old → AddsImagesOf a first end old mid
-    → AddsImages a (get_or mid end []) a.letters mid new → AddsImagesOf a first (end + 1) old new
+    → AddsImages a (get_or mid end []) mid new → AddsImagesOf a first (end + 1) old new
 images_of_more a first end old mid new within before adds = record {
   begins = (
     before.begins.0 ++ adds.begins.0,
     adds.begins.1 ∙ ap (λ sets. sets ++ adds.begins.0) before.begins.1 ∙ append_assoc old before.begins.0 adds.begins.0,
   );
-  images = λ i letter from less small. elim (cases_lt i end) [
-    | inl earlier ↦ let there = before.images i letter from earlier small in (there.0, kept there.0 there.1, there.2)
+  images = λ i letter from less. elim (cases_lt i end) [
+    | inl earlier ↦ λ q leads. (let there = before.images i letter from earlier q leads in (there.0, kept there.0 there.1, there.2))
     | inr late ↦
         let here : end ≡ i = omega arith in
-        subst (λ k. HasImage a new (get_or old k []) letter) here (subst (λ s. HasImage a new s letter) read (adds.images letter small))
+        subst (λ k. HasImage a new (get_or old k []) letter) here (subst (λ s. HasImage a new s letter) read (adds.images letter))
   ];
   only = λ other there. elim (adds.only other there) [
     | inl earlier ↦ before.only other earlier
@@ -162,6 +178,6 @@ images_of_more a first end old mid new within before adds = record {
 pub images_of_all : (a : Automaton) (first end : ℕ) (old new : List (List ℕ)) → length old ≤ end → AddsImagesOf a first end old new → AddsImagesOf a first (length old) old new
 images_of_all a first end old new all adds = record {
   begins = adds.begins;
-  images = λ i letter from less small. adds.images i letter from (omega arith) small;
+  images = λ i letter from less. adds.images i letter from (omega arith);
   only = adds.only;
 }

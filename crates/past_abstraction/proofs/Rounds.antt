@@ -3,9 +3,8 @@ use Rattle.std.proofs.Common.{◌≡◌, ◌<◌, ◌≤◌, ◌+◌, ◌-◌, �
 use Rattle.std.proofs.lemmas.Bool.{cases_lt}
 use Rattle.std.proofs.lemmas.List.{append-nil, get_or_default}
 use Rattle.std.proofs.lemmas.List.Elements.{Contains-append_left}
-use Rattle.word_automata.specs.Automaton.{Automaton, target, IsValid}
+use Rattle.word_automata.specs.Automaton.{Automaton, target}
 use Rattle.word_automata.proofs.Members.{Contains-none}
-use Rattle.abstraction.proofs.BoundedWordLemmas.{leads_by_letter}
 use Rattle.past_abstraction.specs.Pasts.{LeadsTo, LeadsInto}
 use Rattle.past_abstraction.specs.WordSets.{IsImage, IsSetOf, AddsSet, HasImage, AddsImagesOf, AreWordSets}
 use Rattle.past_abstraction.proofs.Adding.{same_place}
@@ -59,22 +58,23 @@ first_sets a set sets all adds = record {
     empty (letter ∷ w) short = absurd (omega arith)
 
 -- the images of the sets of words
-module _ (a : Automaton) (valid : IsValid a) (bound first : ℕ) (old new : List (List ℕ)) (adds : AddsImagesOf a first (length old) old new) (has : AreWordSets a bound first old) where
+module _ (a : Automaton) (bound first : ℕ) (old new : List (List ℕ)) (adds : AddsImagesOf a first (length old) old new) (has : AreWordSets a bound first old) where
   kept : (set : List ℕ) → Contains old set → Contains new set
   kept set there = subst (λ sets. Contains sets set) (sym adds.begins.1) (Contains-append_left old adds.begins.0 set there)
 
-  image_there : (i letter : ℕ) → i < length old → letter < a.letters → HasImage a new (get_or old i []) letter
-  image_there i letter less small = elim (cases_lt i first) [
-    | inl before ↦ let there = has.images i letter before small in (there.0, kept there.0 there.1, there.2)
-    | inr from ↦ adds.images i letter (omega arith) less small
+  image_there : (i letter : ℕ) → i < length old → HasImage a new (get_or old i []) letter
+  image_there i letter less q leads = elim (cases_lt i first) [
+    | inl before ↦ let there = has.images i letter before q leads in (there.0, kept there.0 there.1, there.2)
+    | inr from ↦ adds.images i letter (omega arith) less q leads
   ]
 
   set_of_longer : (w v : List ℕ) (letter q : ℕ) → w ≡ v ++ letter ∷ [] → length v ≤ bound → LeadsInto a w q → (set : List ℕ) × Contains new set × IsSetOf a w set
   set_of_longer w v letter q is short into =
       let last = last_step a v into.0 letter q (subst (λ u. LeadsTo a into.0 u q) is into.2) in
       let (set, there, of) = has.sets_of_words v last.0 short (into.0, into.1, last.1) in
-      let (image, added, of_image) = image_there there.0 letter there.1 (leads_by_letter a valid last.0 letter q last.2) in
       let read : get_or old there.0 [] ≡ set = get_or_default old there.0 [] set there.1 ∙ there.2 in
+      let inside : Contains (get_or old there.0 []) last.0 = subst (λ s. Contains s last.0) (sym read) ((of last.0).1 (into.0, into.1, last.1)) in
+      let (image, added, of_image) = image_there there.0 letter there.1 q (last.0, inside, last.2) in
       (image, added, subst (λ u. IsSetOf a u image) (sym is) (image_of_word a v letter set image of (subst (λ s. IsImage a s letter image) read of_image)))
 
   pub next_sets : AreWordSets a (bound + 1) (length old) new
@@ -94,13 +94,11 @@ module _ (a : Automaton) (valid : IsValid a) (bound first : ℕ) (old new : List
       ]
       | inr within ↦ let there = has.sets_of_words w q (omega arith) into in (there.0, kept there.0 there.1, there.2)
     ];
-    images = λ i letter less small.
-        let there = image_there i letter less small in
-        (there.0, there.1, subst (λ s. IsImage a s letter there.0) (sym (same_place old new i adds.begins.0 adds.begins.1 less)) there.2);
+    images = λ i letter less. subst (λ s. HasImage a new s letter) (sym (same_place old new i adds.begins.0 adds.begins.1 less)) (image_there i letter less);
   }
 
 -- where all images are there, the sets are those of words of any length
-module _ (a : Automaton) (valid : IsValid a) (bound : ℕ) (sets : List (List ℕ)) (has : AreWordSets a bound (length sets) sets) where
+module _ (a : Automaton) (bound : ℕ) (sets : List (List ℕ)) (has : AreWordSets a bound (length sets) sets) where
   none_added : AddsImagesOf a (length sets) (length sets) sets sets
   none_added = record { begins = ([], sym (append-nil sets)); images = λ i letter from less. absurd (omega arith); only = λ other there. inl there }
 
@@ -108,7 +106,7 @@ module _ (a : Automaton) (valid : IsValid a) (bound : ℕ) (sets : List (List �
   longer zero = let e : bound ≡ 0 + bound = omega arith in subst (λ k. AreWordSets a k (length sets) sets) e has
   longer (suc d) =
       let e : d + bound + 1 ≡ suc d + bound = omega arith in
-      subst (λ k. AreWordSets a k (length sets) sets) e (next_sets a valid (d + bound) (length sets) sets sets none_added (longer d))
+      subst (λ k. AreWordSets a k (length sets) sets) e (next_sets a (d + bound) (length sets) sets sets none_added (longer d))
 
   pub all_sets : (n : ℕ) → bound ≤ n → AreWordSets a n (length sets) sets
   all_sets n less = let e : (n - bound) + bound ≡ n = omega arith in subst (λ k. AreWordSets a k (length sets) sets) e (longer (n - bound))

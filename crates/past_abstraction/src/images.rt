@@ -1,12 +1,19 @@
-//! Sets of states, and the states to which a letter leads from them. An image takes time linear in the set, up to a sort and the search
-//! for the letter among the edges of a state.
+//! The images of a set of states: for each letter on an edge out of the set the states to which it leads. The edges are gathered, sorted
+//! by letter where they are out of order, and cut where the letter changes. The images take time linear in the edges, up to sorting.
 
-ghost use Rattle.std.specs.Prelude.{◌≡◌, ◌↔◌, ◌<◌, ℕ, All, Contains, IsTrue, IfOk, length};
-ghost use Rattle.past_abstraction.specs.WordSets.{IsImage};
+ghost use Rattle.std.specs.Prelude.{◌≡◌, ◌↔◌, ◌<◌, ◌≤◌, ℕ, All, Contains, IsTrue, IfOk, length};
+ghost use Rattle.determinise.specs.private.Subsets.{order_key, HasOrderedLetters, IsRun};
+ghost use Rattle.past_abstraction.specs.WordSets.{AreEdgesOf, AreOrderedEdges, AreTargets};
 
 use exploration::StateList;
 use std::alloc::{AllocError, Global};
 use word_automata::Dfa;
+
+/// Room for so many edges of each state is made at once.
+const ROOM: usize = 4;
+
+/// Targets below this number are told apart by the order of edges.
+const TARGETS: u64 = 1 << 32;
 
 /// The states below the number.
 pub fn all_states(alloc: Global, count: usize) -> Result<StateList, AllocError>
@@ -19,42 +26,84 @@ pub fn all_states(alloc: Global, count: usize) -> Result<StateList, AllocError>
     Ok(StateList::from_vec(numbers))
 }
 
-/// The states to which the letter leads from states of the set, in increasing order.
-pub fn image(alloc: Global, a: &Dfa, set: &[usize], letter: u32) -> Result<StateList, AllocError>
+/// The edges out of states of the set, by letters that do not decrease.
+pub fn ordered_edges(alloc: Global, a: &Dfa, set: &[usize]) -> Result<Vec<(u32, usize)>, AllocError>
     requires { All (λ state. state < length a.now.states) set.now }
-    ensures { IfOk result (IsImage a.now set.now letter) }
+    ensures { IfOk result (λ edges. AreOrderedEdges a.now set.now edges.items) }
 {
-    let mut targets = targets(alloc, a, set, letter)?;
-    targets.sort_unstable();
-    let image = without_repeats(alloc, &targets)?;
-    Ok(StateList::from_vec(image))
+    let mut edges = edges_out_of(alloc, a, set)?;
+    if are_ordered(&edges) {
+        return Ok(edges);
+    }
+    edges.sort_unstable_by_key(|&(letter, to)| order_key(letter, to));
+    Ok(edges)
 }
 
-/// The states to which the letter leads from states of the set, one after another.
-fn targets(alloc: Global, a: &Dfa, set: &[usize], letter: u32) -> Result<Vec<usize>, AllocError>
+/// The edges out of states of the set, one state after another.
+fn edges_out_of(alloc: Global, a: &Dfa, set: &[usize]) -> Result<Vec<(u32, usize)>, AllocError>
     requires { All (λ state. state < length a.now.states) set.now }
-    ensures { IfOk result (λ targets. IsImage a.now set.now letter targets.items) }
+    ensures { IfOk result (λ edges. AreEdgesOf a.now set.now edges.items) }
 {
-    let mut targets = Vec::new(alloc);
+    let mut edges = Vec::with_capacity(alloc, set.len().saturating_mul(ROOM))?;
     'states: for &state in set {
-        if let Some(target) = a.target(state, letter) {
-            targets.push(target)?;
-        }
+        edges.extend_from_slice(a.edges_from(state))?;
     }
-    Ok(targets)
+    Ok(edges)
 }
 
-/// The states, each once where equal ones stand side by side.
-fn without_repeats(alloc: Global, states: &[usize]) -> Result<Vec<usize>, AllocError>
-    ensures { IfOk result (λ kept. (q : ℕ) → Contains kept.items q ↔ Contains states.now q) }
+/// Whether the edges are in order, as those of one state are.
+fn are_ordered(edges: &[(u32, usize)]) -> bool
+    ensures { IsTrue result → HasOrderedLetters edges.now }
 {
-    let mut kept = Vec::new(alloc);
-    'all: for &state in states {
-        if !ends_with(&kept, state) {
-            kept.push(state)?;
+    'edges: for at in 1..edges.len() {
+        let (before, from) = edges[at - 1];
+        let (letter, to) = edges[at];
+        if order_key(before, from) > order_key(letter, to) {
+            return false;
         }
     }
-    Ok(kept)
+    true
+}
+
+/// The letter above the last 32 bits of the target: one number, so that edges are compared at once.
+fn order_key(letter: u32, to: usize) -> u64
+    ensures { result ≡ order_key (letter, to) }
+{
+    u64::from(letter) * TARGETS + to as u64 % TARGETS
+}
+
+/// The place after the last edge with the letter of the edge at the place.
+pub fn end_of_run(edges: &[(u32, usize)], at: usize) -> usize
+    requires within { at < length edges.now }
+    requires ordered { HasOrderedLetters edges.now }
+    ensures { IsRun edges.now at result }
+{
+    let mut end = at + 1;
+    'run: while end < edges.len() && edges[end].0 == edges[at].0 {
+        end += 1;
+    }
+    end
+}
+
+/// The targets of the edges from one place on and before another one, each once where equal ones stand side by side.
+pub fn targets(
+    alloc: Global,
+    edges: &[(u32, usize)],
+    at: usize,
+    end: usize,
+) -> Result<StateList, AllocError>
+    requires order { at ≤ end }
+    requires within { end ≤ length edges.now }
+    ensures { IfOk result (AreTargets edges.now at end) }
+{
+    let mut targets = Vec::with_capacity(alloc, end - at)?;
+    'edges: for place in at..end {
+        let (_, to) = edges[place];
+        if !ends_with(&targets, to) {
+            targets.push(to)?;
+        }
+    }
+    Ok(StateList::from_vec(targets))
 }
 
 /// Whether the state is the last of the list.

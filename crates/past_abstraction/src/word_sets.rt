@@ -1,6 +1,6 @@
 //! Classes of states by the sets of states into which words lead. A round adds the images of the sets that the round before it added, and
-//! splits the classes by those that are new. The rounds end where one adds no set, or each state is alone in its class. Each set is
-//! expanded once, and looked up by its hash.
+//! splits the classes by those that are new. The rounds end where one adds no set, or where one with many sets finds each state alone in
+//! its class. Each set is expanded once, in the time of the edges out of it up to sorting, and looked up by its hash.
 
 ghost use Rattle.std.specs.Prelude.{◌≡◌, ◌<◌, ◌≤◌, ◌+◌, ℕ, All, IsTrue, IfOk, OnOk, length, slice_index, slice_index_or, []};
 ghost use Rattle.abstraction.specs.Merging.{AreClasses};
@@ -8,12 +8,15 @@ ghost use Rattle.abstraction.specs.Bounds.{up_to};
 ghost use Rattle.past_abstraction.specs.Pasts.{is_related};
 ghost use Rattle.past_abstraction.specs.WordSets.{AreBlocksOf, AddsSet, AddsImages, AddsImagesOf, AreWordSets};
 
-use crate::images::{all_states, image};
+use crate::images::{all_states, end_of_run, ordered_edges, targets};
 use abstraction::Partition;
 use exploration::StateList;
 use indexmap::IndexSet;
 use std::alloc::{AllocError, Global};
 use word_automata::Dfa;
+
+/// A round looks whether each state is alone where it has at least this part of as many sets as there are states.
+const SINGLE_PART: usize = 4;
 
 /// The classes of states into which the same words of at most so many letters lead.
 pub fn classes_by_words(alloc: Global, a: &Dfa, bound: u64) -> Result<Vec<usize>, AllocError>
@@ -26,17 +29,25 @@ pub fn classes_by_words(alloc: Global, a: &Dfa, bound: u64) -> Result<Vec<usize>
     let mut first = 0;
     'rounds: for _ in 0..bound {
         let end = sets.len();
-        let classes = blocks.classes(alloc)?;
         if first == end {
-            return Ok(classes);
+            return Ok(blocks.classes(alloc)?);
         }
-        if are_single(&classes) {
-            return Ok(classes);
+        if are_many(a, first, end) {
+            let classes = blocks.classes(alloc)?;
+            if are_single(&classes) {
+                return Ok(classes);
+            }
         }
         add_images_from(alloc, a, &mut sets, &mut blocks, first)?;
         first = end;
     }
     blocks.classes(alloc)
+}
+
+/// Whether the sets from the first one on and before the end cost more than to number the classes, which tells whether each state is
+/// alone in its own. Nothing but time depends on it.
+fn are_many(a: &Dfa, first: usize, end: usize) -> bool {
+    end.saturating_sub(first) >= a.states() / SINGLE_PART
 }
 
 /// Whether each state has its own number as that of its class.
@@ -80,11 +91,15 @@ fn add_images(
     requires within { number < length sets.old.keys }
     requires before { AreBlocksOf a.now sets.old.keys blocks.old }
     ensures blocks { OnOk result (AreBlocksOf a.now sets.new.keys blocks.new) }
-    ensures images { OnOk result (AddsImages a.now (slice_index_or sets.old.keys number []) a.now.letters sets.old.keys sets.new.keys) }
+    ensures images { OnOk result (AddsImages a.now (slice_index_or sets.old.keys number []) sets.old.keys sets.new.keys) }
 {
-    'letters: for letter in 0..a.letters() {
-        let image = image(alloc, a, sets.as_slice()[number].as_slice(), letter)?;
+    let edges = ordered_edges(alloc, a, sets.as_slice()[number].as_slice())?;
+    let mut at = 0;
+    'runs: while at < edges.len() {
+        let end = end_of_run(&edges, at);
+        let image = targets(alloc, &edges, at, end)?;
         add_set(a, sets, blocks, image)?;
+        at = end;
     }
     Ok(())
 }

@@ -1,25 +1,33 @@
-use Rattle.std.proofs.Common.{◌<◌, length, sym, subst, ◌∙◌, arith}
-use Rattle.std.proofs.lemmas.List.{take_all}
-use Rattle.past_abstraction.specs.WordSets.{IsImage}
-use Rattle.past_abstraction.proofs.ImageStates.{image_with, image_without}
+use Rattle.std.proofs.Common.{◌≡◌, ◌+◌, Contains, sym, ap, subst, arith}
+use Rattle.past_abstraction.specs.WordSets.{target_of, AreTargets}
+use Rattle.past_abstraction.proofs.ImageStates.{targets_known, targets_new}
 use Rattle.past_abstraction.proofs.images.targets.Goals as goal
-use Rattle.past_abstraction.proofs.images.targets.Goals.{in-Some+in_ok-push, in_default}
+use Rattle.past_abstraction.proofs.images.targets.Goals.{then-not-ends_with+in_ok-push, else-not-ends_with}
 
-pub states-preserved : goal.states-preserved
-states-preserved c =
-    let a = c.args.a.now in
-    let set = c.args.set.now in
-    let i = c.states.state-index in
-    let within : i < length set = omega arith in
-    elim c.match-target.branch [
-      | in-Some+in_ok-push w ↦
-          rw w.targets-is (image_with a set c.states.targets.items c.args.letter i within c.states.invariant w.push.new.self.items w.in-Some.target
-          (sym c.target.ensures.value ∙ w.in-Some.is) w.in_ok-push.ensures.items)
-      | in_default w ↦
-          rw w.targets-is (image_without a set c.states.targets.items c.args.letter i within c.states.invariant
-          (sym c.target.ensures.value ∙ w.in_default.is))
-    ]
+pub edges-preserved : goal.edges-preserved
+edges-preserved c =
+    let edges = c.args.edges.now in
+    let at = c.args.at in
+    let place = c.edges.place in
+    let before = c.edges.invariant in
+    let kept = c.edges.targets.items in
+    record {
+      from = let low = before.from in omega arith;
+      within = let more = c.edges-test.true in omega arith;
+      targets = elim c.if-not-ends_with.branch [
+        | then-not-ends_with+in_ok-push w ↦
+            subst (λ xs. AreTargets edges at (place + 1) xs) (sym (ap (λ v. v.items) w.targets-is))
+            (targets_new edges at place before.from kept before.targets w.push.new.self.items w.in_ok-push.ensures.items)
+        | else-not-ends_with w ↦
+            subst (λ xs. AreTargets edges at (place + 1) xs) (sym (ap (λ v. v.items) w.targets-is))
+            (targets_known edges at place before.from kept before.targets
+            (subst (λ xs. Contains xs (target_of edges place)) c.deref.ensures.value (c.ends_with.ensures w.if-not-ends_with.false)))
+      ];
+    }
 
 pub returns : goal.returns
 returns c =
-    subst (λ xs. IsImage c.args.a.now xs c.args.letter c.states.targets.items) (take_all c.states.state-index c.args.set.now (omega arith)) c.states.invariant
+    let before = c.edges.invariant in
+    let end : c.edges.place ≡ c.args.end = (let high = before.within in omega arith) in
+    subst (AreTargets c.args.edges.now c.args.at c.args.end) (sym c.from_vec.ensures)
+    (subst (λ n. AreTargets c.args.edges.now c.args.at n c.edges.targets.items) end before.targets)

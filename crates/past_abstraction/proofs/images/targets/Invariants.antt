@@ -1,6 +1,10 @@
-use Rattle.std.proofs.Common.{take}
-use Rattle.past_abstraction.specs.WordSets.{IsImage}
+use Rattle.std.proofs.Common.{◌≤◌}
+use Rattle.past_abstraction.specs.WordSets.{AreTargets}
 use Rattle.past_abstraction.proofs.images.targets.Given as goal
 
-abbrev pub invariant-states : goal.invariant-states
-invariant-states l = IsImage l.a (take l.state-index l.set) l.letter l.targets.items
+abbrev pub invariant-edges : goal.invariant-edges
+invariant-edges l = record {
+  from : l.at ≤ l.place;
+  within : l.place ≤ l.end;
+  targets : AreTargets l.edges l.at l.place l.targets.items;
+}

@@ -1,5 +1,5 @@
 use Rattle.std.proofs.Common.{◌<◌, length, arith}
-use Rattle.past_abstraction.proofs.Adding.{images_of_more}
+use Rattle.past_abstraction.proofs.Adding.{images_of_more, images_of_all}
 use Rattle.past_abstraction.proofs.word_sets.add_images_from.Goals as goal
 
 pub sets-preserved : goal.sets-preserved
@@ -11,3 +11,8 @@ sets-preserved c =
       blocks = c.in_ok-add_images.ensures.blocks;
       images = images_of_more c.args.a.now c.args.first number old c.sets.sets.keys c.add_images.new.sets.keys within c.sets.invariant.images c.in_ok-add_images.ensures.images;
     }
+
+pub returns-clause-images : goal.returns-clause-images
+returns-clause-images c =
+    images_of_all c.args.a.now c.args.first c.sets.number c.args.sets.now.keys c.sets.sets.keys (let e = c.len-number-end.ensures.len in let past = c.sets-test.false in omega arith)
+    c.sets.invariant.images

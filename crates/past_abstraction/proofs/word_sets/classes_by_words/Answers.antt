@@ -33,15 +33,15 @@ returns-then-first-end c =
     let bound = c.args.bound in
     let before = c.rounds.invariant in
     let none_new : c.rounds.first ≡ length sets = (let l = c.len-end.ensures.len in let e = c.if-first-end.true in omega arith) in
-    let all = all_sets a before.blocks.valid c.rounds.counter sets (subst (λ f. AreWordSets a c.rounds.counter f sets) none_new before.words) bound (omega arith) in
-    classes_by_sets a sets c.rounds.blocks c.in_ok-classes.classes.items bound bound (length sets) before.blocks c.in_ok-classes.ensures all (omega arith) (omega arith)
+    let all = all_sets a c.rounds.counter sets (subst (λ f. AreWordSets a c.rounds.counter f sets) none_new before.words) bound (omega arith) in
+    classes_by_sets a sets c.rounds.blocks c.in_ok-classes.field-0.items bound bound (length sets) before.blocks c.in_ok-classes.ensures all (omega arith) (omega arith)
 
 pub returns-then-are_single : goal.returns-then-are_single
 returns-then-are_single c =
     let before = c.rounds.invariant in
-    classes_alone c.args.a.now c.rounds.sets.keys c.rounds.blocks c.in_ok-classes.classes.items c.args.bound c.rounds.counter c.rounds.first before.blocks c.in_ok-classes.ensures before.words
+    classes_alone c.args.a.now c.rounds.sets.keys c.rounds.blocks c.in_ok-classes-2.classes.items c.args.bound c.rounds.counter c.rounds.first before.blocks c.in_ok-classes-2.ensures before.words
     (omega arith)
-    (subst (λ xs. (p : ℕ) → p < length xs → slice_index xs p ≡ p) c.deref-in-rounds.ensures.value (c.are_single.ensures c.if-are_single.true))
+    (subst (λ xs. (p : ℕ) → p < length xs → slice_index xs p ≡ p) c.deref-then-are_many.ensures.value (c.are_single.ensures c.if-are_single.true))
 
 pub rounds-preserved : goal.rounds-preserved
 rounds-preserved c =
@@ -52,7 +52,7 @@ rounds-preserved c =
     record {
       blocks = c.in_ok-add_images_from.ensures.blocks;
       words = subst (λ n. AreWordSets a (c.rounds.counter + 1) n new) (sym c.len-end.ensures.len)
-          (next_sets a before.blocks.valid c.rounds.counter c.rounds.first old new c.in_ok-add_images_from.ensures.images before.words);
+          (next_sets a c.rounds.counter c.rounds.first old new c.in_ok-add_images_from.ensures.images before.words);
     }
 
 pub returns : goal.returns
