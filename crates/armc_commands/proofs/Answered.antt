@@ -5,12 +5,12 @@ use Rattle.armc_io.specs.Library.{LibraryState}
 use Rattle.armc_io.specs.Sink.{SinkState}
 use Rattle.protocol_syntax.specs.declared.protocol.Protocol.{Protocol}
 use Rattle.command_words.specs.Words.{Command, command_of}
-use Rattle.armc_commands.specs.declared.status.Status.{Status}
-use Rattle.armc_commands.specs.declared.status.Status.TheVariants as status
-use Rattle.armc_commands.specs.declared.reply.Reply.{Reply}
-use Rattle.armc_commands.specs.declared.failure.Failure.{Failure}
-use Rattle.armc_commands.specs.declared.failure.Failure.TheVariants.{ReadFault, TooLong, Memory}
-use Rattle.armc_commands.specs.Reply.{reply_of}
+use Rattle.command_replies.specs.declared.status.Status.{Status}
+use Rattle.command_replies.specs.declared.status.Status.TheVariants as status
+use Rattle.command_replies.specs.declared.reply.Reply.{Reply}
+use Rattle.command_replies.specs.declared.failure.Failure.{Failure}
+use Rattle.command_replies.specs.declared.failure.Failure.TheVariants.{ReadFault, TooLong, Memory}
+use Rattle.command_replies.specs.Reply.{reply_of}
 use Rattle.armc_commands.specs.Commands.{CommandReply, Promise}
 use Rattle.armc_commands.specs.Outcome.{IsReliableFor, IsOutcome, IsDecidedBy, IsReply, CarriesOut}
 use Rattle.armc_commands.specs.Answer.{Answers, DeliversCounted, AreQuietEnds, KeepsCounts, last_count, IsWholeReply, KeepsPromise, IsSound, IsQuiet, IsDecided, is_own}

@@ -12,18 +12,18 @@ use Rattle.protocol_syntax.specs.Properties.{properties}
 use Rattle.protocol_model.specs.System.{SystemData}
 use Rattle.protocol_properties.specs.Properties.{first_properties_fault, properties_of}
 use Rattle.protocol_properties.specs.declared.properties.Property.{Property}
-use Rattle.armc_commands.specs.declared.refusal.Refusal.{Refusal}
-use Rattle.armc_commands.specs.declared.status.Status.TheVariants as status
-use Rattle.armc_commands.specs.declared.reply.Reply.{Reply}
+use Rattle.command_replies.specs.declared.refusal.Refusal.{Refusal}
+use Rattle.command_replies.specs.declared.status.Status.TheVariants as status
+use Rattle.command_replies.specs.declared.reply.Reply.{Reply}
 use Rattle.armc_commands.specs.declared.search_reply.Telling.{Telling}
 use Rattle.armc_commands.specs.declared.search_reply.Telling.TheVariants.{Certificate}
-use Rattle.armc_commands.specs.Refusal.{IsRefusalIn}
-use Rattle.armc_commands.specs.Reply.{on_out, refusal_reply}
+use Rattle.command_replies.specs.Refusal.{IsRefusalIn}
+use Rattle.command_replies.specs.Reply.{on_out, refusal_reply}
 use Rattle.armc_commands.specs.SearchReply.{Part, PartAnswer, IsAnswerTo, HoldsOfParts, IsSearchReply, reply_of_answers, report_of, status_of, texts_of, titled}
 use Rattle.armc_commands.specs.SearchPromise.{SearchPromise}
 use Rattle.armc_commands.specs.Commands.CheckAll.{SaysProperties, RefusesProperties, ChecksAll, IsCheckAllReply, CheckAllPromise, property_part, property_parts}
 use Rattle.armc_commands.specs.PartTexts.{IsToldPart, AreTold}
-use Rattle.armc_commands.proofs.Refused.{refusal_once, refused_or_faultless}
+use Rattle.command_replies.proofs.Refused.{refusal_once, refused_or_faultless}
 
 -- ---- the texts of the parts
 

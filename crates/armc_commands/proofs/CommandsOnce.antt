@@ -13,12 +13,12 @@ use Rattle.certificate.specs.OneReading as certificate
 use Rattle.certificate_checker.specs.OneAnswer.{AnswerIsDetermined}
 use Rattle.certificate_checker.specs.Answers.{IsAnswer}
 use Rattle.command_words.specs.Words.{Command, verify, migrate, steps, show, searching, checking_all, generate}
-use Rattle.armc_commands.specs.declared.status.Status.TheVariants as status
-use Rattle.armc_commands.specs.declared.reply.Reply.{Reply}
-use Rattle.armc_commands.specs.Line.{line}
-use Rattle.armc_commands.specs.Reply.{on_out, on_err, RefusesCertificate}
-use Rattle.armc_commands.specs.Refusal.{configuration_refusal_text, certificate_refusal_text}
-use Rattle.armc_commands.specs.Reading.{IsFaultless}
+use Rattle.command_replies.specs.declared.status.Status.TheVariants as status
+use Rattle.command_replies.specs.declared.reply.Reply.{Reply}
+use Rattle.command_replies.specs.Line.{line}
+use Rattle.command_replies.specs.Reply.{on_out, on_err, RefusesCertificate}
+use Rattle.command_replies.specs.Refusal.{configuration_refusal_text, certificate_refusal_text}
+use Rattle.command_replies.specs.Reading.{IsFaultless}
 use Rattle.armc_commands.specs.Commands.{CommandReply}
 use Rattle.armc_commands.specs.declared.search_reply.Telling.{Telling}
 use Rattle.armc_commands.specs.declared.search_reply.Telling.TheVariants.{Summary}

@@ -6,8 +6,8 @@ use Rattle.refinement.specs.declared.verdict.Verdict.TheVariants.{Safe, Unsafe, 
 use Rattle.protocol_search.specs.Deadlocks.{DeadlockTextShows}
 use Rattle.protocol_search.specs.declared.first.FirstAbstraction.TheVariants.{BadPredicates}
 use Rattle.protocol_search.specs.declared.search.Analysis.TheVariants.{Stuck}
-use Rattle.armc_commands.specs.declared.status.Status.TheVariants as status
-use Rattle.armc_commands.specs.declared.reply.Reply.{Reply}
+use Rattle.command_replies.specs.declared.status.Status.TheVariants as status
+use Rattle.command_replies.specs.declared.reply.Reply.{Reply}
 use Rattle.armc_commands.specs.declared.search_reply.Telling.{Telling}
 use Rattle.armc_commands.specs.declared.search_reply.Telling.TheVariants.{Certificate}
 use Rattle.armc_commands.specs.SearchReply.{Part, IsSearchReply, status_of}

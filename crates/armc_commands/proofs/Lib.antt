@@ -1,4 +1,3 @@
-pub mod Refused
 pub mod Successors
 pub mod Answered
 pub mod Replies
@@ -13,3 +12,4 @@ pub mod MigrateLemmas
 pub mod CheckAllLemmas
 pub mod Promised
 pub mod UsageLemmas
+pub mod NeverRefused

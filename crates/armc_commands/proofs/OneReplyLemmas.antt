@@ -6,17 +6,17 @@ use Rattle.protocol_syntax.specs.Grammar.{protocol}
 use Rattle.protocol_syntax.specs.OneReading.{ProtocolIsDetermined, FaultIsDetermined, FaultExcludesProtocol}
 use Rattle.protocol_model.specs.Faults.{first_fault}
 use Rattle.command_words.specs.Words.{Command, command_of}
-use Rattle.armc_commands.specs.declared.status.Status.TheVariants.{ProtocolRefused}
-use Rattle.armc_commands.specs.declared.reply.Reply.{Reply}
-use Rattle.armc_commands.specs.declared.failure.Failure.{Failure}
-use Rattle.armc_commands.specs.declared.failure.Failure.TheVariants.{ReadFault, TooLong, Memory}
+use Rattle.command_replies.specs.declared.status.Status.TheVariants.{ProtocolRefused}
+use Rattle.command_replies.specs.declared.reply.Reply.{Reply}
+use Rattle.command_replies.specs.declared.failure.Failure.{Failure}
+use Rattle.command_replies.specs.declared.failure.Failure.TheVariants.{ReadFault, TooLong, Memory}
 use Rattle.armc_commands.specs.Origin.{Told, Origin, named, given, generated, IsTextFrom}
 use Rattle.armc_commands.specs.Reads.{IsToldOrigin}
-use Rattle.armc_commands.specs.Reading.{IsFaultless}
+use Rattle.command_replies.specs.Reading.{IsFaultless}
 use Rattle.armc_commands.proofs.QuietReads.{first_told, second_told}
-use Rattle.armc_commands.proofs.Refused.{refusal_once, refused_or_faultless}
-use Rattle.armc_commands.specs.Refusal.{IsRefusalOf}
-use Rattle.armc_commands.specs.Reply.{refusal_reply}
+use Rattle.command_replies.proofs.Refused.{refusal_once, refused_or_faultless}
+use Rattle.command_replies.specs.Refusal.{IsRefusalOf}
+use Rattle.command_replies.specs.Reply.{refusal_reply}
 use Rattle.armc_commands.specs.Commands.{protocol_origin, second_origin, CommandReply}
 use Rattle.armc_commands.specs.Outcome.{HasProtocol, RefusesProtocol, CarriesOut, RepliesToCommand, IsReply, IsRead, TellsTexts, IsToldTooLong, IsDecidedBy}
 

@@ -5,7 +5,7 @@ use Rattle.protocol_model.specs.System.{SystemData}
 use Rattle.protocol_model.specs.Numbering.{system_of}
 use Rattle.command_words.specs.Words.{Command, verify, migrate, steps, show, searching, checking_all, generate, command_of}
 use Rattle.command_words.specs.declared.Query.{Query}
-use Rattle.armc_commands.specs.declared.reply.Reply.{Reply}
+use Rattle.command_replies.specs.declared.reply.Reply.{Reply}
 use Rattle.armc_commands.specs.Origin.{Told}
 use Rattle.armc_commands.specs.Commands.{CommandReply, Promise}
 use Rattle.armc_commands.specs.Commands.CheckAll.{IsCheckAllReply, CheckAllPromise}

@@ -8,8 +8,8 @@ use Rattle.protocol_search.specs.declared.first.FirstAbstraction.TheVariants.{Ba
 use Rattle.protocol_search.specs.declared.search.Analysis.TheVariants.{Forward, Backward, Stuck}
 use Rattle.command_words.specs.declared.Query.{Query}
 use Rattle.command_words.specs.declared.Query.TheVariants.{Check as ByCheck, Back as ByBack, Deadlock as ByDeadlock, Past as ByPast}
-use Rattle.armc_commands.specs.declared.status.Status.TheVariants.{Done, Unknown}
-use Rattle.armc_commands.specs.declared.reply.Reply.{Reply}
+use Rattle.command_replies.specs.declared.status.Status.TheVariants.{Done, Unknown}
+use Rattle.command_replies.specs.declared.reply.Reply.{Reply}
 use Rattle.armc_commands.specs.declared.search_reply.Telling.{Telling}
 use Rattle.armc_commands.specs.declared.search_reply.Telling.TheVariants.{Certificate}
 use Rattle.armc_commands.specs.SearchReply.{Part, IsSearchReply}

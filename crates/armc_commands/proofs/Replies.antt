@@ -14,11 +14,11 @@ use Rattle.certificate.specs.Meaning.{IsCertificateOf}
 use Rattle.certificate_checker.specs.Answers.{IsAnswer, HasLetters}
 use Rattle.certificate_checker.specs.declared.answer.Answer.{Answer}
 use Rattle.certificate_checker.specs.declared.answer.Answer.TheVariants.{Valid, InitialMissing, BadHeld, Leaves, NotInitial, NotStep, NotBad}
-use Rattle.armc_commands.specs.declared.status.Status.TheVariants as status
-use Rattle.armc_commands.specs.declared.reply.Reply.{Reply}
-use Rattle.armc_commands.specs.Line.{line}
-use Rattle.armc_commands.specs.Reply.{on_err, RefusesCertificate}
-use Rattle.armc_commands.specs.Refusal.{configuration_refusal_text, certificate_refusal_text}
+use Rattle.command_replies.specs.declared.status.Status.TheVariants as status
+use Rattle.command_replies.specs.declared.reply.Reply.{Reply}
+use Rattle.command_replies.specs.Line.{line}
+use Rattle.command_replies.specs.Reply.{on_err, RefusesCertificate}
+use Rattle.command_replies.specs.Refusal.{configuration_refusal_text, certificate_refusal_text}
 use Rattle.armc_commands.specs.Commands.Steps.{IsStepsReply}
 use Rattle.armc_commands.specs.Commands.Verify.{ShowsFitting}
 

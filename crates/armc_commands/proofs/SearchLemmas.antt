@@ -18,9 +18,9 @@ use Rattle.protocol_search.specs.declared.first.FirstAbstraction.{FirstAbstracti
 use Rattle.protocol_search.specs.declared.search.Analysis.{Analysis}
 use Rattle.protocol_search.specs.declared.search.Analysis.TheVariants.{Forward}
 use Rattle.search_report.specs.declared.method.Method.{Method}
-use Rattle.armc_commands.specs.declared.status.Status.{Status}
-use Rattle.armc_commands.specs.declared.status.Status.TheVariants as status
-use Rattle.armc_commands.specs.declared.reply.Reply.{Reply}
+use Rattle.command_replies.specs.declared.status.Status.{Status}
+use Rattle.command_replies.specs.declared.status.Status.TheVariants as status
+use Rattle.command_replies.specs.declared.reply.Reply.{Reply}
 use Rattle.armc_commands.specs.declared.search_reply.Telling.{Telling}
 use Rattle.armc_commands.specs.declared.search_reply.Telling.TheVariants.{Certificate, Summary}
 use Rattle.armc_commands.specs.Summary.{summary}

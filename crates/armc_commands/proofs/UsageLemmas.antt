@@ -7,11 +7,11 @@ use Rattle.certificate_checker.specs.declared.answer.Answer.{Answer}
 use Rattle.certificate_checker.specs.declared.answer.Answer.TheVariants.{Valid, InitialMissing, BadHeld, Leaves, NotInitial, NotStep, NotBad}
 use Rattle.protocol_model.specs.Numbering.{system_of}
 use Rattle.command_words.specs.Words.{Command, verify, migrate, steps, show, searching, checking_all, generate, command_of}
-use Rattle.armc_commands.specs.declared.status.Status.{Status}
-use Rattle.armc_commands.specs.declared.status.Status.TheVariants as status
-use Rattle.armc_commands.specs.declared.reply.Reply.{Reply}
-use Rattle.armc_commands.specs.declared.failure.Failure.{Failure}
-use Rattle.armc_commands.specs.declared.failure.Failure.TheVariants.{ReadFault, TooLong, Memory}
+use Rattle.command_replies.specs.declared.status.Status.{Status}
+use Rattle.command_replies.specs.declared.status.Status.TheVariants as status
+use Rattle.command_replies.specs.declared.reply.Reply.{Reply}
+use Rattle.command_replies.specs.declared.failure.Failure.{Failure}
+use Rattle.command_replies.specs.declared.failure.Failure.TheVariants.{ReadFault, TooLong, Memory}
 use Rattle.armc_commands.specs.declared.search_reply.Telling.TheVariants.{Certificate, Summary}
 use Rattle.armc_commands.specs.Commands.{CommandReply}
 use Rattle.armc_commands.specs.Commands.CheckAll.{property_parts}
@@ -19,7 +19,7 @@ use Rattle.armc_commands.specs.Commands.Generate.{generate_parts}
 use Rattle.armc_commands.specs.Commands.Queries.{telling_of, query_parts}
 use Rattle.armc_commands.specs.Commands.Verify.{answer_status}
 use Rattle.armc_commands.specs.Outcome.{IsOutcome, IsReply}
-use Rattle.armc_commands.specs.Reply.{reply_of}
+use Rattle.command_replies.specs.Reply.{reply_of}
 use Rattle.armc_commands.specs.Answer.{Answers}
 use Rattle.armc_commands.proofs.SearchLemmas.{search-not-usage}
 

@@ -5,15 +5,15 @@ use Rattle.armc_io.specs.Library.{LibraryState}
 use Rattle.armc_io.specs.Sink.{SinkState}
 use Rattle.protocol_syntax.specs.declared.protocol.Protocol.{Protocol}
 use Rattle.command_words.specs.Words.{Command, command_of}
-use Rattle.armc_commands.specs.declared.status.Status.{Status}
-use Rattle.armc_commands.specs.declared.status.Status.TheVariants.{ReadFault, ProtocolRefused, WriteFault, Memory}
-use Rattle.armc_commands.specs.declared.reply.Reply.{Reply}
-use Rattle.armc_commands.specs.declared.failure.Failure.{Failure}
+use Rattle.command_replies.specs.declared.status.Status.{Status}
+use Rattle.command_replies.specs.declared.status.Status.TheVariants.{ReadFault, ProtocolRefused, WriteFault, Memory}
+use Rattle.command_replies.specs.declared.reply.Reply.{Reply}
+use Rattle.command_replies.specs.declared.failure.Failure.{Failure}
 use Rattle.armc_commands.specs.Origin.{Told, IsTextFrom}
-use Rattle.armc_commands.specs.Reply.{reply_of}
+use Rattle.command_replies.specs.Reply.{reply_of}
 use Rattle.armc_commands.specs.Commands.{second_origin, Promise}
 use Rattle.armc_commands.specs.Outcome.{HasProtocol, IsOutcome, IsDecidedBy, IsReliableFor}
-use Rattle.armc_commands.specs.Delivery.{Delivers, IsWhole, HasRoomFor, CountsFaults}
+use Rattle.command_replies.specs.Delivery.{Delivers, IsWhole, HasRoomFor, CountsFaults}
 
 -- the texts of the reply reach the sinks
 abbrev pub DeliversReply : Reply → SinkState → SinkState → SinkState → SinkState → Status → Type 0

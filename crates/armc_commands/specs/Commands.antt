@@ -12,7 +12,7 @@ use Rattle.std.specs.Prelude.{ℕ, List, []}
 use Rattle.protocol_syntax.specs.declared.protocol.Protocol.{Protocol}
 use Rattle.protocol_model.specs.Numbering.{system_of}
 use Rattle.command_words.specs.Words.{Command, verify, migrate, steps, show, searching, checking_all, generate}
-use Rattle.armc_commands.specs.declared.reply.Reply.{Reply}
+use Rattle.command_replies.specs.declared.reply.Reply.{Reply}
 use Rattle.armc_commands.specs.Origin.{Origin, named, given, generated}
 use Rattle.armc_commands.specs.Commands.CheckAll.{IsCheckAllReply, CheckAllPromise}
 use Rattle.armc_commands.specs.Commands.Generate.{IsGenerateReply, GeneratePromise}

@@ -1,8 +1,4 @@
-pub mod Line
 pub mod Origin
-pub mod Refusal
-pub mod Reading
-pub mod Reply
 pub mod Summary
 pub mod SearchReply
 pub mod SearchPromise
@@ -10,8 +6,6 @@ pub mod Commands
 pub mod PartTexts
 pub mod Outcome
 pub mod Reads
-pub mod Delivery
-pub mod Text
 pub mod Answer
 pub mod OneReply
 pub mod ReplyLaws

@@ -1,8 +1,8 @@
 -- Law: the words and the told texts decide one reply.
 use Rattle.std.specs.Prelude.{◌≡◌, ◌≢◌, ℕ, List, Result, Err}
-use Rattle.armc_commands.specs.declared.reply.Reply.{Reply}
-use Rattle.armc_commands.specs.declared.failure.Failure.{Failure}
-use Rattle.armc_commands.specs.declared.failure.Failure.TheVariants.{Memory}
+use Rattle.command_replies.specs.declared.reply.Reply.{Reply}
+use Rattle.command_replies.specs.declared.failure.Failure.{Failure}
+use Rattle.command_replies.specs.declared.failure.Failure.TheVariants.{Memory}
 use Rattle.armc_commands.specs.Origin.{Told}
 use Rattle.armc_commands.specs.Outcome.{TellsTexts, IsDecidedBy}
 

@@ -4,15 +4,15 @@ use Rattle.armc_io.specs.Faults.{Rose}
 use Rattle.armc_io.specs.Library.{LibraryState, LastIs}
 use Rattle.protocol_syntax.specs.declared.protocol.Protocol.{Protocol}
 use Rattle.command_words.specs.Words.{Command, command_of}
-use Rattle.armc_commands.specs.declared.refusal.Refusal.{Refusal}
-use Rattle.armc_commands.specs.declared.status.Status.TheVariants.{ProtocolRefused}
-use Rattle.armc_commands.specs.declared.reply.Reply.{Reply}
-use Rattle.armc_commands.specs.declared.failure.Failure.{Failure}
-use Rattle.armc_commands.specs.declared.failure.Failure.TheVariants.{ReadFault, TooLong, Memory}
+use Rattle.command_replies.specs.declared.refusal.Refusal.{Refusal}
+use Rattle.command_replies.specs.declared.status.Status.TheVariants.{ProtocolRefused}
+use Rattle.command_replies.specs.declared.reply.Reply.{Reply}
+use Rattle.command_replies.specs.declared.failure.Failure.{Failure}
+use Rattle.command_replies.specs.declared.failure.Failure.TheVariants.{ReadFault, TooLong, Memory}
 use Rattle.armc_commands.specs.Origin.{Told, IsTextFrom, named}
-use Rattle.armc_commands.specs.Reading.{IsFaultless}
-use Rattle.armc_commands.specs.Refusal.{IsRefusalOf}
-use Rattle.armc_commands.specs.Reply.{usage, refusal_reply}
+use Rattle.command_replies.specs.Reading.{IsFaultless}
+use Rattle.command_replies.specs.Refusal.{IsRefusalOf}
+use Rattle.command_replies.specs.Reply.{usage, refusal_reply}
 use Rattle.armc_commands.specs.Commands.{protocol_origin, second_origin, CommandReply}
 
 -- the command's first text says this protocol, which has no fault

@@ -5,8 +5,8 @@ use Rattle.armc_io.specs.Faults.{Rose}
 use Rattle.armc_io.specs.Library.{LibraryState, LastIs}
 use Rattle.armc_io.specs.declared.traits.ReadFail.{ReadFail}
 use Rattle.armc_io.specs.declared.traits.ReadFail.TheVariants as fail
-use Rattle.armc_commands.specs.declared.failure.Failure.{Failure}
-use Rattle.armc_commands.specs.declared.failure.Failure.TheVariants.{ReadFault, TooLong, Memory}
+use Rattle.command_replies.specs.declared.failure.Failure.{Failure}
+use Rattle.command_replies.specs.declared.failure.Failure.TheVariants.{ReadFault, TooLong, Memory}
 use Rattle.armc_commands.specs.Origin.{Told, Origin, named, given, generated, IsTextFrom}
 
 -- the state comes before the other in one call: the same is told, and the count of faults did not fall

@@ -10,8 +10,8 @@ use Rattle.protocol_search.specs.Verdicts.{end_of}
 use Rattle.command_words.specs.Words.{Command, command_of, searching, checking_all, generate}
 use Rattle.command_words.specs.declared.Limits.{Limits}
 use Rattle.command_words.specs.declared.Query.{Query}
-use Rattle.armc_commands.specs.declared.status.Status.TheVariants.{Done, Unknown}
-use Rattle.armc_commands.specs.declared.reply.Reply.{Reply}
+use Rattle.command_replies.specs.declared.status.Status.TheVariants.{Done, Unknown, ProtocolRefused}
+use Rattle.command_replies.specs.declared.reply.Reply.{Reply}
 use Rattle.armc_commands.specs.declared.search_reply.Telling.{Telling}
 use Rattle.armc_commands.specs.SearchReply.{Part, PartAnswer, IsAnswerTo, status_of}
 use Rattle.armc_commands.specs.Commands.{CommandReply, Promise, second_origin}
@@ -91,3 +91,9 @@ abbrev pub RepliesKeepPromises : Type 0
 RepliesKeepPromises =
     (words : List (List ℕ)) (told : Told) (command : Command) (reply : Reply) → command_of words ≡ Some command → IsReply words told reply
     → RefusesProtocol told command reply ⊎ KeepsItsPromise told command reply
+
+-- no reply to `gen` refuses its protocol
+abbrev pub GenerateIsNeverRefused : Type 0
+GenerateIsNeverRefused =
+    (words : List (List ℕ)) (told : Told) (number workers : ℕ) (reply : Reply) → command_of words ≡ Some (generate number workers)
+    → IsReply words told reply → reply.status ≢ ProtocolRefused

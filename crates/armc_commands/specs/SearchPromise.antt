@@ -18,8 +18,8 @@ use Rattle.protocol_search.specs.Methods.{search_method, first_key, IsByPredicat
 use Rattle.protocol_search.specs.SystemHistories.{IsFromHistory, IsBoundedByKey, IsWithin}
 use Rattle.protocol_search.specs.Verdicts.{end_of}
 use Rattle.protocol_search.specs.declared.search.Search.{Search}
-use Rattle.armc_commands.specs.declared.status.Status.TheVariants as status
-use Rattle.armc_commands.specs.declared.reply.Reply.{Reply}
+use Rattle.command_replies.specs.declared.status.Status.TheVariants as status
+use Rattle.command_replies.specs.declared.reply.Reply.{Reply}
 use Rattle.armc_commands.specs.declared.search_reply.Telling.{Telling}
 use Rattle.armc_commands.specs.declared.search_reply.Telling.TheVariants as telling
 use Rattle.armc_commands.specs.SearchReply.{Part, PartAnswer, IsAnswerTo, HoldsOfParts, reply_of_answers}

@@ -10,12 +10,12 @@ use Rattle.refinement.specs.declared.verdict.Verdict.TheVariants.{Safe, Unsafe, 
 use Rattle.protocol_search.specs.Analyses.{IsVerdictText}
 use Rattle.protocol_search.specs.Verdicts.{IsVerdictOf}
 use Rattle.protocol_search.specs.declared.search.Search.{Search}
-use Rattle.armc_commands.specs.declared.status.Status.{Status}
-use Rattle.armc_commands.specs.declared.status.Status.TheVariants as status
-use Rattle.armc_commands.specs.declared.reply.Reply.{Reply}
+use Rattle.command_replies.specs.declared.status.Status.{Status}
+use Rattle.command_replies.specs.declared.status.Status.TheVariants as status
+use Rattle.command_replies.specs.declared.reply.Reply.{Reply}
 use Rattle.armc_commands.specs.declared.search_reply.Telling.{Telling}
 use Rattle.armc_commands.specs.declared.search_reply.Telling.TheVariants as telling
-use Rattle.armc_commands.specs.Line.{line}
+use Rattle.command_replies.specs.Line.{line}
 use Rattle.armc_commands.specs.Summary.{summary}
 
 -- one part of a reply: its title, where it has one; a system, and what is searched of it

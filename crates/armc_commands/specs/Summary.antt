@@ -5,7 +5,7 @@ use Rattle.word_automata.specs.Building.{edge_count}
 use Rattle.search_history.specs.declared.log.Log.{Log}
 use Rattle.refinement.specs.declared.verdict.Verdict.{Verdict}
 use Rattle.refinement.specs.declared.verdict.Verdict.TheVariants.{Safe, Unsafe, Unknown}
-use Rattle.armc_commands.specs.Line.{line}
+use Rattle.command_replies.specs.Line.{line}
 
 -- the line of some words with a number at its end
 abbrev pub number_line : List ℕ → ℕ → List ℕ

@@ -3,16 +3,13 @@
 
 ghost use Rattle.std.specs.Prelude.{◌≡◌, ◌⊎◌, IfOk, Err, None, map, string_bytes};
 ghost use Rattle.command_words.specs.Words.{command_of};
-ghost use Rattle.armc_commands.specs.Reply.{reply_of};
+ghost use Rattle.command_replies.specs.Reply.{reply_of};
 ghost use Rattle.armc_commands.specs.Answer.{Answers, DeliversCounted, IsSound, IsQuiet, IsDecided, AreQuietEnds, KeepsCounts};
 
 use crate::commands::keep_promises;
-use crate::delivery::deliver;
-use crate::failure::Failure;
 use crate::outcome::reply_to;
-use crate::reply::{Reply, failure_reply};
-use crate::status::Status;
 use armc_io::{Gate, Library, Sink};
+use command_replies::{Failure, Reply, Status, deliver, failure_reply};
 use std::alloc::{AllocError, Global};
 use std::thread::Threads;
 

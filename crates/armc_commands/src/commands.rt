@@ -5,7 +5,7 @@ ghost use Rattle.std.specs.Prelude.{◌≡◌, ℕ, List, IfOk};
 ghost use Rattle.protocol_syntax.specs.declared.protocol.Protocol.{Protocol as ProtocolData};
 ghost use Rattle.protocol_model.specs.Numbering.{system_of};
 ghost use Rattle.command_words.specs.Words.{Command as CommandData, IsInRange, said};
-ghost use Rattle.armc_commands.specs.declared.reply.Reply.{Reply as ReplyData};
+ghost use Rattle.command_replies.specs.declared.reply.Reply.{Reply as ReplyData};
 ghost use Rattle.armc_commands.specs.Origin.{IsReadable, origin_of};
 ghost use Rattle.armc_commands.specs.Commands.{protocol_origin as protocol_origin_of, second_origin as second_origin_of, CommandReply, Promise};
 
@@ -18,9 +18,9 @@ mod steps;
 mod verify;
 
 use crate::origin::Origin;
-use crate::reply::Reply;
 use armc_io::Gate;
 use checkall::{check_all_reply, keeps_check_all_promise};
+use command_replies::Reply;
 use command_words::Command;
 use generate::{generate_reply, keeps_generate_promise};
 use migrate::{keeps_migrate_promise, migrate_reply};

@@ -3,7 +3,7 @@
 
 ghost use Rattle.armc_commands.specs.OneReply.{OutcomeIsDetermined};
 ghost use Rattle.armc_commands.specs.ReplyLaws.{WorkersKeepQuery, WorkersKeepCheckAll, WorkersKeepGenerate, LargerBudgetKeepsPart, LargerBudgetKeepsReply};
-ghost use Rattle.armc_commands.specs.ReplyLaws.{BadRunRulesOutSafe, RepliesKeepPromises};
+ghost use Rattle.armc_commands.specs.ReplyLaws.{BadRunRulesOutSafe, GenerateIsNeverRefused, RepliesKeepPromises};
 
 use crate::commands::keep_promises;
 use certificate::one_reading as one_certificate;
@@ -65,4 +65,12 @@ pub fn replies_keep_promises()
     ensures { RepliesKeepPromises }
 {
     keep_promises();
+}
+
+/// The law of `gen`: the text of the chain of each number says a protocol without a fault, so no reply to `gen` refuses its protocol. The
+/// function does nothing.
+pub fn generate_is_never_refused()
+    ensures { GenerateIsNeverRefused }
+{
+    one_protocol();
 }

@@ -4,22 +4,15 @@
 
 mod call;
 mod commands;
-mod delivery;
-mod failure;
 mod law;
-mod line;
 mod origin;
 mod outcome;
-mod reading;
-mod refusal;
-mod reply;
 mod search_reply;
-mod status;
 mod summary;
 
 pub use call::run;
+pub use command_replies::Status;
 pub use law::{
-    bad_run_rules_out_safe, larger_budget_keeps_reply, one_reply, replies_keep_promises,
-    workers_keep_reply,
+    bad_run_rules_out_safe, generate_is_never_refused, larger_budget_keeps_reply, one_reply,
+    replies_keep_promises, workers_keep_reply,
 };
-pub use status::Status;

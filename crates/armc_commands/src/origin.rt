@@ -5,9 +5,9 @@ ghost use Rattle.std.specs.Prelude.{◌≡◌, ◌≤◌, ◌⊎◌, IsTrue};
 ghost use Rattle.armc_commands.specs.Origin.{IsReadable, origin_of};
 ghost use Rattle.armc_commands.specs.Reads.{GivesText, IsToldOrigin, failure_of_read};
 
-use crate::failure::Failure;
 use armc_io::{Library, ReadFail};
 use chain_protocol::generate;
+use command_replies::Failure;
 use sequence::Text;
 use std::alloc::Global;
 

@@ -10,12 +10,9 @@ ghost use Rattle.armc_commands.specs.Reads.{IsEarlier, IsToldOrigin};
 ghost use Rattle.armc_commands.specs.Outcome.{HasProtocol, IsOutcome, IsReliableFor};
 
 use crate::commands::{command_reply, protocol_origin, second_origin};
-use crate::failure::Failure;
 use crate::origin::text_from;
-use crate::reading::{Reading, read_protocol};
-use crate::reply::{Reply, refusal_reply, usage};
-use crate::status::Status;
 use armc_io::{Gate, Library};
+use command_replies::{Failure, Reading, Reply, Status, read_protocol, refusal_reply, usage};
 use command_words::{Command, command_of};
 use protocol_model::System;
 use protocol_syntax::Protocol;

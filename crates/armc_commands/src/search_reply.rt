@@ -4,14 +4,13 @@
 ghost use Rattle.std.specs.Prelude.{◌≡◌, ◌<◌, ◌≤◌, [], ◌∷◌, List, None, IfOk};
 ghost use Rattle.refinement.specs.Verdicts.{IsSound, log_in};
 ghost use Rattle.protocol_search.specs.Analyses.{proof_limit, task_for};
-ghost use Rattle.armc_commands.specs.declared.reply.Reply.{Reply as ReplyData};
+ghost use Rattle.command_replies.specs.declared.reply.Reply.{Reply as ReplyData};
 ghost use Rattle.armc_commands.specs.SearchReply.{Part, IsSearchReply, IsTold, report_of as report_of_telling, status_of};
 ghost use Rattle.armc_commands.specs.SearchPromise.{SearchPromise};
 
-use crate::reply::Reply;
-use crate::status::Status;
 use crate::summary::summary;
 use armc_io::Gate;
+use command_replies::{Reply, Status};
 use protocol_model::System;
 use protocol_search::{
     Search, keys_bound_rounds, no_language_is_refuted_twice, runs_bound_rounds, search_system,

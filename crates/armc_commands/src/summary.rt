@@ -2,7 +2,7 @@
 //! for the size of a proof. It costs what its bytes cost, and a walk over the edges of the proof.
 
 ghost use Rattle.std.specs.Prelude.{◌≡◌, ◌++◌, IfOk, OnOk, codes, string_bytes};
-ghost use Rattle.armc_commands.specs.Line.{line};
+ghost use Rattle.command_replies.specs.Line.{line};
 ghost use Rattle.armc_commands.specs.Summary.{search_lines, proof_lines, summary as summary_of};
 
 use minimise::Canon;

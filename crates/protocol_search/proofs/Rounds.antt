@@ -9,7 +9,7 @@ use Rattle.abstraction.specs.Merging.{Key}
 use Rattle.abstraction.specs.Signatures.{AreSignatures}
 use Rattle.predicate_abstraction.specs.PredicateLaws.{related-excludes, related-equivalence as predicates-equivalence}
 use Rattle.predicate_abstraction.specs.Signatures as by_predicate
-use Rattle.predicate_abstraction.specs.SignatureLaws as predicate_laws
+use Rattle.predicate_abstraction.proofs.SignatureLaws as predicate_laws
 use Rattle.future_abstraction.specs.FutureLaws.{related-equivalence as lengths-equivalence}
 use Rattle.future_abstraction.specs.Signatures as by_length
 use Rattle.future_abstraction.proofs.SignatureLemmas as length_laws

@@ -9,7 +9,7 @@ use Rattle.protocol_model.specs.Steps.{IsStep}
 use Rattle.protocol_model.specs.Words.{word_of}
 use Rattle.refinement.specs.declared.verdict.Verdict.{Verdict}
 use Rattle.refinement.specs.declared.verdict.Verdict.TheVariants.{Safe, Unsafe, Unknown}
-use Rattle.certificate.specs.Writing.{automaton_text, run_text, counted_text}
+use Rattle.certificate_writing.specs.Writing.{automaton_text, run_text, counted_text}
 use Rattle.deadlock_query.specs.StuckConfigurations.{IsStuck}
 use Rattle.protocol_search.specs.Runs.{IsRunTo, IsRunThrough}
 

@@ -11,7 +11,7 @@ ghost use Rattle.protocol_search.specs.Deadlocks.{IsDeadlockText};
 
 use crate::runs::run_through;
 use crate::search::{Analysis, Search};
-use certificate::{
+use certificate_writing::{
     write_automaton, write_counted, write_run, write_safe, write_unknown, write_unsafe,
 };
 use protocol_model::System;

@@ -19,8 +19,8 @@ use Rattle.protocol_search.specs.Methods.{by_predicates}
 use Rattle.protocol_search.specs.declared.first.FirstAbstraction.TheVariants.{BadPredicates}
 use Rattle.protocol_search.specs.declared.search.Analysis.TheVariants.{Backward}
 use Rattle.protocol_search.specs.declared.search.Search.{Search}
-use Rattle.armc_commands.specs.declared.status.Status.TheVariants as status
-use Rattle.armc_commands.specs.declared.reply.Reply.{Reply}
+use Rattle.command_replies.specs.declared.status.Status.TheVariants as status
+use Rattle.command_replies.specs.declared.reply.Reply.{Reply}
 use Rattle.armc_commands.specs.declared.search_reply.Telling.TheVariants.{Certificate}
 use Rattle.armc_commands.specs.SearchReply.{Part}
 use Rattle.armc_commands.specs.SearchPromise.{CertificatePromise}

@@ -7,12 +7,12 @@ use Rattle.protocol_model.specs.System.{SystemData}
 use Rattle.protocol_properties.specs.Properties.{first_properties_fault, properties_of}
 use Rattle.protocol_properties.specs.declared.properties.Property.{Property}
 use Rattle.property_batch.specs.PropertyVerdicts.{property_search}
-use Rattle.armc_commands.specs.declared.refusal.Refusal.{Refusal}
-use Rattle.armc_commands.specs.declared.status.Status.TheVariants as status
-use Rattle.armc_commands.specs.declared.reply.Reply.{Reply}
+use Rattle.command_replies.specs.declared.refusal.Refusal.{Refusal}
+use Rattle.command_replies.specs.declared.status.Status.TheVariants as status
+use Rattle.command_replies.specs.declared.reply.Reply.{Reply}
 use Rattle.armc_commands.specs.declared.search_reply.Telling.TheVariants.{Certificate}
-use Rattle.armc_commands.specs.Refusal.{IsRefusalIn}
-use Rattle.armc_commands.specs.Reply.{refusal_reply}
+use Rattle.command_replies.specs.Refusal.{IsRefusalIn}
+use Rattle.command_replies.specs.Reply.{refusal_reply}
 use Rattle.armc_commands.specs.SearchReply.{Part, IsSearchReply}
 use Rattle.armc_commands.specs.SearchPromise.{SearchPromise}
 

@@ -3,13 +3,13 @@ use Rattle.std.specs.Prelude.{◌≡◌, ℕ, List, [], ◌∷◌, None, codes}
 use Rattle.word_automata.specs.Automaton.{Automaton}
 use Rattle.protocol_model.specs.declared.system.Run.{Run}
 use Rattle.protocol_model.specs.System.{SystemData}
-use Rattle.certificate.specs.Writing.{automaton_text, run_text}
+use Rattle.certificate_writing.specs.Writing.{automaton_text, run_text}
 use Rattle.protocol_search.specs.Deadlocks.{IsDeadlock, IsDeadlockFree, ProvesDeadlockFree}
 use Rattle.protocol_search.specs.declared.first.FirstAbstraction.TheVariants.{BadPredicates}
 use Rattle.protocol_search.specs.declared.search.Analysis.TheVariants.{Stuck}
 use Rattle.protocol_search.specs.declared.search.Search.{Search}
-use Rattle.armc_commands.specs.declared.status.Status.TheVariants as status
-use Rattle.armc_commands.specs.declared.reply.Reply.{Reply}
+use Rattle.command_replies.specs.declared.status.Status.TheVariants as status
+use Rattle.command_replies.specs.declared.reply.Reply.{Reply}
 use Rattle.armc_commands.specs.declared.search_reply.Telling.TheVariants.{Certificate}
 use Rattle.armc_commands.specs.SearchReply.{Part}
 use Rattle.armc_commands.specs.SearchPromise.{SearchPromise}

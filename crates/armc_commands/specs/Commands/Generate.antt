@@ -8,8 +8,8 @@ use Rattle.command_words.specs.Words.{default_budget}
 use Rattle.protocol_search.specs.declared.first.FirstAbstraction.TheVariants.{BadPredicates}
 use Rattle.protocol_search.specs.declared.search.Analysis.TheVariants.{Forward}
 use Rattle.protocol_search.specs.declared.search.Search.{Search}
-use Rattle.armc_commands.specs.declared.status.Status.TheVariants as status
-use Rattle.armc_commands.specs.declared.reply.Reply.{Reply}
+use Rattle.command_replies.specs.declared.status.Status.TheVariants as status
+use Rattle.command_replies.specs.declared.reply.Reply.{Reply}
 use Rattle.armc_commands.specs.declared.search_reply.Telling.TheVariants.{Summary}
 use Rattle.armc_commands.specs.SearchReply.{Part, IsSearchReply}
 use Rattle.armc_commands.specs.SearchPromise.{SearchPromise}

@@ -2,13 +2,13 @@
 use Rattle.std.specs.Prelude.{◌≡◌, ◌⊎◌, ℕ, List}
 use Rattle.protocol_model.specs.System.{SystemData}
 use Rattle.certificate.specs.Meaning.{IsCertificateOf}
-use Rattle.certificate.specs.IndexedWriting.{indexed_text}
+use Rattle.certificate_writing.specs.IndexedWriting.{indexed_text}
 use Rattle.certificate.specs.RunText.{unsafe_text}
 use Rattle.certificate.specs.declared.safe.Certificate.{Certificate}
 use Rattle.certificate.specs.declared.safe.Certificate.TheVariants.{Automaton, BadRun}
-use Rattle.armc_commands.specs.declared.status.Status.TheVariants as status
-use Rattle.armc_commands.specs.declared.reply.Reply.{Reply}
-use Rattle.armc_commands.specs.Reply.{on_out, RefusesCertificate}
+use Rattle.command_replies.specs.declared.status.Status.TheVariants as status
+use Rattle.command_replies.specs.declared.reply.Reply.{Reply}
+use Rattle.command_replies.specs.Reply.{on_out, RefusesCertificate}
 
 -- the text that is printed of a certificate: version 2 of that of an automaton, and the only one of a run
 abbrev pub migrated_text : SystemData → Certificate → List ℕ

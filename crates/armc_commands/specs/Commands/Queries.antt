@@ -14,7 +14,7 @@ use Rattle.protocol_search.specs.declared.first.FirstAbstraction.{FirstAbstracti
 use Rattle.protocol_search.specs.declared.first.FirstAbstraction.TheVariants.{BadPredicates, NoPredicates, Lengths, Pasts}
 use Rattle.protocol_search.specs.declared.search.Analysis.TheVariants.{Forward, Backward, Stuck}
 use Rattle.protocol_search.specs.declared.search.Search.{Search}
-use Rattle.armc_commands.specs.declared.reply.Reply.{Reply}
+use Rattle.command_replies.specs.declared.reply.Reply.{Reply}
 use Rattle.armc_commands.specs.declared.search_reply.Telling.{Telling}
 use Rattle.armc_commands.specs.declared.search_reply.Telling.TheVariants.{Certificate}
 use Rattle.armc_commands.specs.SearchReply.{Part, IsSearchReply}

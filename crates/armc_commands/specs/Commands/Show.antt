@@ -2,9 +2,9 @@
 use Rattle.std.specs.Prelude.{◌≡◌}
 use Rattle.protocol_syntax.specs.declared.protocol.Protocol.{Protocol}
 use Rattle.protocol_layout.specs.Layout.{layout}
-use Rattle.armc_commands.specs.declared.status.Status.TheVariants.{Done}
-use Rattle.armc_commands.specs.declared.reply.Reply.{Reply}
-use Rattle.armc_commands.specs.Reply.{on_out}
+use Rattle.command_replies.specs.declared.status.Status.TheVariants.{Done}
+use Rattle.command_replies.specs.declared.reply.Reply.{Reply}
+use Rattle.command_replies.specs.Reply.{on_out}
 
 -- the canonical layout of the protocol
 abbrev pub IsShowReply : Protocol → Reply → Type 0

@@ -7,11 +7,11 @@ use Rattle.protocol_steps.specs.Successors.{AreSuccessors}
 use Rattle.configuration_words.specs.declared.fault.ConfigFault.{ConfigFault}
 use Rattle.configuration_words.specs.ConfigurationText.{MeansConfiguration, IsFirstFault}
 use Rattle.configuration_words.specs.Texts.{configuration_text}
-use Rattle.armc_commands.specs.declared.status.Status.TheVariants.{Done, CertificateRefused}
-use Rattle.armc_commands.specs.declared.reply.Reply.{Reply}
-use Rattle.armc_commands.specs.Line.{line, rule_name}
-use Rattle.armc_commands.specs.Refusal.{configuration_refusal_text}
-use Rattle.armc_commands.specs.Reply.{on_out, on_err}
+use Rattle.command_replies.specs.declared.status.Status.TheVariants.{Done, CertificateRefused}
+use Rattle.command_replies.specs.declared.reply.Reply.{Reply}
+use Rattle.command_replies.specs.Line.{line, rule_name}
+use Rattle.command_replies.specs.Refusal.{configuration_refusal_text}
+use Rattle.command_replies.specs.Reply.{on_out, on_err}
 
 -- the line of a rule and the configuration to which it leads
 abbrev pub successor_line : SystemData → ℕ × Configuration → List ℕ

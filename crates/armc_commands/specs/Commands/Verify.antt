@@ -11,11 +11,11 @@ use Rattle.certificate_checker.specs.Proof.{Proves, IsSafe}
 use Rattle.certificate_checker.specs.Answers.{IsAnswer}
 use Rattle.certificate_checker.specs.declared.answer.Answer.{Answer}
 use Rattle.certificate_checker.specs.declared.answer.Answer.TheVariants.{Valid, InitialMissing, BadHeld, Leaves, NotInitial, NotStep, NotBad}
-use Rattle.armc_commands.specs.declared.status.Status.{Status}
-use Rattle.armc_commands.specs.declared.status.Status.TheVariants as status
-use Rattle.armc_commands.specs.declared.reply.Reply.{Reply}
-use Rattle.armc_commands.specs.Line.{line, rule_name}
-use Rattle.armc_commands.specs.Reply.{on_out, RefusesCertificate}
+use Rattle.command_replies.specs.declared.status.Status.{Status}
+use Rattle.command_replies.specs.declared.status.Status.TheVariants as status
+use Rattle.command_replies.specs.declared.reply.Reply.{Reply}
+use Rattle.command_replies.specs.Line.{line, rule_name}
+use Rattle.command_replies.specs.Reply.{on_out, RefusesCertificate}
 
 -- the certificate shows the system safe by an automaton that proves it, or not safe by a bad run
 abbrev pub IsProofOf : SystemData → Certificate → Type 0

@@ -7,19 +7,18 @@ ghost use Rattle.std.specs.List.{list_any};
 ghost use Rattle.command_words.specs.Words.{IsLimits};
 ghost use Rattle.protocol_model.specs.System.{SystemData};
 ghost use Rattle.property_batch.specs.PropertyVerdicts.{AreVerdicts, IsPropertyVerdict};
-ghost use Rattle.armc_commands.specs.declared.reply.Reply.{Reply as ReplyData};
+ghost use Rattle.command_replies.specs.declared.reply.Reply.{Reply as ReplyData};
 ghost use Rattle.armc_commands.specs.declared.search_reply.Telling.TheVariants.{Certificate};
 ghost use Rattle.armc_commands.specs.SearchReply.{IsSearchReply, status_of, titled, is_unsafe as is_unsafe_verdict, is_unknown as is_unknown_verdict};
-ghost use Rattle.armc_commands.specs.Reply.{refusal_reply as refusal_reply_of};
+ghost use Rattle.command_replies.specs.Reply.{refusal_reply as refusal_reply_of};
 ghost use Rattle.armc_commands.specs.Commands.CheckAll.{IsCheckAllReply, CheckAllPromise, property_parts};
 ghost use Rattle.armc_commands.specs.PartTexts.{AreTold, IsToldPart};
 
-use crate::reading::{refused_by_grammar, refused_by_names};
-use crate::refusal::Refusal;
-use crate::reply::{Reply, on_out, refusal_reply};
 use crate::search_reply::keep_search_promises;
-use crate::status::Status;
 use armc_io::Gate;
+use command_replies::{
+    Refusal, Reply, Status, on_out, refusal_reply, refused_by_grammar, refused_by_names,
+};
 use command_words::Limits;
 use property_batch::search_all;
 use protocol_model::System;

@@ -3,12 +3,12 @@
 
 ghost use Rattle.std.specs.Prelude.{◌<◌, ◌≤◌, ℕ, IfOk};
 ghost use Rattle.protocol_model.specs.System.{SystemData};
-ghost use Rattle.armc_commands.specs.declared.reply.Reply.{Reply as ReplyData};
+ghost use Rattle.command_replies.specs.declared.reply.Reply.{Reply as ReplyData};
 ghost use Rattle.armc_commands.specs.Commands.Generate.{IsGenerateReply, GeneratePromise};
 
-use crate::reply::Reply;
 use crate::search_reply::{Telling, keep_search_promises, search_reply};
 use armc_io::Gate;
+use command_replies::Reply;
 use command_words::DEFAULT_BUDGET;
 use protocol_model::System;
 use protocol_search::{Analysis, FirstAbstraction, Search};

@@ -4,12 +4,12 @@
 ghost use Rattle.std.specs.Prelude.{◌≡◌, ℕ, List, IfOk};
 ghost use Rattle.certificate.specs.Meaning.{IsCertificateOf};
 ghost use Rattle.protocol_model.specs.System.{SystemData};
-ghost use Rattle.armc_commands.specs.declared.reply.Reply.{Reply as ReplyData};
+ghost use Rattle.command_replies.specs.declared.reply.Reply.{Reply as ReplyData};
 ghost use Rattle.armc_commands.specs.Commands.Migrate.{migrated_text as migrated_text_of, IsMigrateReply, MigratePromise};
 
-use crate::reply::{Reply, certificate_refusal, on_out};
-use crate::status::Status;
-use certificate::{Certificate, read, write_safe2, write_unsafe};
+use certificate::{Certificate, read};
+use certificate_writing::{write_safe2, write_unsafe};
+use command_replies::{Reply, Status, certificate_refusal, on_out};
 use protocol_model::System;
 use std::alloc::{AllocError, Global};
 

@@ -4,8 +4,7 @@
 ghost use Rattle.std.specs.Prelude.{IfOk};
 ghost use Rattle.armc_commands.specs.Commands.Show.{IsShowReply};
 
-use crate::reply::{Reply, on_out};
-use crate::status::Status;
+use command_replies::{Reply, Status, on_out};
 use protocol_layout::print;
 use protocol_syntax::Protocol;
 use std::alloc::{AllocError, Global};

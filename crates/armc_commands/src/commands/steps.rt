@@ -4,15 +4,12 @@
 ghost use Rattle.std.specs.Prelude.{◌≡◌, ◌≢◌, ◌++◌, IsTrue, IfOk, OnOk};
 ghost use Rattle.std.specs.List.{AllByRecursion};
 ghost use Rattle.protocol_model.specs.Patterns.{fits};
-ghost use Rattle.armc_commands.specs.Line.{line};
-ghost use Rattle.armc_commands.specs.Refusal.{configuration_refusal_text};
-ghost use Rattle.armc_commands.specs.Reply.{on_err as on_err_of};
+ghost use Rattle.command_replies.specs.Line.{line};
+ghost use Rattle.command_replies.specs.Refusal.{configuration_refusal_text};
+ghost use Rattle.command_replies.specs.Reply.{on_err as on_err_of};
 ghost use Rattle.armc_commands.specs.Commands.Steps.{successor_line, successors_text as successors_text_of, IsStepsReply};
 
-use crate::line::rule_name;
-use crate::refusal::configuration_refusal_line;
-use crate::reply::{Reply, on_err, on_out};
-use crate::status::Status;
+use command_replies::{Reply, Status, configuration_refusal_line, on_err, on_out, rule_name};
 use configuration_words::{ConfigFault, configuration_text, read_configuration};
 use protocol_model::{Configuration, System};
 use protocol_steps::successors;

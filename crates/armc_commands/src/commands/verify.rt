@@ -5,16 +5,14 @@ ghost use Rattle.std.specs.Prelude.{◌≡◌, ◌≢◌, ◌↔◌, ◌++◌, �
 ghost use Rattle.protocol_model.specs.Patterns.{fits};
 ghost use Rattle.configuration_words.specs.Texts.{configuration_text as text_of};
 ghost use Rattle.protocol_model.specs.System.{SystemData};
-ghost use Rattle.armc_commands.specs.declared.reply.Reply.{Reply as ReplyData};
-ghost use Rattle.armc_commands.specs.Line.{line};
-ghost use Rattle.armc_commands.specs.Reply.{on_out as on_out_of};
+ghost use Rattle.command_replies.specs.declared.reply.Reply.{Reply as ReplyData};
+ghost use Rattle.command_replies.specs.Line.{line};
+ghost use Rattle.command_replies.specs.Reply.{on_out as on_out_of};
 ghost use Rattle.armc_commands.specs.Commands.Verify.{ShowsFitting, IsVerifyReply, VerifyPromise, answer_text, answer_status as answer_status_of};
 
-use crate::line::{line_of, rule_name};
-use crate::reply::{Reply, certificate_refusal, on_out};
-use crate::status::Status;
 use certificate::read;
 use certificate_checker::{Answer, check_certificate, proofs_are_sound};
+use command_replies::{Reply, Status, certificate_refusal, line_of, on_out, rule_name};
 use configuration_words::configuration_text;
 use protocol_model::{Configuration, System};
 use std::alloc::{AllocError, Global};

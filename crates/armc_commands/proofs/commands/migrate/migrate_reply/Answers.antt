@@ -1,8 +1,8 @@
 use Rattle.std.proofs.Common.{List, ℕ, inl, inr, refl, sym, ap, subst, ◌∙◌}
 use Rattle.certificate.specs.Meaning.{IsCertificateOf}
-use Rattle.armc_commands.specs.declared.status.Status.TheVariants.{Done}
-use Rattle.armc_commands.specs.declared.reply.Reply.{Reply}
-use Rattle.armc_commands.specs.Reply.{on_out}
+use Rattle.command_replies.specs.declared.status.Status.TheVariants.{Done}
+use Rattle.command_replies.specs.declared.reply.Reply.{Reply}
+use Rattle.command_replies.specs.Reply.{on_out}
 use Rattle.armc_commands.specs.Commands.Migrate.{IsMigrateReply}
 use Rattle.armc_commands.proofs.Replies.{certificate_refused}
 use Rattle.armc_commands.proofs.commands.migrate.migrate_reply.Goals as goal

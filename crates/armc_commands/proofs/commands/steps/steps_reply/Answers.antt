@@ -2,8 +2,8 @@ use Rattle.std.proofs.Common.{ℕ, List, inl, refl, sym, subst, ap, ◌∙◌, I
 use Rattle.std.specs.List.{AllByRecursion}
 use Rattle.protocol_model.specs.declared.system.Configuration.{Configuration}
 use Rattle.protocol_model.specs.Patterns.{fits}
-use Rattle.armc_commands.specs.declared.status.Status.TheVariants.{Done}
-use Rattle.armc_commands.specs.Reply.{on_out}
+use Rattle.command_replies.specs.declared.status.Status.TheVariants.{Done}
+use Rattle.command_replies.specs.Reply.{on_out}
 use Rattle.armc_commands.specs.Commands.Steps.{successors_text}
 use Rattle.armc_commands.proofs.Replies.{steps_refused}
 use Rattle.armc_commands.proofs.Successors.{all_fit}

@@ -6,9 +6,9 @@ use Rattle.forms.specs.declared.fault.SyntaxFault.{SyntaxFault}
 use Rattle.forms.specs.declared.fault.SyntaxFault.TheVariants as syntax
 use Rattle.protocol_model.specs.declared.fault.ModelFault.{ModelFault}
 use Rattle.protocol_model.specs.declared.fault.ModelFault.TheVariants as model
-use Rattle.armc_commands.specs.declared.refusal.Refusal.{Refusal}
-use Rattle.armc_commands.specs.declared.refusal.Refusal.TheVariants.{Syntax, Model}
-use Rattle.armc_commands.specs.Refusal.{IsRefusalIn}
+use Rattle.command_replies.specs.declared.refusal.Refusal.{Refusal}
+use Rattle.command_replies.specs.declared.refusal.Refusal.TheVariants.{Syntax, Model}
+use Rattle.command_replies.specs.Refusal.{IsRefusalIn}
 
 module _ {T : Type 0} (grammar : Grammar T) (names_fault : T → Option ModelFault) (text : List ℕ) where
   pub by_grammar : (fault : SyntaxFault) (refusal : Refusal) → refusal ≡ Syntax fault → fault ≢ syntax.Memory

@@ -1,5 +1,5 @@
 use Rattle.std.proofs.Common.{◌∙◌, ◌++◌, [], ◌∷◌, ap, sym, append_assoc, codes, decimal}
-use Rattle.armc_commands.proofs.refusal.fault_at.Goals as goal
+use Rattle.command_replies.proofs.refusal.fault_at.Goals as goal
 
 pub returns : goal.returns
 returns c =

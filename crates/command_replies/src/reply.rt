@@ -2,9 +2,9 @@
 //! A text is moved into its reply; the lines that are made here are copied, in time linear in their length.
 
 ghost use Rattle.std.specs.Prelude.{◌≡◌, ◌≢◌, IfOk, OnOk};
-ghost use Rattle.armc_commands.specs.Line.{line};
-ghost use Rattle.armc_commands.specs.Refusal.{certificate_refusal_text};
-ghost use Rattle.armc_commands.specs.Reply.{on_out as on_out_of, on_err as on_err_of, usage as usage_reply, refusal_reply as refusal_reply_of, failure_reply as failure_reply_of};
+ghost use Rattle.command_replies.specs.Line.{line};
+ghost use Rattle.command_replies.specs.Refusal.{certificate_refusal_text};
+ghost use Rattle.command_replies.specs.Reply.{on_out as on_out_of, on_err as on_err_of, usage as usage_reply, refusal_reply as refusal_reply_of, failure_reply as failure_reply_of};
 
 use crate::failure::Failure;
 use crate::line::line_of;

@@ -1,8 +1,8 @@
 //! How two texts reach two sinks: each by one call, an empty one by none, and nothing after a fault.
 //! It costs what the sinks take for the texts.
 
-ghost use Rattle.armc_commands.specs.Delivery.{Delivers, CountsFaults};
-ghost use Rattle.armc_commands.specs.Text.{PutsText};
+ghost use Rattle.command_replies.specs.Delivery.{Delivers, CountsFaults};
+ghost use Rattle.command_replies.specs.Text.{PutsText};
 
 use crate::status::Status;
 use armc_io::{Sink, SinkFail};

@@ -17,7 +17,7 @@ pub enum Failure {
 
 impl From<AllocError> for Failure {
     ghost use Rattle.std.specs.Prelude.{◌≡◌};
-    ghost use Rattle.armc_commands.specs.declared.failure.Failure.TheVariants.{Memory};
+    ghost use Rattle.command_replies.specs.declared.failure.Failure.TheVariants.{Memory};
 
     ghost from_gives = { λ _ failure. failure ≡ Memory };
 

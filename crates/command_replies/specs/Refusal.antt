@@ -15,8 +15,8 @@ use Rattle.configuration_words.specs.declared.fault.ConfigFault.{ConfigFault}
 use Rattle.configuration_words.specs.declared.fault.ConfigFault.TheVariants as configuration
 use Rattle.certificate.specs.declared.fault.CertFault.{CertFault}
 use Rattle.certificate.specs.declared.fault.CertFault.TheVariants as certificate
-use Rattle.armc_commands.specs.declared.refusal.Refusal.{Refusal}
-use Rattle.armc_commands.specs.declared.refusal.Refusal.TheVariants.{Syntax, Model}
+use Rattle.command_replies.specs.declared.refusal.Refusal.{Refusal}
+use Rattle.command_replies.specs.declared.refusal.Refusal.TheVariants.{Syntax, Model}
 
 -- this is the first fault of a text of this grammar: of its tokens and grammar, or else of the names in what it says
 abbrev pub IsRefusalIn : {T : Type 0} → Grammar T → (T → Option ModelFault) → List ℕ → Refusal → Type 0

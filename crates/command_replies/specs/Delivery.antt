@@ -3,8 +3,8 @@ use Rattle.std.specs.Prelude.{◌≡◌, ◌≤◌, ◌⊎◌, ℕ, List, [], �
 use Rattle.std.specs.Io.KnownBytes.{Appends}
 use Rattle.armc_io.specs.Faults.{Rose}
 use Rattle.armc_io.specs.Sink.{SinkState}
-use Rattle.armc_commands.specs.declared.status.Status.{Status}
-use Rattle.armc_commands.specs.declared.status.Status.TheVariants.{WriteFault}
+use Rattle.command_replies.specs.declared.status.Status.{Status}
+use Rattle.command_replies.specs.declared.status.Status.TheVariants.{WriteFault}
 
 -- a sink whose text is empty is left as it was
 abbrev pub IsUntouched : List ℕ → SinkState → SinkState → Type 0

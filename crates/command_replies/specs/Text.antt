@@ -2,7 +2,7 @@
 use Rattle.std.specs.Prelude.{ℕ, List, Result, Ok, Err}
 use Rattle.std.specs.Io.KnownBytes.{Appends}
 use Rattle.armc_io.specs.Sink.{SinkState, FailsToPut}
-use Rattle.armc_commands.specs.Delivery.{IsUntouched}
+use Rattle.command_replies.specs.Delivery.{IsUntouched}
 
 -- the text was appended, and nothing was done where it is empty
 pub record PutsWhole (old new : SinkState) (text : List ℕ) : Type 0 where

@@ -2,9 +2,9 @@
 //! wrong, and the name or the limit that it is about. A line is made by one format, in time linear in its length.
 
 ghost use Rattle.std.specs.Prelude.{◌≡◌, ◌≢◌, ◌++◌, IfOk, OnOk};
-ghost use Rattle.armc_commands.specs.Refusal.{located, refusal_text, syntax_text, model_text, what_word};
-ghost use Rattle.armc_commands.specs.Refusal.{configuration_refusal_text, in_certificate, certificate_refusal_text};
-ghost use Rattle.armc_commands.specs.Line.{line};
+ghost use Rattle.command_replies.specs.Refusal.{located, refusal_text, syntax_text, model_text, what_word};
+ghost use Rattle.command_replies.specs.Refusal.{configuration_refusal_text, in_certificate, certificate_refusal_text};
+ghost use Rattle.command_replies.specs.Line.{line};
 
 use certificate::CertFault;
 use configuration_words::ConfigFault;

@@ -2,7 +2,7 @@
 //! of its number of names.
 
 ghost use Rattle.std.specs.Prelude.{◌≡◌, ◌≢◌, IfOk, OnOk};
-ghost use Rattle.armc_commands.specs.Reading.{IsReadingOf};
+ghost use Rattle.command_replies.specs.Reading.{IsReadingOf};
 
 use crate::refusal::Refusal;
 use protocol_model::{ModelFault, System, resolve, texts_say_allowed_protocols};

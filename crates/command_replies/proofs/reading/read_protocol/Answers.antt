@@ -1,8 +1,8 @@
 use Rattle.std.proofs.Common.{refl}
 use Rattle.protocol_syntax.specs.Grammar.{protocol}
 use Rattle.protocol_model.specs.Faults.{first_fault}
-use Rattle.armc_commands.proofs.Refused.{by_grammar, by_names}
-use Rattle.armc_commands.proofs.reading.read_protocol.Goals as goal
+use Rattle.command_replies.proofs.Refused.{by_grammar, by_names}
+use Rattle.command_replies.proofs.reading.read_protocol.Goals as goal
 
 pub returns-in-Err : goal.returns-in-Err
 returns-in-Err c =

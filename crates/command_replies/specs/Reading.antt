@@ -4,9 +4,9 @@ use Rattle.protocol_syntax.specs.declared.protocol.Protocol.{Protocol}
 use Rattle.protocol_syntax.specs.Grammar.{IsProtocol}
 use Rattle.protocol_model.specs.Numbering.{system_of}
 use Rattle.protocol_model.specs.Faults.{first_fault}
-use Rattle.armc_commands.specs.declared.reading.Reading.{Reading}
-use Rattle.armc_commands.specs.declared.reading.Reading.TheVariants.{Protocol as Says, Refused}
-use Rattle.armc_commands.specs.Refusal.{IsRefusalOf}
+use Rattle.command_replies.specs.declared.reading.Reading.{Reading}
+use Rattle.command_replies.specs.declared.reading.Reading.TheVariants.{Protocol as Says, Refused}
+use Rattle.command_replies.specs.Refusal.{IsRefusalOf}
 
 -- the text says this protocol, which has no fault
 pub record IsFaultless (text : List ℕ) (p : Protocol) : Type 0 where

@@ -1,0 +1,6 @@
+pub mod Text
+pub mod Delivery
+pub mod Line
+pub mod Reading
+pub mod Refusal
+pub mod Reply
