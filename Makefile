@@ -1,4 +1,4 @@
-# make; make install PREFIX=$HOME/.local; make uninstall PREFIX=$HOME/.local (README.md, Build it); make dist; make deb (docs/TOOLS.md, A release)
+# make; make install PREFIX=$HOME/.local; make uninstall PREFIX=$HOME/.local (README.md, Install); make dist; make deb (docs/TOOLS.md, A release)
 PREFIX = /usr/local
 build:
 	tools/build-program
