@@ -25,9 +25,9 @@ def source_with(folders, what):
 
 
 def reserved_words():
-    """How the reserved words are written, by the function that says so."""
+    """How the reserved words are written, by the list of them."""
     text = source_with(["src"], "pub enum Keyword")
-    return re.findall(r'Keyword::\w+ => b"(\w+)"', text)
+    return re.findall(r'\(Keyword::\w+, b"(\w+)"\)', text)
 
 
 def differences(name, found, wanted):
@@ -113,17 +113,18 @@ def usage(program):
     return re.fullmatch(r"armc: usage: (.*)\n", told)[1].split("; ")
 
 
-def told_commands(page):
-    """The first column of the page's table of commands."""
-    table = re.search(r"^\| (?:words|command) \| (?:what it )?does \|.*\n\|[-|]*\n((?:\|.*\n)*)", read(page), re.M)[1]
+def told_commands():
+    """The first column of the table of commands on their page."""
+    table = re.search(r"^\| words \| what it does \|.*\n\|[-|]*\n((?:\|.*\n)*)", read("docs", "COMMANDS.md"), re.M)[1]
     return [row.replace("\\|", "|") for row in re.findall(r"^\| `([^`]*)` \|", table, re.M)]
 
 
 def wrong_commands(program):
     """Where a page does not have exactly the commands of the usage line, or the manual page or a completion lacks an option."""
     lines, forms = [], usage(program)
-    for page in ("README.md", "docs/COMMANDS.md"):
-        lines += differences(page, told_commands(page), forms)
+    lines += differences("docs/COMMANDS.md", told_commands(), forms)
+    named = re.findall(r"`(\w+)`", re.search("^`show` prints .*?:", read("README.md"), re.M)[0])
+    lines += differences("README.md", named, [form.split()[0] for form in forms])
     synopsis = read("man", "armc.1").split(".Sh SYNOPSIS")[1].split(".Sh DESCRIPTION")[0]
     lines += differences("man/armc.1", re.findall(r"^\.Cm (\w+)$", synopsis, re.M), [form.split()[0] for form in forms])
     options = {option for form in forms for option in re.findall(r"--(\w+)", form)}
@@ -144,7 +145,7 @@ def told_by(script):
 def checks(program):
     """Each check with its name."""
     yield "definitions page", told_by("definitions-page")
-    yield "public calls on the first page", told_by("public-calls")
+    yield "public calls on pages", told_by("public-calls")
     yield "reserved words on pages", wrong_reserved_words()
     yield "productions on pages", wrong_productions()
     if program:

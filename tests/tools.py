@@ -103,6 +103,20 @@ def faults(program):
     return wrong
 
 
+def terminals(program):
+    """What a terminal shows of the tools that ask nothing is what a pipe gets."""
+    wrong, lock = [], example("tutorial", "lock.armc")
+    for tool, words in (("armc-coverage", [lock]), ("armc-explain", [lock]), ("armc-second-opinion", [example("tickets.armc"), example("tickets.cert")]),
+                        ("armc-walk", ["--random", "9", "--seed", "1", example("open_door.armc")]), ("check-folder", [example("tutorial")])):
+        asked = [] if tool == "armc-second-opinion" else ["--program", program]
+        words = [sys.executable, os.path.join(TOOLS, tool), *asked, *words]
+        piped = subprocess.run(words, capture_output=True, text=True, timeout=SECONDS)
+        shown, status = on_terminal(words)
+        texts = [re.sub(r"\d+\.\d s", "time", text.replace("\r\n", "\n")) for text in (shown, piped.stdout + piped.stderr)]
+        wrong += differs(f"{tool} on a terminal", (status, texts[0]), (piped.returncode, texts[1]))
+    return wrong
+
+
 def walk(program):
     """A dialogue in a pipe and on a terminal, random walks, and a walk that ends bad."""
     found = call(program, "armc-walk", "--letters", "2", example("tickets.armc"), text="1\nu\n1\n1\n?\ns P: c x\nr 2\nq\n")
@@ -336,6 +350,12 @@ def folders(program):
         cases = {case.get("name"): [each.tag for each in case] for case in xml.parse(report).getroot()}
         wanted = {"own.armc": ["system-out"], "other.armc": ["failure", "system-out"], "silent.armc": ["skipped", "system-out"]}
         wrong = differs("options and report", (found.returncode, cases), (1, wanted))
+        found = call(program, "check-folder", os.path.join(folder, "nowhere"))
+        wrong += differs("a folder that is not there", (found.returncode, "Traceback" in found.stderr), (2, False))
+        with open(os.path.join(folder, "own.armc"), "w") as file:
+            file.write("# expect: safe\nprotocol p\narray P { a a }\n")
+        found = call(program, "check-folder", folder)
+        wrong += differs("a refused protocol", (found.returncode, "line 3 column 13: duplicate a" in found.stdout), (1, True))
         with open("/dev/full", "w") as full:
             found = call(program, "check-folder", folder, capture_output=False, stdout=full, stderr=subprocess.PIPE)
         return wrong + differs("a full device", (found.returncode, "Traceback" in found.stderr), (126, False))
@@ -451,8 +471,9 @@ PICTURES = {
 def told_pages(program):
     """The explanations that the pages show are those that armc-explain prints."""
     wrong, pages = [], "".join(read(os.path.join(TOP, "docs", name)) for name in ("TOOLS.md", "GALLERY.md"))
-    for words, told in re.findall(r"^\$ armc-explain (.*)\n((?:.*\n)*?)```$", pages, re.M):
-        found = call(program, "armc-explain", *[os.path.join(TOP, word) if "/" in word else word for word in words.split()])
+    for searched, words, told in re.findall(r"^\$ (?:armc (.*) \| )?armc-explain (.*)\n((?:.*\n)*?)```$", pages, re.M):
+        given = subprocess.run([program, *searched.split()], capture_output=True, text=True, cwd=TOP).stdout if searched else ""
+        found = call(program, "armc-explain", *[os.path.join(TOP, word) if "/" in word else word for word in words.split()], text=given)
         wrong += differs(f"armc-explain {words}", found.stdout, told)
     return wrong
 
@@ -515,10 +536,7 @@ def second_checker():
 def opinion(second, system, text):
     """What the second checker says of a certificate: its status and its line."""
     try:
-        deadlocks, certificate = second.read_certificate(system, text)
-        judge = second.judge_automaton if isinstance(certificate, second.Automaton) else second.judge_run
-        wrong = judge(system, certificate, deadlocks)
-        return (7, f"not valid: {wrong}") if wrong else (0, "valid")
+        return second.judged(system, text)
     except second.Refused as fault:
         return fault.args[0], f"armc: {fault.args[1]}"
 
@@ -577,6 +595,7 @@ def windows():
 def checks(program):
     """Each check with its name."""
     yield "tools, with faults", faults(program)
+    yield "tools on a terminal", terminals(program)
     yield "armc-walk", walk(program)
     yield "armc-portfolio", portfolio(program)
     yield "armc-coverage", coverage(program)
