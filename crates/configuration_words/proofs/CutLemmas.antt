@@ -1,11 +1,11 @@
 -- Words that are cut at separators.
-pub use Rattle.sequence.proofs.Cuts.{cut_unique}
+pub use Rattle.sequence.proofs.ForCallers.{cut_unique}
 use Rattle.std.proofs.Common.{◌≡◌, ◌==◌, ◌<◌, ◌+◌, ℕ, suc, false, List, [], ◌∷◌, ◌++◌, None, Some, length, take, drop, not, cond, refl, sym, ap, subst, ◌∙◌}
 use Rattle.std.proofs.Common.{inl, inr, arith, eqb-true, eq-eqb, true≢false, nat_lt, position, lt-ltb, one-add, add-one, length-drop, ◌-◌}
 use Rattle.std.specs.List.{position_or_len}
 use Rattle.std.proofs.lemmas.Bool.{cases_Bool, cases_lt}
 use Rattle.std.proofs.lemmas.List.{take_all}
-use Rattle.configuration_words.specs.Cuts.{Lacks, IsCut}
+use Rattle.configuration_words.specs.private.Cuts.{Lacks, IsCut}
 
 -- the word is cut at so many letters
 abbrev IsCutAfter : ℕ → List ℕ → ℕ → Type 0

@@ -11,7 +11,7 @@ use Rattle.protocol_model.specs.declared.system.Configuration.{Configuration}
 use Rattle.protocol_model.specs.System.{SystemData, letter_count, total_letters}
 use Rattle.protocol_model.specs.Patterns.{list_fits, lists_fit, fits}
 use Rattle.protocol_model.specs.Words.{raised, raised_lists, joined, separator_of, word_of}
-use Rattle.configuration_words.specs.Cuts.{Lacks, IsCut}
+use Rattle.configuration_words.specs.private.Cuts.{Lacks, IsCut}
 use Rattle.configuration_words.proofs.WordLemmas.{joined_some, cut_joined, joined_cut, raised_Lacks, raised_same, fitting_letters}
 use Rattle.configuration_words.proofs.EncodingLemmas.{next_section}
 

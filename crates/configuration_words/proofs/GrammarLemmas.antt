@@ -11,9 +11,8 @@ use Rattle.forms.specs.declared.symbol.Symbol.TheVariants.{Sign}
 use Rattle.forms.specs.Symbol.{Source, source_of}
 use Rattle.forms.specs.Grammar.{Grammar, sign, name, one_of, gives, ◌>>=◌, ◌or◌, optional, many_by, item, only, each, Passes}
 use Rattle.forms.specs.FirstFault.{IsMeaning, IsFault}
-use Rattle.forms.specs.Shape.{Shape, one, word, listed, none, after, either, perhaps, often, limited, allowed, HasShape, IsUniform, shape, grows, first, more, are_apart, is_told, code, code_of_keyword, code_of_sign}
-use Rattle.forms.proofs.EachLaws.{each_uniform, each_told, each_apart}
-use Rattle.forms.proofs.MayMean.{MayMean, AllAfter, within_may_mean}
+use Rattle.forms.specs.Shape.{Shape, one, word, listed, none, after, either, perhaps, often, limited, allowed, HasShape, IsUniform, shape, grows, first, more, are_apart, is_told, code}
+use Rattle.forms.proofs.ForCallers.{each_uniform, each_told, each_apart, MayMean, AllAfter, within_may_mean}
 use Rattle.protocol_model.specs.declared.system.Section.{Section}
 use Rattle.protocol_model.specs.declared.system.Configuration.{Configuration}
 use Rattle.protocol_model.specs.System.{letter_count}
@@ -45,13 +44,13 @@ part_shape : Bool → Section → Shape
 part_shape any section = after listed (after (one (Sign Colon)) (shape (list_of any section)))
 
 part_is_told : (any : Bool) (section : Section) → is_told (part_shape any section) ≡ true
-unfolding part_shape list_of letters one_letter code code_of_keyword code_of_sign
+unfolding part_shape list_of letters one_letter code
 part_is_told true section = refl
 part_is_told false section = refl
 
 -- a semicolon does not go on a part
 part_ends : (any : Bool) (section : Section) → are_apart (code (Sign Semicolon) ∷ []) (more (part_shape any section)) ≡ true
-unfolding part_shape list_of letters one_letter code code_of_keyword code_of_sign
+unfolding part_shape list_of letters one_letter code
 part_ends true section = refl
 part_ends false section = refl
 

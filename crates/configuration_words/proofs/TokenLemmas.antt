@@ -19,10 +19,10 @@ use Rattle.forms.specs.Symbol.{Source, keyword_of, source_of}
 use Rattle.forms.specs.Grammar.{one_of, many, each, IsWithin}
 use Rattle.forms.specs.FirstFault.{IsMeaning}
 use Rattle.protocol_syntax.specs.Spacing.{spaced}
-use Rattle.protocol_syntax.proofs.Lexing.{is_word, IsToken-colon, IsToken-semicolon, tokens_of_words}
-use Rattle.forms.proofs.MayMean.{AllAfter}
-use Rattle.forms.proofs.SaidWithin.{within_from_said}
-use Rattle.protocol_syntax.proofs.Printed.{Prints, prints_sign, prints_means, prints_one_of, prints_gives, prints_bind, prints_last, prints_after, prints_left, prints_right, prints_all, words_stand}
+use Rattle.protocol_syntax.proofs.ForCallers.{is_word, IsToken-colon, IsToken-semicolon, tokens_of_words, Prints, prints_sign, prints_means}
+use Rattle.protocol_syntax.proofs.ForCallers.{prints_one_of, prints_gives, prints_bind, prints_last, prints_after, prints_left}
+use Rattle.protocol_syntax.proofs.ForCallers.{prints_right, prints_all, words_stand}
+use Rattle.forms.proofs.ForCallers.{AllAfter, within_from_said}
 use Rattle.protocol_model.specs.declared.system.Section.{Section}
 use Rattle.protocol_model.specs.declared.system.Configuration.{Configuration}
 use Rattle.protocol_model.specs.Names.{IsName}

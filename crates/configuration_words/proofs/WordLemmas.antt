@@ -10,8 +10,8 @@ use Rattle.protocol_model.specs.declared.system.Section.{Section}
 use Rattle.protocol_model.specs.System.{letter_count}
 use Rattle.protocol_model.specs.Patterns.{list_fits, has_any_length}
 use Rattle.protocol_model.specs.Words.{raised, joined}
-use Rattle.configuration_words.specs.Cuts.{Lacks, IsCut}
-use Rattle.sequence.proofs.Cuts.{cut_unique, no_cut}
+use Rattle.configuration_words.specs.private.Cuts.{Lacks, IsCut}
+use Rattle.sequence.proofs.ForCallers.{cut_unique, no_cut}
 
 -- words, each behind a separator
 abbrev pub separated : ℕ → List (List ℕ) → List ℕ

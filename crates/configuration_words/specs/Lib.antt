@@ -1,4 +1,4 @@
-pub mod Cuts
 pub mod Texts
 pub mod ConfigurationText
 pub mod OneReading
+pub mod private

@@ -3,11 +3,12 @@
 
 ghost use Rattle.std.specs.Prelude.{◌≡◌, ◌≢◌, ◌==◌, ◌||◌, ◌+◌, ◌<◌, ◌≤◌, ℕ, List, IfOk, IfSome, MatchOption, IsTrue, Some, length, nat_lt, option_copied, position};
 ghost use Rattle.std.specs.List.{list_all};
+ghost use Rattle.protocol_syntax.specs.declared.limits.TheConstants.{MAX_LETTERS};
 ghost use Rattle.protocol_model.specs.declared.system.Configuration.{Configuration};
 ghost use Rattle.protocol_model.specs.System.{letter_count};
 ghost use Rattle.protocol_model.specs.Patterns.{fits, has_any_length, list_fits};
 ghost use Rattle.protocol_model.specs.Words.{raised, word_of};
-ghost use Rattle.configuration_words.specs.Cuts.{IsCut};
+ghost use Rattle.configuration_words.specs.private.Cuts.{IsCut};
 
 use protocol_model::{Configuration, Section, System};
 use sequence::Sequence;
@@ -74,7 +75,7 @@ fn lowered(
     offset: u32,
     letters: &[u32],
 ) -> Result<Option<Sequence<u32>>, AllocError>
-    requires { offset + letter_count section.now ≤ 256 }
+    requires { offset + letter_count section.now ≤ MAX_LETTERS }
     ensures { IfOk result (λ lowered. MatchOption lowered
         ((list : List ℕ) → IsTrue (list_fits section.now list) → letters.now ≡ raised offset list → ⊥)
         (λ list. IsTrue (list_fits section.now list) × (letters.now ≡ raised offset list))) }

@@ -1,3 +1,4 @@
+pub mod ForCallers
 mod Words
 mod Meaning
 mod Sets

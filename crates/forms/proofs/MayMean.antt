@@ -13,7 +13,7 @@ use Rattle.protocol_lexer.specs.declared.TokenKind.{TokenKind}
 use Rattle.protocol_lexer.specs.declared.TokenKind.TheVariants.{Word, BraceLeft, BraceRight, Colon, Semicolon, Star, Plus, Arrow}
 use Rattle.protocol_lexer.specs.Piece.{is_word_byte}
 use Rattle.protocol_lexer.specs.Tokens.{AreTokens, LiesIn}
-use Rattle.protocol_lexer.proofs.Lying.{LieInOrder-taken, lies_at}
+use Rattle.protocol_lexer.proofs.ForCallers.{LieInOrder-taken, lies_at}
 use Rattle.forms.specs.declared.fault.What.{What}
 use Rattle.forms.specs.declared.fault.What.TheVariants.{NameBytes}
 use Rattle.forms.specs.declared.name.Name.{Name}

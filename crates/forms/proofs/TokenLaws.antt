@@ -1,5 +1,7 @@
 -- A token of the grammar is read as it stands.
-use Rattle.std.proofs.Common.{◌≡◌, ℕ, ◌+◌, ◌-◌, ◌<◌, Bool, true, false, cond, eqb, List, [], ◌∷◌, Option, Some, None, Ok, Err, refl, sym, ap, subst, ◌∙◌, inl, inr, arith, slice_index_or}
+use denote.Enum.Bare.{tag_one}
+use denote.Enum.Declared.{tag_of}
+use Rattle.std.proofs.Common.{◌≡◌, ℕ, zero, suc, ◌+◌, ◌*◌, ◌-◌, ◌<◌, Bool, true, false, cond, eqb, List, [], ◌∷◌, Option, Some, None, Ok, Err, refl, sym, ap, subst, ◌∙◌, inl, inr, arith}
 use Rattle.std.specs.Prelude.{slice_get, position, IsTrue, ◌↔◌, ⊤}
 use Rattle.std.specs.Str.{bytes_eq}
 use Rattle.std.specs.Option.{option_map}
@@ -7,8 +9,8 @@ use Rattle.std.proofs.Math.Nat.{eq-or-lt_of_le}
 use Rattle.std.proofs.lemmas.Option.{slice_get_within}
 use Rattle.std.proofs.lemmas.Bool.{eqb-true, eq-eqb, ltb-true, ltb-false}
 use Rattle.protocol_lexer.specs.declared.Token.{Token}
-use Rattle.protocol_lexer.specs.declared.TokenKind.TheVariants.{Word, BraceLeft, BraceRight, Colon, Semicolon, Star, Plus, Arrow}
-use Rattle.forms.specs.declared.symbol.Keyword.TheVariants as Words
+use Rattle.protocol_lexer.specs.contracts.TokenKind.{the_type as kind_type}
+use Rattle.forms.specs.contracts.symbol.Keyword.{the_type as keyword_type}
 use Rattle.forms.specs.declared.fault.What.{What}
 use Rattle.forms.specs.declared.fault.What.TheVariants.{NameBytes}
 use Rattle.forms.specs.declared.fault.SyntaxFault.TheVariants as Faults
@@ -17,80 +19,40 @@ use Rattle.forms.specs.declared.symbol.Symbol.TheVariants.{Unreserved, Reserved,
 use Rattle.forms.specs.Symbol.{Source, symbol, token_at, place_at, place_of, spelled}
 use Rattle.forms.specs.declared.name.TheConstants.{MAX_NAME_BYTES}
 use Rattle.forms.specs.Grammar.{IsAt, name_of}
-use Rattle.forms.specs.Shape.{code, code_of_keyword, code_of_sign, code_of_token, code_at, next_is}
+use Rattle.forms.specs.Shape.{code, code_of_token, code_at, next_is}
 use Rattle.forms.specs.Reading.{Reader, read_sign, read_name, read_named, read_word, read_found, read_among, read_one_of, is_too_long}
 use Rattle.forms.proofs.Meaning.{Meaning, token, sign, name, one_of}
 use Rattle.forms.proofs.Sets.{in_one}
 use Rattle.forms.proofs.Laws.{Lawful, Done, Failed, Outcome, Reads}
 
--- the symbols by their numbers
-abbrev table : List (Option Symbol)
-table =
-    None ∷ Some Unreserved ∷ Some (Sign Word) ∷ Some (Sign BraceLeft) ∷ Some (Sign BraceRight) ∷ Some (Sign Colon) ∷
-    Some (Sign Semicolon) ∷ Some (Sign Star) ∷ Some (Sign Plus) ∷ Some (Sign Arrow) ∷ Some (Reserved Words.Protocol) ∷
-    Some (Reserved Words.Language) ∷ Some (Reserved Words.Cell) ∷ Some (Reserved Words.Array) ∷
-    Some (Reserved Words.Channel) ∷ Some (Reserved Words.Stack) ∷ Some (Reserved Words.Lossy) ∷
-    Some (Reserved Words.Init) ∷ Some (Reserved Words.Rule) ∷ Some (Reserved Words.Bad) ∷ Some (Reserved Words.Any) ∷
-    Some (Reserved Words.Empty) ∷ Some (Reserved Words.At) ∷ Some (Reserved Words.Pair) ∷ Some (Reserved Words.Ring) ∷
-    Some (Reserved Words.Two) ∷ Some (Reserved Words.Set) ∷ Some (Reserved Words.Send) ∷ Some (Reserved Words.Recv) ∷
-    Some (Reserved Words.Pop) ∷ Some (Reserved Words.Push) ∷ Some (Reserved Words.Spawn) ∷ Some (Reserved Words.Exit) ∷
-    Some (Reserved Words.Lose) ∷ Some (Reserved Words.When) ∷ Some (Reserved Words.All) ∷ Some (Reserved Words.Some) ∷
-    Some (Reserved Words.Left) ∷ Some (Reserved Words.Right) ∷ Some (Reserved Words.Others) ∷
-    Some (Reserved Words.In) ∷ Some (Reserved Words.Map) ∷ []
+same_place : (least m n : ℕ) → least + 2 * m ≡ least + 2 * n → m ≡ n
+same_place least m n e = omega (arith, e)
 
-decoded : ℕ → Option Symbol
-decoded n = slice_index_or table n None
+even_or_odd : (m n : ℕ) → 2 + 2 * m ≡ 3 + 2 * n → ⊥
+even_or_odd zero n e = omega (arith, e)
+even_or_odd (suc m) zero e = omega (arith, e)
+even_or_odd (suc m) (suc n) e = even_or_odd m n (omega (arith, e))
 
-decoded-code : (x : Symbol) → decoded (code x) ≡ Some x
-unfolding decoded code code_of_keyword code_of_sign
-decoded-code Unreserved = refl
-decoded-code (Sign Word) = refl
-decoded-code (Sign BraceLeft) = refl
-decoded-code (Sign BraceRight) = refl
-decoded-code (Sign Colon) = refl
-decoded-code (Sign Semicolon) = refl
-decoded-code (Sign Star) = refl
-decoded-code (Sign Plus) = refl
-decoded-code (Sign Arrow) = refl
-decoded-code (Reserved Words.Protocol) = refl
-decoded-code (Reserved Words.Language) = refl
-decoded-code (Reserved Words.Cell) = refl
-decoded-code (Reserved Words.Array) = refl
-decoded-code (Reserved Words.Channel) = refl
-decoded-code (Reserved Words.Stack) = refl
-decoded-code (Reserved Words.Lossy) = refl
-decoded-code (Reserved Words.Init) = refl
-decoded-code (Reserved Words.Rule) = refl
-decoded-code (Reserved Words.Bad) = refl
-decoded-code (Reserved Words.Any) = refl
-decoded-code (Reserved Words.Empty) = refl
-decoded-code (Reserved Words.At) = refl
-decoded-code (Reserved Words.Pair) = refl
-decoded-code (Reserved Words.Ring) = refl
-decoded-code (Reserved Words.Two) = refl
-decoded-code (Reserved Words.Set) = refl
-decoded-code (Reserved Words.Send) = refl
-decoded-code (Reserved Words.Recv) = refl
-decoded-code (Reserved Words.Pop) = refl
-decoded-code (Reserved Words.Push) = refl
-decoded-code (Reserved Words.Spawn) = refl
-decoded-code (Reserved Words.Exit) = refl
-decoded-code (Reserved Words.Lose) = refl
-decoded-code (Reserved Words.When) = refl
-decoded-code (Reserved Words.All) = refl
-decoded-code (Reserved Words.Some) = refl
-decoded-code (Reserved Words.Left) = refl
-decoded-code (Reserved Words.Right) = refl
-decoded-code (Reserved Words.Others) = refl
-decoded-code (Reserved Words.In) = refl
-decoded-code (Reserved Words.Map) = refl
+no_less : (a b n : ℕ) → a < b → a ≡ b + n → ⊥
+no_less a b n less e = omega (arith, less, e)
 
 codes_tell : (x y : Symbol) → code x ≡ code y → x ≡ y
-codes_tell x y e = let h : Some x ≡ Some y = sym (decoded-code x) ∙ ap decoded e ∙ decoded-code y in cc
+unfolding code
+codes_tell Unreserved Unreserved e = refl
+codes_tell Unreserved (Reserved k) e = absurd (no_less 1 2 (2 * tag_of keyword_type k) (omega arith) e)
+codes_tell Unreserved (Sign k) e = absurd (no_less 1 3 (2 * tag_of kind_type k) (omega arith) e)
+codes_tell (Reserved j) Unreserved e = absurd (no_less 1 2 (2 * tag_of keyword_type j) (omega arith) (sym e))
+codes_tell (Reserved j) (Reserved k) e = ap Reserved (tag_one keyword_type tt j k (same_place 2 (tag_of keyword_type j) (tag_of keyword_type k) e))
+codes_tell (Reserved j) (Sign k) e = absurd (even_or_odd (tag_of keyword_type j) (tag_of kind_type k) e)
+codes_tell (Sign j) Unreserved e = absurd (no_less 1 3 (2 * tag_of kind_type j) (omega arith) (sym e))
+codes_tell (Sign j) (Reserved k) e = absurd (even_or_odd (tag_of keyword_type k) (tag_of kind_type j) (sym e))
+codes_tell (Sign j) (Sign k) e = ap Sign (tag_one kind_type tt j k (same_place 3 (tag_of kind_type j) (tag_of kind_type k) e))
 
 pub lacks_code : (x : Symbol) → 0 ≡ code x → ⊥
-unfolding decoded
-lacks_code x e = let h : None ≡ Some x = ap decoded e ∙ decoded-code x in cc
+unfolding code
+lacks_code Unreserved e = no_less 0 1 0 (omega arith) e
+lacks_code (Reserved k) e = no_less 0 2 (2 * tag_of keyword_type k) (omega arith) e
+lacks_code (Sign k) e = no_less 0 3 (2 * tag_of kind_type k) (omega arith) e
 
 found_at : (x : Symbol) (o : Option (Symbol × Token)) → code_of_token o ≡ code x → (t : Token) × (o ≡ Some (x, t))
 found_at x None e = absurd (lacks_code x e)

@@ -1,64 +1,19 @@
 -- The shape of a form: the form without its meanings, so that what tells its parts apart is computed.
-use Rattle.std.specs.Prelude.{◌≡◌, ℕ, Bool, true, false, not, ◌&&◌, ◌||◌, List, [], ◌∷◌, ◌++◌, Option, Some, None, nat_eq, if◌then◌else◌, ⊤}
+use denote.Enum.Declared.{tag_of}
+use Rattle.std.specs.Prelude.{◌≡◌, ℕ, ◌+◌, ◌*◌, Bool, true, false, not, ◌&&◌, ◌||◌, List, [], ◌∷◌, ◌++◌, Option, Some, None, nat_eq, if◌then◌else◌, ⊤}
 use Rattle.protocol_lexer.specs.declared.Token.{Token}
-use Rattle.protocol_lexer.specs.declared.TokenKind.{TokenKind}
-use Rattle.protocol_lexer.specs.declared.TokenKind.TheVariants.{Word, BraceLeft, BraceRight, Colon, Semicolon, Star, Plus, Arrow}
-use Rattle.forms.specs.declared.symbol.Keyword.{Keyword}
-use Rattle.forms.specs.declared.symbol.Keyword.TheVariants as Words
+use Rattle.protocol_lexer.specs.contracts.TokenKind.{the_type as kind_type}
+use Rattle.forms.specs.contracts.symbol.Keyword.{the_type as keyword_type}
 use Rattle.forms.specs.declared.symbol.Symbol.{Symbol}
 use Rattle.forms.specs.declared.symbol.Symbol.TheVariants.{Unreserved, Reserved, Sign}
 use Rattle.forms.specs.Symbol.{Source, token_at}
 use Rattle.forms.specs.Grammar.{Grammar, sign, name, one_of, gives, ◌>>=◌, ◌or◌, optional, many_by, item, only}
 
--- a number for each symbol, and 0 for no symbol
-unfoldable pub code_of_keyword : Keyword → ℕ
-code_of_keyword Words.Protocol = 10
-code_of_keyword Words.Language = 11
-code_of_keyword Words.Cell = 12
-code_of_keyword Words.Array = 13
-code_of_keyword Words.Channel = 14
-code_of_keyword Words.Stack = 15
-code_of_keyword Words.Lossy = 16
-code_of_keyword Words.Init = 17
-code_of_keyword Words.Rule = 18
-code_of_keyword Words.Bad = 19
-code_of_keyword Words.Any = 20
-code_of_keyword Words.Empty = 21
-code_of_keyword Words.At = 22
-code_of_keyword Words.Pair = 23
-code_of_keyword Words.Ring = 24
-code_of_keyword Words.Two = 25
-code_of_keyword Words.Set = 26
-code_of_keyword Words.Send = 27
-code_of_keyword Words.Recv = 28
-code_of_keyword Words.Pop = 29
-code_of_keyword Words.Push = 30
-code_of_keyword Words.Spawn = 31
-code_of_keyword Words.Exit = 32
-code_of_keyword Words.Lose = 33
-code_of_keyword Words.When = 34
-code_of_keyword Words.All = 35
-code_of_keyword Words.Some = 36
-code_of_keyword Words.Left = 37
-code_of_keyword Words.Right = 38
-code_of_keyword Words.Others = 39
-code_of_keyword Words.In = 40
-code_of_keyword Words.Map = 41
-
-unfoldable pub code_of_sign : TokenKind → ℕ
-code_of_sign Word = 2
-code_of_sign BraceLeft = 3
-code_of_sign BraceRight = 4
-code_of_sign Colon = 5
-code_of_sign Semicolon = 6
-code_of_sign Star = 7
-code_of_sign Plus = 8
-code_of_sign Arrow = 9
-
+-- a number for each symbol: an even one for a reserved word and an odd one for a sign, in the order of their types; 0 is the number of none
 unfoldable pub code : Symbol → ℕ
 code Unreserved = 1
-code (Reserved k) = code_of_keyword k
-code (Sign k) = code_of_sign k
+code (Reserved k) = 2 + 2 * tag_of keyword_type k
+code (Sign k) = 3 + 2 * tag_of kind_type k
 
 abbrev pub code_of_token : Option (Symbol × Token) → ℕ
 code_of_token None = 0

@@ -1,4 +1,5 @@
-//! What every form can do.
+//! What every form can do: tell by one token whether it begins there, and read what stands there.
+//! Reading takes time linear in the tokens.
 
 ghost use Rattle.std.specs.Prelude.{◌≡◌};
 ghost use Rattle.forms.specs.Grammar.{Grammar};

@@ -1,4 +1,5 @@
 //! Forms of texts: grammars over tokens, said once in `specs/`, and values that read what they mean.
+//! They read by recursive descent, where the next token tells how to go on, in time linear in the tokens.
 #![tactic(auto)]
 
 mod each;

@@ -1,4 +1,5 @@
-//! Names in texts.
+//! Names in texts, each with the place where it stands, which faults tell.
+//! A name is a plain value, of at most `MAX_NAME_BYTES` bytes where it was read.
 
 use protocol_lexer::Place;
 use sequence::Text;

@@ -5,7 +5,8 @@ use Rattle.protocol_lexer.specs.declared.Token.{Token}
 use Rattle.protocol_lexer.specs.Place.{start_place}
 use Rattle.protocol_lexer.specs.Tokens.{AreTokens}
 use Rattle.protocol_syntax.specs.Spacing.{spaced}
-use Rattle.protocol_syntax.proofs.Lexing.{EndsWord, IsToken, AreWords, Lexed, Lexed-nothing, Lexed-gap, Lexed-token, Ends-words, Lexed-words}
+use Rattle.protocol_syntax.proofs.ForCallers.{EndsWord, IsToken, AreWords, Lexed, Lexed-nothing, Lexed-gap, Lexed-token, Ends-words}
+use Rattle.protocol_syntax.proofs.ForCallers.{Lexed-words}
 use Rattle.protocol_layout.specs.Layout.{line}
 
 Lexed-line : (ws : List (List ℕ)) (after : List ℕ) (more : List (List ℕ)) → AllByRecursion IsToken ws → Lexed after more

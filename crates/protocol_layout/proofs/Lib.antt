@@ -1,3 +1,4 @@
+pub mod ForCallers
 pub mod Lexing
 pub mod PartsWritten
 pub mod MovesWritten

@@ -14,8 +14,9 @@ use Rattle.forms.specs.declared.symbol.Symbol.TheVariants.{Sign}
 use Rattle.forms.specs.Grammar.{sign, optional}
 use Rattle.protocol_syntax.specs.Grammar.{quantifier, region, guard, entry, table, at_move, four_names, pair_move, ring_move, two_move, set_move, send_move, recv_move, pushed, pop_move, push_move, channel_or_stack_move, common_move, spawn_move, exit_move, lose_move, later_move, any_move, step, rule}
 use Rattle.protocol_syntax.specs.MoveLetters.{renamed_guard, renamed_pair}
-use Rattle.protocol_syntax.proofs.Lexing.{IsToken-arrow}
-use Rattle.protocol_syntax.proofs.Printed.{Prints, Writes, spelling, prints_sign, prints_keyword, prints_means, prints_gives, prints_bind, prints_last, prints_after, prints_left, prints_right, prints_absent, prints_present, prints_only, prints_same, writes_many, writes_up_to}
+use Rattle.protocol_syntax.proofs.ForCallers.{IsToken-arrow, Prints, Writes, spelling, prints_sign, prints_keyword, prints_means}
+use Rattle.protocol_syntax.proofs.ForCallers.{prints_gives, prints_bind, prints_last, prints_after, prints_left, prints_right}
+use Rattle.protocol_syntax.proofs.ForCallers.{prints_absent, prints_present, prints_only, prints_same, writes_many, writes_up_to}
 use Rattle.protocol_layout.specs.Layout.{in_braces, region_word, guard_words, entry_words, table_words, pushed_words, four_words, move_words, step_words, rule_words}
 use Rattle.protocol_layout.specs.Places.{name_without_place, move_without_places, step_without_places, rule_without_places}
 use Rattle.protocol_layout.proofs.PartsWritten.{left_brace, right_brace, colon, semicolon, name_again, names_up_to_written, set_written, base_written}

@@ -19,9 +19,12 @@ use Rattle.forms.specs.declared.symbol.Keyword.TheVariants as Words
 use Rattle.forms.specs.declared.symbol.Symbol.TheVariants.{Sign}
 use Rattle.forms.specs.Grammar.{Grammar, sign, name, optional, many, item, up_to}
 use Rattle.protocol_syntax.specs.Grammar.{common_kind, lossy_kind, kind, section, more_sections, letters_of, set, letter_base, set_base, base, count, atom, atoms, pattern, part, row_body, row}
-use Rattle.protocol_syntax.proofs.Lexing.{IsToken-brace_left, IsToken-brace_right, IsToken-colon, IsToken-semicolon, IsToken-star, IsToken-plus}
-use Rattle.forms.proofs.MayMean.{MayMean, IsName}
-use Rattle.protocol_syntax.proofs.Printed.{Prints, Writes, spelling, prints_sign, prints_keyword, prints_means, prints_name, prints_gives, prints_bind, prints_last, prints_after, prints_left, prints_right, prints_absent, prints_present, prints_only, prints_item, prints_all, prints_same, same_length, writes_many, writes_up_to}
+use Rattle.protocol_syntax.proofs.ForCallers.{IsToken-brace_left, IsToken-brace_right, IsToken-colon, IsToken-semicolon, IsToken-star}
+use Rattle.protocol_syntax.proofs.ForCallers.{IsToken-plus, Prints, Writes, spelling, prints_sign, prints_keyword, prints_means}
+use Rattle.protocol_syntax.proofs.ForCallers.{prints_name, prints_gives, prints_bind, prints_last, prints_after, prints_left, prints_right}
+use Rattle.protocol_syntax.proofs.ForCallers.{prints_absent, prints_present, prints_only, prints_item, prints_all, prints_same, same_length}
+use Rattle.protocol_syntax.proofs.ForCallers.{writes_many, writes_up_to}
+use Rattle.forms.proofs.ForCallers.{MayMean, IsName}
 use Rattle.protocol_layout.specs.Layout.{names_words, in_braces, kind_word, kind_rest, section_words, count_words, base_words, atom_words, pattern_words, part_words, row_words}
 use Rattle.protocol_layout.specs.Places.{name_without_place, section_without_places, base_without_places, atom_without_places, part_without_places, row_without_places}
 
@@ -180,5 +183,6 @@ more_sections_written language first again e sections v =
     (λ before others d a w.
     let used : letters_of (again ∷ others) ≡ letters_of (first ∷ before) = used_same (again ∷ others) (first ∷ before) (rw (e, d) refl) in
     prints_item (nat_le 15 (length others)) Limits.Sections (ap (nat_le 15) (same_length section_without_places others before d) ∙ w.0)
-    (subst (λ (n : ℕ). Prints (section language n) (λ b. section_without_places b ≡ section_without_places a) (section_words a)) (sym used) (section_written language (letters_of (first ∷ before)) a w.1)))
+    (subst (λ (n : ℕ). Prints (section language n) (λ b. section_without_places b ≡ section_without_places a) (section_words a))
+    (sym used) (section_written language (letters_of (first ∷ before)) a w.1)))
     sections v

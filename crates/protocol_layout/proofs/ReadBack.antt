@@ -10,11 +10,10 @@ use Rattle.forms.specs.declared.symbol.Keyword.TheVariants as Words
 use Rattle.forms.specs.Symbol.{Source, source_of, keyword_of}
 use Rattle.forms.specs.Grammar.{optional}
 use Rattle.protocol_syntax.specs.Grammar.{IsProtocol, second_language, protocol}
-use Rattle.protocol_syntax.proofs.Lexing.{IsToken}
-use Rattle.protocol_syntax.proofs.Told.{protocol_is_told, protocol_is_uniform}
-use Rattle.forms.proofs.MayMean.{MayMean, within_may_mean}
-use Rattle.forms.proofs.SaidWithin.{within_from_said}
-use Rattle.protocol_syntax.proofs.Printed.{HasWords, Writes, prints_keyword, prints_one_of, prints_gives, prints_bind, prints_fixed, prints_last, prints_after, prints_absent, prints_present, prints_same, prints_assoc, writes_up_to, words_stand}
+use Rattle.protocol_syntax.proofs.ForCallers.{IsToken, protocol_is_told, protocol_is_uniform, HasWords, Writes, prints_keyword}
+use Rattle.protocol_syntax.proofs.ForCallers.{prints_one_of, prints_gives, prints_bind, prints_fixed, prints_last, prints_after}
+use Rattle.protocol_syntax.proofs.ForCallers.{prints_absent, prints_present, prints_same, prints_assoc, writes_up_to, words_stand}
+use Rattle.forms.proofs.ForCallers.{MayMean, within_may_mean, within_from_said}
 use Rattle.protocol_layout.specs.Layout.{language_words, section_words, row_words, rule_words, items, layout}
 use Rattle.protocol_layout.specs.Places.{without_places}
 use Rattle.protocol_layout.proofs.Lexing.{tokens_of_lines}

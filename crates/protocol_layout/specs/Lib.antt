@@ -1,3 +1,3 @@
 pub mod Layout
 pub mod Places
-pub mod Written
+pub mod private

@@ -6,7 +6,7 @@
 ghost use Rattle.std.specs.Prelude.{◌≡◌, ◌++◌, ◌∷◌, [], codes, map, IfOk, OnOk, if◌then◌else◌};
 ghost use Rattle.std.specs.List.{flat_map};
 ghost use Rattle.protocol_layout.specs.Layout.{atom_words, base_words, count_words, entry_words};
-ghost use Rattle.protocol_layout.specs.Written.{Adds, AddsLine, AddsLines};
+ghost use Rattle.protocol_layout.specs.private.Written.{Adds, AddsLine, AddsLines};
 ghost use Rattle.protocol_layout.specs.Layout.{four_words, guard_words, in_braces, items, kind_rest, kind_word, language_words, layout};
 ghost use Rattle.protocol_syntax.specs.Spacing.{is_attached};
 ghost use Rattle.protocol_layout.specs.Layout.{move_words, names_words, part_words, pattern_words, popped_words};

@@ -1,2 +1,3 @@
+pub mod ForCallers
 pub mod Lying
 pub mod Taking

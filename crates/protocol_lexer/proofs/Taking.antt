@@ -13,7 +13,7 @@ use Rattle.protocol_lexer.specs.declared.Piece.{Piece}
 use Rattle.protocol_lexer.specs.Place.{start_place, place_after}
 use Rattle.protocol_lexer.specs.Piece.{piece, is_word_byte, is_comment_byte, is_white_space, kind_of_byte, arrow, byte_token, token_of}
 use Rattle.protocol_lexer.specs.Tokens.{Takes, AreTokens, IsBadByte}
-use Rattle.protocol_lexer.specs.Found.{tokens_of_piece}
+use Rattle.protocol_lexer.specs.private.Found.{tokens_of_piece}
 use Rattle.protocol_lexer.specs.Tokens.Takes.{nothing, after_gap, after_token}
 
 -- from the start of the text the tokens so far are taken, and what is taken next comes after them

@@ -1,4 +1,4 @@
-pub mod Found
 pub mod Piece
 pub mod Place
 pub mod Tokens
+pub mod private

@@ -7,7 +7,7 @@ ghost use Rattle.protocol_lexer.specs.Place.{place_after, place_after_byte, star
 ghost use Rattle.protocol_lexer.specs.Piece.{arrow, is_comment_byte, is_word_byte, is_white_space, kind_of_byte, piece};
 ghost use Rattle.std.specs.List.{list_all, prefix_len};
 ghost use Rattle.protocol_lexer.specs.Tokens.{AreTokens, IsBadByte, LieInOrder};
-ghost use Rattle.protocol_lexer.specs.Found.{tokens_of_piece};
+ghost use Rattle.protocol_lexer.specs.private.Found.{tokens_of_piece};
 ghost use Rattle.protocol_lexer.specs.Tokens.{BadByteIsDetermined, TokensAreDetermined, TokensExcludeBadByte};
 
 use std::alloc::Global;

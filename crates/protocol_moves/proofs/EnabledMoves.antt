@@ -6,9 +6,9 @@ use Rattle.std.proofs.lemmas.List.Folds.{list_any_at}
 use Rattle.protocol_model.specs.System.{Guard}
 use Rattle.protocol_moves.specs.declared.extent.Extent.{Extent}
 use Rattle.protocol_model.specs.Moves.{is_in, table_value, popped, IsAtMove, IsPairMove, IsRingMove, IsTwoMove, IsStackMove}
-use Rattle.protocol_moves.specs.Extents.{HaveExtents, all_hold}
+use Rattle.protocol_moves.specs.private.Extents.{HaveExtents, all_hold}
 use Rattle.protocol_moves.specs.Results.{AreExactly}
-use Rattle.protocol_moves.specs.Gathering.{gathered, alone_if, at_changed, two_changed, some_below, can_change_at, can_change_two}
+use Rattle.protocol_moves.specs.private.Gathering.{gathered, alone_if, at_changed, two_changed, some_below, can_change_at, can_change_two}
 use Rattle.std.proofs.Math.Bool.{and-false}
 use Rattle.protocol_moves.proofs.Gathered.{gathered_to, gathered_from, alone_to, alone_from}
 use Rattle.protocol_moves.proofs.EndMove.{never, ring_old_empty}

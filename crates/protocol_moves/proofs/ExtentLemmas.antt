@@ -4,7 +4,7 @@ use Rattle.std.proofs.lemmas.List.{length-take-le, take_more, take_all, drop_all
 use Rattle.std.proofs.lemmas.Bool.{cases_lt, lt-ltb, le-ltb}
 use Rattle.std.proofs.lemmas.List.Folds.{list_any-append}
 use Rattle.std.proofs.Math.Bool.{or-true, or-false}
-use Rattle.protocol_moves.specs.Extents.{is_marked, IsExtent}
+use Rattle.protocol_moves.specs.private.Extents.{is_marked, IsExtent}
 
 -- the marks before k have this extent
 pub record IsExtentTo (marks : List Bool) (k first last : ℕ) : Type 0 where

@@ -1,3 +1,4 @@
+pub mod ForCallers
 pub mod Lists
 pub mod Simulation
 pub mod ExtentLemmas

@@ -5,9 +5,9 @@ use Rattle.std.proofs.lemmas.Bool.{cases_Bool, and_parts, and_from, or_cases, or
 use Rattle.std.proofs.Math.Seq.{take-append_seam, drop-append-add}
 use Rattle.std.proofs.lemmas.List.{take_more}
 use Rattle.protocol_model.specs.Moves.{is_in, IsCut, IsLoss}
-use Rattle.protocol_model.proofs.Cuts.{cut_is_loss}
+use Rattle.protocol_model.proofs.ForCallers.{cut_is_loss}
 use Rattle.protocol_moves.specs.Results.{AreExactly}
-use Rattle.protocol_moves.specs.Gathering.{gathered, begins_run, cut_at}
+use Rattle.protocol_moves.specs.private.Gathering.{gathered, begins_run, cut_at}
 use Rattle.protocol_moves.proofs.Gathered.{gathered_to, gathered_from, alone_to, alone_from}
 use Rattle.protocol_moves.proofs.EndMove.{eq_of, head_of, tail_of, never}
 use Rattle.protocol_moves.proofs.Lists.{drop_more}

@@ -9,8 +9,8 @@ use Rattle.protocol_syntax.specs.declared.protocol.Region.{Region}
 use Rattle.protocol_syntax.specs.declared.protocol.Region.TheVariants.{Left, Right, Others}
 use Rattle.protocol_model.specs.System.{Guard}
 use Rattle.protocol_model.specs.Moves.{is_in, table_value, guard_holds, region_letters, IsAtMove, IsPairMove}
-use Rattle.protocol_model.proofs.Lists.{list_any_map}
-use Rattle.protocol_moves.specs.Extents.{is_marked, IsExtent, is_hit, changes, is_region_hit, holds_at, is_at, is_pair_at}
+use Rattle.protocol_model.proofs.ForCallers.{list_any_map}
+use Rattle.protocol_moves.specs.private.Extents.{is_marked, IsExtent, is_hit, changes, is_region_hit, holds_at, is_at, is_pair_at}
 use Rattle.protocol_moves.proofs.Lists.{drop_more}
 use Rattle.std.proofs.lemmas.List.{length-map, length-take-le}
 use Rattle.std.proofs.lemmas.Bool.{and_parts, not-true}

@@ -6,7 +6,7 @@ use Rattle.protocol_syntax.specs.declared.protocol.Many.TheVariants.{One, Star, 
 use Rattle.protocol_model.specs.declared.system.Atom.{Atom}
 use Rattle.protocol_model.specs.Moves.{is_in}
 use Rattle.protocol_model.specs.Patterns.{atoms_match, starred, repeated}
-use Rattle.protocol_moves.specs.Simulation.{is_passed, is_kept, is_left, begun_after, going_after, reaches_end}
+use Rattle.protocol_moves.specs.private.Simulation.{is_passed, is_kept, is_left, begun_after, going_after, reaches_end}
 use Rattle.protocol_moves.proofs.Lists.{drop_more}
 
 -- whether the rest of the list can be matched from some atom that is begun or going on

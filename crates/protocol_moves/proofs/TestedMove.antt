@@ -4,8 +4,8 @@ use Rattle.std.specs.List.{list_all}
 use Rattle.protocol_model.specs.System.{Guard}
 use Rattle.protocol_moves.specs.declared.extent.Extent.{Extent}
 use Rattle.protocol_model.specs.Moves.{table_value, guard_holds}
-use Rattle.protocol_moves.specs.Extents.{is_marked, IsExtent, is_hit, changes, is_at, is_pair_at, HaveExtents, all_hold}
-use Rattle.protocol_moves.specs.Gathering.{alone_if, at_changed}
+use Rattle.protocol_moves.specs.private.Extents.{is_marked, IsExtent, is_hit, changes, is_at, is_pair_at, HaveExtents, all_hold}
+use Rattle.protocol_moves.specs.private.Gathering.{alone_if, at_changed}
 use Rattle.protocol_moves.proofs.ExtentLemmas.{IsExtentTo, more_marks, no_more_marks}
 use Rattle.protocol_moves.proofs.OneMove.{guard_at, length_changes}
 

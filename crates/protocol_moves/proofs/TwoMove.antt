@@ -4,7 +4,7 @@ use Rattle.std.proofs.lemmas.List.{drop_all}
 use Rattle.std.proofs.lemmas.Bool.Decides.{Decides-eqb}
 use Rattle.std.proofs.lemmas.Bool.{and_parts, and_from, or_cases, or_left, or_right}
 use Rattle.protocol_model.specs.Moves.{ChangesTwo, IsTwoMove}
-use Rattle.protocol_moves.specs.Extents.{is_same, is_one_change, is_two_changes}
+use Rattle.protocol_moves.specs.private.Extents.{is_same, is_one_change, is_two_changes}
 use Rattle.protocol_moves.proofs.Lists.{drop_more}
 
 -- n, p, q, b: none, the first, the second or both changes have been met; s, f, g: the letters are the same, or the first or second change

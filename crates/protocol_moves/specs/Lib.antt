@@ -1,5 +1,3 @@
-pub mod Extents
-pub mod Gathering
 pub mod Limits
 pub mod Results
-pub mod Simulation
+pub mod private

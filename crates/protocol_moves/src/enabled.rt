@@ -3,10 +3,11 @@
 
 ghost use Rattle.std.specs.Prelude.{◌≡◌, ◌≤◌, ◌<◌, ◌-◌, ◌+◌, ◌↔◌, ◌++◌, ◌∷◌, [], ℕ, List, IsTrue, length};
 ghost use Rattle.std.specs.List.{list_any};
+ghost use Rattle.protocol_syntax.specs.declared.limits.TheConstants.{MAX_GUARDS};
 ghost use Rattle.protocol_model.specs.Moves.{is_in as is_listed, popped};
 ghost use Rattle.protocol_moves.specs.Limits.{HasFewGuards};
 ghost use Rattle.protocol_moves.specs.Results.{IsEnabled};
-ghost use Rattle.protocol_moves.specs.Gathering.{some_below, can_change_at, can_change_two};
+ghost use Rattle.protocol_moves.specs.private.Gathering.{some_below, can_change_at, can_change_two};
 
 use crate::moves::{guard_extents, guards_hold, is_single};
 use crate::results::below;
@@ -14,7 +15,7 @@ use protocol_model::{Guard, Move, is_in};
 
 /// Whether some position has this letter where the guards hold.
 fn has_start(from: u32, guards: &[Guard], list: &[u32]) -> bool
-    requires { length guards.now ≤ 4 }
+    requires { length guards.now ≤ MAX_GUARDS }
     ensures { result ≡ some_below (can_change_at from guards.now list.now) (length list.now) }
 {
     let extents = guard_extents(guards, list);

@@ -3,8 +3,9 @@
 
 ghost use Rattle.std.specs.Prelude.{◌≡◌, ◌≤◌, ◌↔◌, [], ◌∷◌, ◌++◌, IsTrue, length, map};
 ghost use Rattle.std.specs.Bool.{Decides};
+ghost use Rattle.protocol_syntax.specs.declared.limits.TheConstants.{MAX_GUARDS};
 ghost use Rattle.protocol_model.specs.Moves.{IsAtMove, IsPairMove, IsTwoMove, IsRingMove, IsStackMove, IsLoss, IsMove};
-ghost use Rattle.protocol_moves.specs.Extents.{is_hit as hits, is_region_hit as hits_region, holds_at as holds, changes, IsExtent, HaveExtents, all_hold};
+ghost use Rattle.protocol_moves.specs.private.Extents.{is_hit as hits, is_region_hit as hits_region, holds_at as holds, changes, IsExtent, HaveExtents, all_hold};
 ghost use Rattle.protocol_moves.specs.Limits.{HasFewGuards};
 
 use crate::extent::Extent;
@@ -51,7 +52,7 @@ fn change_extent(table: &[(u32, u32)], old: &[u32], new: &[u32]) -> Extent
 
 /// The positions of the list whose letters decide each guard.
 pub fn guard_extents(guards: &[Guard], list: &[u32]) -> [Extent; 4]
-    requires { length guards.now ≤ 4 }
+    requires { length guards.now ≤ MAX_GUARDS }
     ensures { HaveExtents guards.now result list.now }
 {
     let mut extents = [Extent { first: 0, last: 0 }; 4];
@@ -102,7 +103,7 @@ fn is_at_move(
     old: &[u32],
     new: &[u32],
 ) -> bool
-    requires { length guards.now ≤ 4 }
+    requires { length guards.now ≤ MAX_GUARDS }
     ensures { IsTrue result ↔ IsAtMove change.0 change.1 guards.now table.now old.now new.now }
 {
     if old.len() != new.len() {

@@ -3,8 +3,9 @@
 //! the numbers of letters and of atoms, and no memory is taken.
 
 ghost use Rattle.std.specs.Prelude.{◌≡◌, ◌<◌, ◌≤◌, false, length};
+ghost use Rattle.protocol_syntax.specs.declared.limits.TheConstants.{MAX_ATOMS};
 ghost use Rattle.protocol_model.specs.Patterns.{atoms_match as is_matched};
-ghost use Rattle.protocol_moves.specs.Simulation.{is_passed as passed, is_kept as kept, is_left as left, begun_after, going_after, reaches_end as reached_end};
+ghost use Rattle.protocol_moves.specs.private.Simulation.{is_passed as passed, is_kept as kept, is_left as left, begun_after, going_after, reaches_end as reached_end};
 
 use protocol_model::{Atom, is_in};
 use protocol_syntax::Many;
@@ -76,7 +77,7 @@ fn reaches_end(atoms: &[Atom], begun: &[bool], going: &[bool]) -> bool
 
 /// Whether the list can be cut into pieces that match the atoms in their order, in time proportional to the length of the list.
 pub fn atoms_match(atoms: &[Atom], list: &[u32]) -> bool
-    requires { length atoms.now ≤ 32 }
+    requires { length atoms.now ≤ MAX_ATOMS }
     ensures { result ≡ is_matched atoms.now list.now }
 {
     let mut begun = [false; 33];

@@ -3,8 +3,8 @@ use Rattle.std.proofs.Common.{ℕ, List}
 use Rattle.forms.specs.declared.name.Name.{Name}
 use Rattle.protocol_syntax.specs.declared.protocol.RowText.{RowText}
 use Rattle.protocol_syntax.specs.Properties.{AreProperties}
-use Rattle.protocol_syntax.proofs.Within.{properties_within}
-use Rattle.protocol_model.proofs.AllowedTexts.{named}
+use Rattle.protocol_syntax.proofs.ForCallers.{properties_within}
+use Rattle.protocol_model.proofs.ForCallers.{named}
 use Rattle.protocol_properties.specs.Properties.{IsAllowedBlock, AreAllowedBlocks}
 
 pub AreAllowedBlocks-read : (text : List ℕ) (blocks : List (Name × RowText)) → AreProperties text blocks → AreAllowedBlocks blocks

@@ -16,7 +16,7 @@ use Rattle.protocol_model.specs.declared.system.Section.{Section}
 use Rattle.protocol_model.specs.System.{IsValidSection}
 use Rattle.protocol_model.specs.Numbering.{texts_of}
 use Rattle.protocol_model.specs.Faults.{duplicate, section_fault, first_fault_of}
-use Rattle.protocol_model.proofs.Known.{or_none}
+use Rattle.protocol_model.proofs.ForCallers.{or_none}
 use Rattle.protocol_properties.specs.Sections.{name_of, names_of, section_text}
 
 with_later : {X : Type 0} (R : X → X → Type 0) (x : X) (xs : List X) → AllPairs R (x ∷ xs) → AllByRecursion (R x) xs

@@ -7,6 +7,7 @@ use Rattle.std.proofs.lemmas.List.{map-append, take_more}
 use Rattle.std.proofs.lemmas.List.Elements.{All-from_recursion}
 use Rattle.std.proofs.Math.Bool.{or-true}
 use Rattle.forms.specs.declared.name.Name.{Name}
+use Rattle.protocol_syntax.specs.declared.limits.TheConstants.{MAX_ROWS}
 use Rattle.protocol_syntax.specs.declared.protocol.RowText.{RowText}
 use Rattle.protocol_syntax.specs.declared.protocol.SectionText.{SectionText}
 use Rattle.protocol_model.specs.Faults.{row_fault}
@@ -15,9 +16,7 @@ use Rattle.protocol_model.specs.System.{IsValidRow}
 use Rattle.protocol_model.specs.declared.fault.ModelFault.{ModelFault}
 use Rattle.protocol_model.specs.declared.fault.ModelFault.TheVariants.{Memory}
 use Rattle.protocol_model.specs.Faults.{first_fault_of}
-use Rattle.protocol_model.proofs.Distinct.{IsClean, each_clean}
-use Rattle.protocol_model.proofs.Lists.{length_map}
-use Rattle.protocol_model.proofs.Validity.{row_valid}
+use Rattle.protocol_model.proofs.ForCallers.{IsClean, each_clean, length_map, row_valid}
 use Rattle.protocol_model.specs.System.{SystemData}
 use Rattle.protocol_properties.specs.Sections.{section_texts}
 use Rattle.protocol_properties.specs.Properties.{IsAllowedBlock, AreAllowedBlocks, first_properties_fault, property_names, property_named, rows_named}
@@ -113,8 +112,8 @@ few_named name (block ∷ blocks) =
     let rest = few_named name blocks in
     elim (cases_Bool (bytes_eq block.0.text name)) [ inl t ↦ rw t (omega (arith, rest)) | inr f ↦ rw f (omega (arith, rest)) ]
 
-pub few_rows : (texts : List SectionText) (name : List ℕ) (blocks : List Block) → length blocks ≤ 32 →
-    length (map (row_of texts) (rows_named name blocks)) ≤ 32
+pub few_rows : (texts : List SectionText) (name : List ℕ) (blocks : List Block) → length blocks ≤ MAX_ROWS →
+    length (map (row_of texts) (rows_named name blocks)) ≤ MAX_ROWS
 few_rows texts name blocks h =
     let few = few_named name blocks in
     rw (length_map (row_of texts) (rows_named name blocks)) (omega (arith, few, h))

@@ -3,6 +3,7 @@ use Rattle.std.specs.Prelude.{ℕ, ◌≤◌, List, [], ◌∷◌, Option, map, 
 use Rattle.std.specs.List.{AllByRecursion, filter}
 use Rattle.std.specs.Str.{bytes_eq}
 use Rattle.forms.specs.declared.name.Name.{Name}
+use Rattle.protocol_syntax.specs.declared.limits.TheConstants.{MAX_ROWS}
 use Rattle.protocol_syntax.specs.declared.protocol.RowText.{RowText}
 use Rattle.protocol_model.specs.declared.fault.ModelFault.{ModelFault}
 use Rattle.protocol_model.specs.declared.system.Row.{Row}
@@ -41,12 +42,12 @@ property_named s blocks name =
 abbrev pub properties_of : SystemData → List (Name × RowText) → List Property
 properties_of s blocks = map (property_named s blocks) (property_names blocks)
 
--- a block has a name, and its patterns have 32 atoms at most
+-- a block has a name, and its patterns have no more atoms than the limit
 pub record IsAllowedBlock (block : Name × RowText) : Type 0 where
   pub named : IsName block.0.text
   pub row : IsAllowedRow block.1
 
 -- the blocks are within the limits of the language
 pub record AreAllowedBlocks (blocks : List (Name × RowText)) : Type 0 where
-  pub limit : length blocks ≤ 32
+  pub limit : length blocks ≤ MAX_ROWS
   pub each : AllByRecursion IsAllowedBlock blocks

@@ -5,6 +5,7 @@
 ghost use Rattle.std.specs.Prelude.{◌≡◌, ◌≤◌, ◌⊎◌, None, Some, IfErr, IfOk, [], length, map};
 ghost use Rattle.std.specs.List.{AllByRecursion, list_any};
 ghost use Rattle.std.specs.Str.{bytes_eq};
+ghost use Rattle.protocol_syntax.specs.declared.limits.TheConstants.{MAX_ROWS};
 ghost use Rattle.protocol_model.specs.Faults.{row_fault, first_fault_of};
 ghost use Rattle.protocol_model.specs.Numbering.{row_of, section_of};
 ghost use Rattle.protocol_model.specs.Outcome.{IsOutcome};
@@ -84,7 +85,7 @@ fn copy_with_bad_rows(
     bad: Sequence<Row>,
 ) -> Result<System, AllocError>
     requires valid { AllByRecursion (IsValidRow system.now.sections) bad }
-    requires limit { length bad ≤ 32 }
+    requires limit { length bad ≤ MAX_ROWS }
     ensures { IfOk result (λ copy. copy ≡ with_bad_rows system.now bad) }
 {
     let mut copy = system.copy(alloc)?;

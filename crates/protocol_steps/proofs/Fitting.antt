@@ -2,6 +2,7 @@
 use Rattle.std.proofs.Common.{◌≡◌, ℕ, ◌≤◌, false, List, [], ◌∷◌, length, refl, ap, suc}
 use Rattle.std.specs.List.{AllByRecursion}
 use Rattle.std.proofs.Math.Bool.{and-false}
+use Rattle.protocol_syntax.specs.declared.limits.TheConstants.{MAX_ATOMS}
 use Rattle.protocol_model.specs.declared.system.Section.{Section}
 use Rattle.protocol_model.specs.declared.system.Row.{Row}
 use Rattle.protocol_model.specs.declared.system.Pattern.{Pattern}
@@ -15,12 +16,12 @@ lists_fit_lengths (section ∷ sections) [] h = refl
 lists_fit_lengths (section ∷ sections) (list ∷ lists) h =
     rw (lists_fit_lengths sections lists (λ e. h (ap suc e))) (and-false (list_fits section list))
 
--- the patterns of a row have 32 atoms at most
+-- the patterns of a row have no more atoms than the limit
 abbrev pub HasShortPatterns : Row → Type 0
-HasShortPatterns row = AllByRecursion (λ part. length part.1.atoms ≤ 32) row.parts
+HasShortPatterns row = AllByRecursion (λ part. length part.1.atoms ≤ MAX_ATOMS) row.parts
 
 short_parts : (sections : List Section) (parts : List (ℕ × Pattern)) →
-    AllByRecursion (λ part. IsValidPattern (letter_count_at sections part.0) part.1) parts → AllByRecursion (λ part. length part.1.atoms ≤ 32) parts
+    AllByRecursion (λ part. IsValidPattern (letter_count_at sections part.0) part.1) parts → AllByRecursion (λ part. length part.1.atoms ≤ MAX_ATOMS) parts
 short_parts sections [] h = tt
 short_parts sections (part ∷ parts) h = (h.0.limit, short_parts sections parts h.1)
 

@@ -8,7 +8,7 @@ use Rattle.protocol_model.specs.declared.system.Run.{Run}
 use Rattle.protocol_model.specs.Patterns.{is_initial}
 use Rattle.protocol_model.specs.Runs.{AreSteps, last_of}
 use Rattle.protocol_steps.specs.Answers.{IsFirstWrongStep}
-use Rattle.protocol_moves.proofs.Lists.{drop_more}
+use Rattle.protocol_moves.proofs.ForCallers.{drop_more}
 use Rattle.std.proofs.lemmas.List.{length-take-le}
 
 pub record IsCheckedTo (s : SystemData) (c : Configuration) (steps : List (ℕ × Configuration)) (i : ℕ) (last : Configuration) : Type 0 where

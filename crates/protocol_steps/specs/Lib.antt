@@ -1,4 +1,4 @@
 pub mod Answers
-pub mod Combinations
 pub mod Successors
 pub mod OneAnswer
+pub mod private

@@ -3,6 +3,7 @@
 
 ghost use Rattle.std.specs.Prelude.{◌≡◌, ◌≤◌, length};
 ghost use Rattle.std.specs.List.{list_any, AllByRecursion};
+ghost use Rattle.protocol_syntax.specs.declared.limits.TheConstants.{MAX_ATOMS};
 ghost use Rattle.protocol_model.specs.Patterns.{list_at as list_of, row_matches as is_row_matched, is_initial as initial, is_bad as bad};
 
 use crate::configurations::fits;
@@ -21,7 +22,7 @@ pub fn list_at(c: &Configuration, section: u32) -> &[u32]
 
 /// Whether the row matches the lists of all sections that it names.
 fn row_matches(c: &Configuration, row: &Row) -> bool
-    requires { AllByRecursion (λ part. length part.1.atoms ≤ 32) row.now.parts }
+    requires { AllByRecursion (λ part. length part.1.atoms ≤ MAX_ATOMS) row.now.parts }
     ensures { result ≡ is_row_matched c.now row.now }
 {
     'parts: for part in row.parts.as_slice() {
@@ -34,7 +35,7 @@ fn row_matches(c: &Configuration, row: &Row) -> bool
 
 /// Whether one of the rows matches.
 fn some_row_matches(c: &Configuration, rows: &[Row]) -> bool
-    requires { AllByRecursion (λ row. AllByRecursion (λ part. length part.1.atoms ≤ 32) row.parts) rows.now }
+    requires { AllByRecursion (λ row. AllByRecursion (λ part. length part.1.atoms ≤ MAX_ATOMS) row.parts) rows.now }
     ensures { result ≡ list_any (is_row_matched c.now) rows.now }
 {
     'rows: for row in rows {

@@ -1,3 +1,4 @@
+pub mod ForCallers
 mod Letters
 pub mod Told
 pub mod Within

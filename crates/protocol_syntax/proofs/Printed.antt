@@ -20,8 +20,7 @@ use Rattle.forms.specs.contracts.symbol.Keyword.{the_type}
 use Rattle.forms.specs.Symbol.{Source, reserved_words, keyword_of, spelled, symbol, symbol_of_kind, symbol_of_keyword}
 use Rattle.forms.specs.Grammar.{Grammar, sign, name, one_of, gives, ◌>>=◌, ◌or◌, optional, many, many_by, item, only, up_to, means, SaysMany, IsAt, name_of}
 use Rattle.protocol_syntax.proofs.Lexing.{kind_of, kind_of_word, is_word, IsToken, IsToken-word, AreWords}
-use Rattle.forms.proofs.MayMean.{MayMean, AllAfter, IsName}
-use Rattle.forms.proofs.SaidWithin.{SaysWithin}
+use Rattle.forms.proofs.ForCallers.{MayMean, AllAfter, IsName, SaysWithin}
 
 abbrev symbol_of : List ℕ → Symbol
 symbol_of w = symbol_of_kind w (kind_of w)

@@ -4,7 +4,7 @@ use Rattle.protocol_syntax.specs.declared.protocol.SectionText.{SectionText}
 use Rattle.forms.specs.declared.symbol.Keyword.{Keyword}
 use Rattle.forms.specs.declared.symbol.Keyword.TheVariants as Words
 use Rattle.forms.specs.Grammar.{up_to}
-use Rattle.forms.specs.Shape.{IsUniform, shape, is_told, code, code_of_keyword, code_of_sign}
+use Rattle.forms.specs.Shape.{IsUniform, shape, is_told, code}
 use Rattle.protocol_syntax.specs.Grammar.{common_kind, lossy_kind, kind, section, more_sections, set, letter_base, set_base, base, count, atom, atoms, pattern, part, row_body, row, quantifier, region, guard, entry, table, at_move, four_names, pair_move, ring_move, two_move, set_move, send_move, recv_move, pushed, pop_move, push_move, channel_or_stack_move, common_move, spawn_move, exit_move, lose_move, later_move, any_move, step, rule, second_language, protocol}
 use Rattle.protocol_syntax.specs.Properties.{block, properties}
 
@@ -12,7 +12,7 @@ pub protocol_is_told : is_told (shape protocol) ≡ true
 unfolding common_kind lossy_kind kind section more_sections set letter_base set_base base count atom atoms pattern part row_body row quantifier region
     guard entry table at_move four_names pair_move ring_move two_move set_move send_move recv_move pushed pop_move push_move
     channel_or_stack_move common_move spawn_move exit_move lose_move later_move any_move step rule second_language protocol up_to
-    code code_of_keyword code_of_sign
+    code
 protocol_is_told = refl
 
 kind_is_uniform : (language : ℕ) → IsUniform (kind language)
@@ -114,7 +114,7 @@ protocol_is_uniform = (
 )
 
 pub properties_are_told : is_told (shape properties) ≡ true
-unfolding set letter_base set_base base count atom atoms pattern part row_body block properties up_to code code_of_keyword code_of_sign
+unfolding set letter_base set_base base count atom atoms pattern part row_body block properties up_to code
 properties_are_told = refl
 
 pub properties_are_uniform : IsUniform properties

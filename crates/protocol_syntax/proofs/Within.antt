@@ -8,7 +8,7 @@ use Rattle.forms.specs.declared.fault.What.TheVariants as Limits
 use Rattle.forms.specs.declared.name.Name.{Name}
 use Rattle.forms.specs.declared.symbol.Keyword.{Keyword}
 use Rattle.forms.specs.Grammar.{Grammar, up_to}
-use Rattle.forms.proofs.MayMean.{MayMean, AllAfter, IsName, within_may_mean}
+use Rattle.forms.proofs.ForCallers.{MayMean, AllAfter, IsName, within_may_mean}
 use Rattle.protocol_syntax.specs.declared.protocol.RowText.{RowText}
 use Rattle.protocol_syntax.specs.declared.protocol.PartText.{PartText}
 use Rattle.protocol_syntax.specs.Grammar.{atom, atoms, pattern, part, row_body, row}

@@ -4,6 +4,7 @@ use Rattle.std.specs.Prelude.{◌<◌, ◌≤◌, ◌||◌, Bool, true, false, L
 use Rattle.std.specs.List.{flat_map}
 use Rattle.std.specs.Option.{option_map}
 use Rattle.forms.specs.declared.name.Name.{Name}
+use Rattle.protocol_syntax.specs.declared.limits.TheConstants.{MAX_GUARDS, MAX_PUSHED}
 use Rattle.protocol_syntax.specs.declared.protocol.BaseText.{BaseText}
 use Rattle.protocol_syntax.specs.declared.protocol.BaseText.TheVariants as Bases
 use Rattle.protocol_syntax.specs.declared.protocol.Guard.{Guard}
@@ -79,10 +80,10 @@ abbrev pub PopsOrPushes : {L : Type 0} → Option L → List L → Type 0
 PopsOrPushes None push = 0 < length push
 PopsOrPushes (Some a) push = Unit {0}
 
--- a move has 4 guards at most, and pushes 4 letters at most
+-- a move has no more guards, and pushes no more letters, than the limits
 abbrev pub IsAllowedMove : {L S : Type 0} → Move L S → Type 0
-IsAllowedMove (At f t guards table) = length guards ≤ 4
-IsAllowedMove (Stack pop push) = PopsOrPushes pop push × (length push ≤ 4)
+IsAllowedMove (At f t guards table) = length guards ≤ MAX_GUARDS
+IsAllowedMove (Stack pop push) = PopsOrPushes pop push × (length push ≤ MAX_PUSHED)
 IsAllowedMove _ = Unit {0}
 
 -- whether two kinds are the same

@@ -3,10 +3,10 @@ use Rattle.std.proofs.Common.{◌≡◌, ◌==◌, ◌<◌, ◌≤◌, ◌+◌, 
 use Rattle.std.specs.List.{range_with_len, filter}
 use Rattle.std.proofs.lemmas.Bool.{cases_Bool, false≢true, or_left, or_right}
 use Rattle.std.proofs.lemmas.List.{append-nil, map_push, take_all}
-use Rattle.protocol_model.proofs.Lists.{range_with_len_push}
+use Rattle.protocol_model.proofs.ForCallers.{range_with_len_push}
 use Rattle.std.proofs.lemmas.List.FromFn.{length-range_with_len, get_or-range_with_len}
 use Rattle.std.proofs.lemmas.List.Elements.{All-cons, Contains-get_or, filter-append}
-use Rattle.word_automata.proofs.Members.{Contains-cases, Contains-here, Contains-there, Contains-none, Contains-map, Contains-map_cases}
+use Rattle.word_automata.proofs.ForCallers.{Contains-cases, Contains-here, Contains-there, Contains-none, Contains-map, Contains-map_cases}
 use Rattle.protocol_model.specs.Moves.{is_in}
 use Rattle.protocol_model.specs.System.{AllBelow}
 use Rattle.protocol_model.specs.Words.{raised}

@@ -4,7 +4,7 @@ use Rattle.std.specs.List.{list_all, AllByRecursion}
 use Rattle.std.proofs.lemmas.Bool.{cases_Bool, false≢true, and_parts, and_from, or_left, or_right}
 use Rattle.std.proofs.lemmas.List.Elements.{All-cons, All-tail}
 use Rattle.word_automata.specs.Nondeterministic.{NondeterministicAutomaton}
-use Rattle.word_automata.proofs.Members.{Contains-map, Contains-map_cases}
+use Rattle.word_automata.proofs.ForCallers.{Contains-map, Contains-map_cases}
 use Rattle.protocol_syntax.specs.declared.protocol.Many.{Many}
 use Rattle.protocol_syntax.specs.declared.protocol.Many.TheVariants.{One, Star, Plus}
 use Rattle.protocol_model.specs.declared.system.Atom.{Atom}
@@ -12,8 +12,8 @@ use Rattle.protocol_model.specs.System.{AllBelow}
 use Rattle.protocol_model.specs.Moves.{is_in}
 use Rattle.protocol_model.specs.Patterns.{starred, repeated, atoms_match}
 use Rattle.protocol_model.specs.Words.{raised}
-use Rattle.section_patterns.specs.Languages.{AcceptsFrom, BeginsWithLetter, BeginsWithLetters, IsAdded}
-use Rattle.section_patterns.specs.Lists.{BeginsWithAtom, BeginsWithList}
+use Rattle.section_patterns.specs.private.Languages.{AcceptsFrom, BeginsWithLetter, BeginsWithLetters, IsAdded}
+use Rattle.section_patterns.specs.private.Lists.{BeginsWithAtom, BeginsWithList}
 use Rattle.section_patterns.proofs.ListLemmas.{is_in-Contains, Contains-is_in}
 
 -- one state in front of another, which was added before

@@ -7,8 +7,8 @@ use Rattle.std.proofs.lemmas.List.Folds.{list_any_more}
 use Rattle.std.proofs.lemmas.List.Elements.{Contains-push, Contains-push_cases}
 use Rattle.word_automata.specs.Nondeterministic.{NondeterministicAutomaton, Accepts, with_start, empty_nondeterministic}
 use Rattle.word_automata.specs.Path.{IsPath}
-use Rattle.word_automata.proofs.Members.{Contains-none}
-use Rattle.protocol_model.proofs.Fitting.{fits_length}
+use Rattle.word_automata.proofs.ForCallers.{Contains-none}
+use Rattle.protocol_model.proofs.ForCallers.{fits_length}
 use Rattle.protocol_model.specs.declared.system.Section.{Section}
 use Rattle.protocol_model.specs.declared.system.Pattern.{Pattern}
 use Rattle.protocol_model.specs.declared.system.Row.{Row}
@@ -16,8 +16,8 @@ use Rattle.protocol_model.specs.declared.system.Configuration.{Configuration}
 use Rattle.protocol_model.specs.System.{SystemData, letter_count, letter_count_at, IsValidRow, IsValidPattern}
 use Rattle.protocol_model.specs.Patterns.{atoms_match, lists_fit, list_at, row_matches, fits}
 use Rattle.protocol_model.specs.Words.{separator_of, word_of}
-use Rattle.section_patterns.specs.Languages.{AcceptsFrom, IsAdded}
-use Rattle.section_patterns.specs.Lists.{IsRest, IsWordOfRows, HasPatternOf, HasPatternsOf, part_matches, pattern_for, parts_match}
+use Rattle.section_patterns.specs.private.Languages.{AcceptsFrom, IsAdded}
+use Rattle.section_patterns.specs.private.Lists.{IsRest, IsWordOfRows, HasPatternOf, HasPatternsOf, part_matches, pattern_for, parts_match}
 
 or_false : (b : Bool) → (b || false) ≡ true → b ≡ true
 or_false true h = refl

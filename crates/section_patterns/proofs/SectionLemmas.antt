@@ -5,15 +5,16 @@ use Rattle.std.proofs.lemmas.Bool.{false≢true, and_parts, and_from, or_left, o
 use Rattle.std.proofs.lemmas.List.{append-nil}
 use Rattle.std.proofs.lemmas.List.Elements.{All-cons, All-tail}
 use Rattle.word_automata.specs.Nondeterministic.{NondeterministicAutomaton}
-use Rattle.word_automata.proofs.Members.{Contains-cases, Contains-here, Contains-none}
+use Rattle.word_automata.proofs.ForCallers.{Contains-cases, Contains-here, Contains-none}
+use Rattle.protocol_syntax.specs.declared.limits.TheConstants.{MAX_ATOMS}
 use Rattle.protocol_model.specs.declared.system.Section.{Section}
 use Rattle.protocol_model.specs.declared.system.Pattern.{Pattern}
 use Rattle.protocol_model.specs.declared.system.Atom.{Atom}
 use Rattle.protocol_model.specs.System.{letter_count}
 use Rattle.protocol_model.specs.Patterns.{atoms_match, has_any_length, list_fits, lists_fit}
 use Rattle.protocol_model.specs.Words.{raised, raised_lists, joined}
-use Rattle.section_patterns.specs.Languages.{AcceptsFrom, BeginsWithLetter, BeginsWithLetters, IsAdded}
-use Rattle.section_patterns.specs.Lists.{BeginsWithList, IsBehind, IsRest, HasPatternOf, part_matches, pattern_for, parts_match}
+use Rattle.section_patterns.specs.private.Languages.{AcceptsFrom, BeginsWithLetter, BeginsWithLetters, IsAdded}
+use Rattle.section_patterns.specs.private.Lists.{BeginsWithList, IsBehind, IsRest, HasPatternOf, part_matches, pattern_for, parts_match}
 use Rattle.section_patterns.proofs.ListLemmas.{raised_chosen, raised_chosen_cases}
 use Rattle.section_patterns.proofs.PatternLemmas.{added_then, list-map, list-test, letter-map, atoms_below}
 
@@ -137,7 +138,7 @@ module _ (section : Section) (offset : ℕ) (L : List ℕ → Type 0) (any : has
         (λ list h. (and_parts (list_fits section list) (atoms_match pattern.atoms list) h).1) w b
 
 -- a pattern of a section has few atoms
-pub few_atoms : (pattern : Option Pattern) (section : Section) → HasPatternOf pattern section → IfSome pattern (λ p. length p.atoms ≤ 32)
+pub few_atoms : (pattern : Option Pattern) (section : Section) → HasPatternOf pattern section → IfSome pattern (λ p. length p.atoms ≤ MAX_ATOMS)
 few_atoms None section has = tt
 few_atoms (Some pattern) section has = has.limit
 

@@ -5,9 +5,9 @@ use Rattle.std.proofs.lemmas.List.Elements.{All-cons, All-tail}
 use Rattle.std.proofs.lemmas.Bool.{false≢true}
 use Rattle.word_automata.specs.Path.{Node, edges_of, is_accepting, IsPath, spelled, spelled_one}
 use Rattle.word_automata.specs.Nondeterministic.{NondeterministicAutomaton, IsInRange, AddsMove, with_nondeterministic_state}
-use Rattle.word_automata.proofs.StateSets.{move_within}
-use Rattle.word_automata.proofs.Members.{Contains-cases, Contains-here, Contains-there, Contains-none, Contains-map, Contains-map_cases}
-use Rattle.section_patterns.specs.Languages.{AcceptsFrom, BeginsWithLetter, BeginsWithLetters, IsAdded, AddsLetterEdges}
+use Rattle.word_automata.proofs.ForCallers.{move_within, Contains-cases, Contains-here, Contains-there, Contains-none, Contains-map}
+use Rattle.word_automata.proofs.ForCallers.{Contains-map_cases}
+use Rattle.section_patterns.specs.private.Languages.{AcceptsFrom, BeginsWithLetter, BeginsWithLetters, IsAdded, AddsLetterEdges}
 
 -- the edges on letters, one after the other
 pub letter_edges_none : (n : NondeterministicAutomaton) (from to : ℕ) → AddsLetterEdges n n from [] to

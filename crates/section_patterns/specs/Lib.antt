@@ -1,2 +1,1 @@
-pub mod Languages
-pub mod Lists
+pub mod private

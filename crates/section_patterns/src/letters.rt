@@ -3,8 +3,9 @@
 
 ghost use Rattle.std.specs.Prelude.{◌≡◌, ◌+◌, ◌^◌, ◌<◌, ◌≤◌, ◌∷◌, [], All, IfOk, IfSome, filter, length, option_copied};
 ghost use Rattle.std.specs.List.{range_with_len};
+ghost use Rattle.protocol_syntax.specs.declared.limits.TheConstants.{MAX_ATOMS, MAX_LETTERS};
 ghost use Rattle.protocol_model.specs.Words.{raised};
-ghost use Rattle.section_patterns.specs.Lists.{part_matches};
+ghost use Rattle.section_patterns.specs.private.Lists.{part_matches};
 
 use protocol_model::Pattern;
 use protocol_moves::atoms_match;
@@ -29,8 +30,8 @@ pub(crate) fn single_letters(
     count: u32,
     offset: u32,
 ) -> Result<Vec<u32>, AllocError>
-    requires limit { IfSome (option_copied pattern) (λ pattern. length pattern.atoms ≤ 32) }
-    requires letters { offset + count ≤ 256 }
+    requires limit { IfSome (option_copied pattern) (λ pattern. length pattern.atoms ≤ MAX_ATOMS) }
+    requires letters { offset + count ≤ MAX_LETTERS }
     ensures { IfOk result (λ letters. letters.items
         ≡ raised offset (filter (λ a. part_matches (option_copied pattern.entry) (a ∷ [])) (range_with_len 0 count))) }
 {
@@ -45,7 +46,7 @@ pub(crate) fn single_letters(
 
 /// Whether the pattern, if there is one, matches the list of this letter alone.
 fn matches_single(pattern: Option<&Pattern>, letter: u32) -> bool
-    requires { IfSome (option_copied pattern) (λ pattern. length pattern.atoms ≤ 32) }
+    requires { IfSome (option_copied pattern) (λ pattern. length pattern.atoms ≤ MAX_ATOMS) }
     ensures { result ≡ part_matches (option_copied pattern.entry) (letter ∷ []) }
 {
     match pattern {

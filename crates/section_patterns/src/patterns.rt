@@ -6,8 +6,8 @@ ghost use Rattle.std.specs.List.{AllByRecursion};
 ghost use Rattle.protocol_model.specs.System.{AllBelow};
 ghost use Rattle.protocol_model.specs.Patterns.{atoms_match};
 ghost use Rattle.protocol_model.specs.Words.{raised};
-ghost use Rattle.section_patterns.specs.Languages.{AcceptsFrom, IsAdded};
-ghost use Rattle.section_patterns.specs.Lists.{BeginsWithAtom, BeginsWithList};
+ghost use Rattle.section_patterns.specs.private.Languages.{AcceptsFrom, IsAdded};
+ghost use Rattle.section_patterns.specs.private.Lists.{BeginsWithAtom, BeginsWithList};
 
 use crate::letters::raised;
 use crate::states::{add_loop, add_step};

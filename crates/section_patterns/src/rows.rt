@@ -7,7 +7,7 @@ ghost use Rattle.word_automata.specs.Automaton.{accepts};
 ghost use Rattle.minimise.specs.Canonical.{IsCanonical};
 ghost use Rattle.protocol_model.specs.System.{IsValidRow};
 ghost use Rattle.protocol_model.specs.Words.{automata_letters};
-ghost use Rattle.section_patterns.specs.Lists.{IsWordOfRows};
+ghost use Rattle.section_patterns.specs.private.Lists.{IsWordOfRows};
 
 use crate::sections::add_sections;
 use boolean_operations::union;

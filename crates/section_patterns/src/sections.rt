@@ -1,11 +1,12 @@
-//! The sections of one row as states.
-//! From the last section to the first each adds its states in front of those of the later ones; time is linear in the states.
+//! The sections of one row as states. From the last section to the first each adds its states in front of those of the later ones; time is
+//! linear in the states and edges, but for the pattern of a cell, which is tried on each letter.
 
 ghost use Rattle.std.specs.Prelude.{◌≡◌, ◌&&◌, ◌<◌, ◌≤◌, ◌+◌, [], true, false, IfOk, length, option_copied};
+ghost use Rattle.protocol_syntax.specs.declared.limits.TheConstants.{MAX_LETTERS, MAX_SECTIONS};
 ghost use Rattle.protocol_model.specs.System.{letter_count, total_letters};
 ghost use Rattle.protocol_model.specs.Patterns.{has_any_length, list_fits};
-ghost use Rattle.section_patterns.specs.Languages.{AcceptsFrom, IsAdded};
-ghost use Rattle.section_patterns.specs.Lists.{BeginsWithList, IsBehind, IsRest, HasPatternOf, HasPatternsOf, part_matches, pattern_for};
+ghost use Rattle.section_patterns.specs.private.Languages.{AcceptsFrom, IsAdded};
+ghost use Rattle.section_patterns.specs.private.Lists.{BeginsWithList, IsBehind, IsRest, HasPatternOf, HasPatternsOf, part_matches, pattern_for};
 
 use crate::letters::single_letters;
 use crate::patterns::add_atoms;
@@ -24,10 +25,10 @@ pub(crate) fn add_sections(
     offset: u32,
     separator: u32,
 ) -> Result<usize, AllocError>
-    requires numbers { number + length sections.now ≤ 16 }
+    requires numbers { number + length sections.now ≤ MAX_SECTIONS }
     requires patterns { HasPatternsOf row.now.parts number sections.now }
     requires letters { offset + total_letters sections.now ≤ separator }
-    requires limit { separator ≤ 256 }
+    requires limit { separator ≤ MAX_LETTERS }
     requires separator { separator < builder.old.letters }
     ensures { IfOk result (λ state. IsAdded builder.old builder.new state (IsRest row.now.parts number offset separator sections.now)) }
 {
@@ -96,7 +97,7 @@ fn add_section(
 ) -> Result<usize, AllocError>
     requires next { next < length builder.old.states }
     requires pattern { HasPatternOf (option_copied pattern) section.now }
-    requires letters { offset + letter_count section.now ≤ 256 }
+    requires letters { offset + letter_count section.now ≤ MAX_LETTERS }
     requires fits { offset + letter_count section.now ≤ builder.old.letters }
     ensures { IfOk result (λ state. IsAdded builder.old builder.new state
         (BeginsWithList (λ list. list_fits section.now list && part_matches (option_copied pattern.entry) list) offset
@@ -121,7 +122,7 @@ fn add_cell(
     requires next { next < length builder.old.states }
     requires kind { has_any_length section.now.kind ≡ false }
     requires pattern { HasPatternOf (option_copied pattern) section.now }
-    requires letters { offset + letter_count section.now ≤ 256 }
+    requires letters { offset + letter_count section.now ≤ MAX_LETTERS }
     requires fits { offset + letter_count section.now ≤ builder.old.letters }
     ensures { IfOk result (λ state. IsAdded builder.old builder.new state
         (BeginsWithList (λ list. list_fits section.now list && part_matches (option_copied pattern.entry) list) offset
@@ -145,7 +146,7 @@ fn add_list(
     requires next { next < length builder.old.states }
     requires kind { has_any_length section.now.kind ≡ true }
     requires pattern { HasPatternOf (option_copied pattern) section.now }
-    requires letters { offset + letter_count section.now ≤ 256 }
+    requires letters { offset + letter_count section.now ≤ MAX_LETTERS }
     requires fits { offset + letter_count section.now ≤ builder.old.letters }
     ensures { IfOk result (λ state. IsAdded builder.old builder.new state
         (BeginsWithList (λ list. list_fits section.now list && part_matches (option_copied pattern.entry) list) offset

@@ -2,7 +2,7 @@
 //! Old states keep their edges, and so their words.
 
 ghost use Rattle.std.specs.Prelude.{◌≡◌, ◌<◌, All, IfOk, OnOk, length};
-ghost use Rattle.section_patterns.specs.Languages.{AcceptsFrom, BeginsWithLetter, BeginsWithLetters, IsAdded, AddsLetterEdges};
+ghost use Rattle.section_patterns.specs.private.Languages.{AcceptsFrom, BeginsWithLetter, BeginsWithLetters, IsAdded, AddsLetterEdges};
 
 use std::alloc::AllocError;
 use word_automata::NfaBuilder;

@@ -14,8 +14,7 @@ use Rattle.protocol_model.specs.Patterns.{has_any_length}
 use Rattle.protocol_model.specs.Raised.{IsRaisedMove}
 use Rattle.protocol_model.specs.Steps.{ChangesBy}
 use Rattle.protocol_model.specs.Words.{raised}
-use Rattle.protocol_model.proofs.Below.{AllBelow-from_test, test_from_AllBelow}
-use Rattle.protocol_model.proofs.KindLemmas.{any_length}
+use Rattle.protocol_model.proofs.ForCallers.{AllBelow-from_test, test_from_AllBelow, any_length}
 use Rattle.transducers.specs.Transducer.{Transducer, Relates}
 use Rattle.step_compiler.specs.Sections.{Stays, IsMoveOf, IsSectionStep, IsSectionTransducer}
 

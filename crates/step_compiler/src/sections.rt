@@ -3,6 +3,7 @@
 
 ghost use Rattle.std.specs.Prelude.{◌≡◌, ◌↔◌, ◌+◌, ◌^◌, ◌<◌, ◌≤◌, ℕ, List, Some, None, IfOk, MatchOption, length};
 ghost use Rattle.std.specs.List.{AllByRecursion};
+ghost use Rattle.protocol_syntax.specs.declared.limits.TheConstants.{MAX_LETTERS, MAX_SECTIONS};
 ghost use Rattle.protocol_model.specs.System.{Move, IsValidMove, IsValidPart, letter_count, total_letters};
 ghost use Rattle.protocol_model.specs.Moves.{IsMove};
 ghost use Rattle.protocol_model.specs.Raised.{IsRaisedMove};
@@ -27,8 +28,8 @@ pub(crate) fn compile_sections(
 ) -> Result<Vec<Transducer>, AllocError>
     requires valid { AllByRecursion (IsValidPart sections.now) moves.now }
     requires fits { total_letters sections.now < letters }
-    requires limit { letters ≤ 257 }
-    requires few { length sections.now ≤ 16 }
+    requires limit { letters ≤ MAX_LETTERS + 1 }
+    requires few { length sections.now ≤ MAX_SECTIONS }
     ensures { IfOk result (λ parts. AreSectionTransducers moves.now letters 0 0 sections.now parts.items) }
 {
     let mut parts = Vec::with_capacity(alloc, sections.len())?;
@@ -52,7 +53,7 @@ fn compile_section(
 ) -> Result<Transducer, AllocError>
     requires valid { (m : Move) → move_of moves.now number ≡ Some m → IsMoveOf section.now m }
     requires fits { offset + letter_count section.now < letters }
-    requires limit { letters ≤ 257 }
+    requires limit { letters ≤ MAX_LETTERS + 1 }
     ensures { IfOk result (IsSectionTransducer section.now (move_of moves.now number) letters offset) }
 {
     let alphabet = SectionLetters {

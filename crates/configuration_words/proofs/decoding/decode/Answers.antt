@@ -3,7 +3,7 @@ use Rattle.std.specs.Option.{option_copied}
 use Rattle.protocol_model.specs.System.{letter_count}
 use Rattle.protocol_model.specs.Patterns.{lists_fit}
 use Rattle.protocol_model.specs.Words.{separator_of, raised_lists, joined}
-use Rattle.configuration_words.specs.Cuts.{IsCut}
+use Rattle.configuration_words.specs.private.Cuts.{IsCut}
 use Rattle.configuration_words.proofs.DecodingLemmas.{IsDecoded, decoded_wrong, decoded_more, decoded_all, decoded_only, word_joined, copied_none, copied_some}
 use Rattle.configuration_words.proofs.decoding.decode.Goals as goal
 

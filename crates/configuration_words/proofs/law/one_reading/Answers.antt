@@ -1,4 +1,4 @@
-use Rattle.forms.proofs.Texts.{meaning_once, fault_once, fault_or_meaning}
+use Rattle.forms.proofs.ForCallers.{meaning_once, fault_once, fault_or_meaning}
 use Rattle.configuration_words.specs.ConfigurationText.{configuration, syntax_fault}
 use Rattle.configuration_words.proofs.GrammarLemmas.{configuration_is_uniform, configuration_is_told, same_fault}
 use Rattle.configuration_words.proofs.law.one_reading.Goals as goal

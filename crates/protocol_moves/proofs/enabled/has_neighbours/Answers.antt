@@ -1,6 +1,6 @@
 use Rattle.std.proofs.Common.{◌≡◌, ◌+◌, ◌-◌, ◌∙◌, ℕ, Bool, false, inl, inr, sym, subst, arith, length}
 use Rattle.std.proofs.lemmas.Bool.{cases_lt}
-use Rattle.protocol_moves.specs.Gathering.{can_change_two}
+use Rattle.protocol_moves.specs.private.Gathering.{can_change_two}
 use Rattle.protocol_moves.proofs.EnabledMoves.{some_at, none_at, neighbours_are}
 use Rattle.protocol_moves.proofs.enabled.has_neighbours.Goals as goal
 

@@ -1,5 +1,5 @@
 use Rattle.std.proofs.Common.{◌∙◌, sym, arith, below_more, length, refl, not, ◌==◌}
-use Rattle.protocol_moves.specs.Gathering.{can_change_two}
+use Rattle.protocol_moves.specs.private.Gathering.{can_change_two}
 use Rattle.protocol_moves.proofs.EnabledMoves.{some_at, none_at, partner_is, no_partner}
 use Rattle.protocol_moves.proofs.enabled.has_partner.Goals as goal
 

@@ -1,5 +1,5 @@
 use Rattle.std.proofs.Common.{◌≡◌, ◌<◌, ℕ, false}
-use Rattle.protocol_moves.specs.Gathering.{can_change_two}
+use Rattle.protocol_moves.specs.private.Gathering.{can_change_two}
 use Rattle.protocol_moves.proofs.enabled.has_partner.Given as goal
 
 -- no position before j is the partner

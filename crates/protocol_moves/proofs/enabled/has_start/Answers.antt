@@ -1,5 +1,5 @@
 use Rattle.std.proofs.Common.{◌∙◌, sym, arith, below_more, length}
-use Rattle.protocol_moves.specs.Gathering.{can_change_at}
+use Rattle.protocol_moves.specs.private.Gathering.{can_change_at}
 use Rattle.protocol_moves.proofs.EnabledMoves.{some_at, none_at, start_is}
 use Rattle.protocol_moves.proofs.enabled.has_start.Goals as goal
 

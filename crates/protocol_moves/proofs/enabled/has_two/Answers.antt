@@ -1,6 +1,6 @@
 use Rattle.std.proofs.Common.{◌≡◌, ◌∙◌, false, sym, arith, below_more, length}
 use Rattle.protocol_model.specs.Moves.{is_in}
-use Rattle.protocol_moves.specs.Gathering.{some_below, can_change_two}
+use Rattle.protocol_moves.specs.private.Gathering.{some_below, can_change_two}
 use Rattle.protocol_moves.proofs.EnabledMoves.{some_at, none_at, no_second}
 use Rattle.protocol_moves.proofs.enabled.has_two.Goals as goal
 

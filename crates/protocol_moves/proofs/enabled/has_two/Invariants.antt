@@ -1,5 +1,5 @@
 use Rattle.std.proofs.Common.{◌≡◌, ◌<◌, ℕ, false, length}
-use Rattle.protocol_moves.specs.Gathering.{some_below, can_change_two}
+use Rattle.protocol_moves.specs.private.Gathering.{some_below, can_change_two}
 use Rattle.protocol_moves.proofs.enabled.has_two.Given as goal
 
 -- no position before i has a partner

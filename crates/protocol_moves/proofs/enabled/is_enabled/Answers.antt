@@ -2,7 +2,7 @@ use Rattle.std.proofs.Common.{◌↔◌, ◌∙◌, ◌∷◌, [], ◌++◌, ap,
 use Rattle.std.specs.List.{list_any}
 use Rattle.protocol_model.specs.Moves.{is_in}
 use Rattle.protocol_moves.specs.Results.{IsEnabled}
-use Rattle.protocol_moves.specs.Gathering.{some_below, can_change_at}
+use Rattle.protocol_moves.specs.private.Gathering.{some_below, can_change_at}
 use Rattle.protocol_moves.proofs.EnabledMoves.{test_is, at_enabled, pair_enabled, ring_enabled, two_enabled, set_enabled, stack_enabled}
 use Rattle.protocol_moves.proofs.Losses.{cut_enabled, loss_enabled}
 use Rattle.protocol_moves.proofs.enabled.is_enabled.Goals as goal

@@ -1,5 +1,5 @@
 use Rattle.std.proofs.Common.{◌∙◌, sym, ap, subst, arith, not, ◌==◌, get_or}
-use Rattle.protocol_moves.specs.Extents.{changes}
+use Rattle.protocol_moves.specs.private.Extents.{changes}
 use Rattle.protocol_moves.proofs.ExtentLemmas.{IsExtentTo, no_marks_yet, whole_extent}
 use Rattle.protocol_moves.proofs.OneMove.{length_changes}
 use Rattle.protocol_moves.proofs.TestedMove.{mark_turn, get_change}

@@ -1,4 +1,4 @@
-use Rattle.protocol_moves.specs.Extents.{changes}
+use Rattle.protocol_moves.specs.private.Extents.{changes}
 use Rattle.protocol_moves.proofs.ExtentLemmas.{IsExtentTo}
 use Rattle.protocol_moves.proofs.moves.change_extent.Given as goal
 

@@ -1,6 +1,6 @@
 use Rattle.std.proofs.Common.{◌∙◌, sym, subst, arith, map, false}
 use Rattle.std.proofs.lemmas.List.{get_or-map}
-use Rattle.protocol_moves.specs.Extents.{is_hit}
+use Rattle.protocol_moves.specs.private.Extents.{is_hit}
 use Rattle.std.proofs.lemmas.List.{length-map}
 use Rattle.protocol_moves.proofs.ExtentLemmas.{IsExtentTo, no_marks_yet, whole_extent}
 use Rattle.protocol_moves.proofs.TestedMove.{mark_turn}

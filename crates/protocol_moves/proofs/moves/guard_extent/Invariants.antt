@@ -1,5 +1,5 @@
 use Rattle.std.proofs.Common.{map}
-use Rattle.protocol_moves.specs.Extents.{is_hit}
+use Rattle.protocol_moves.specs.private.Extents.{is_hit}
 use Rattle.protocol_moves.proofs.ExtentLemmas.{IsExtentTo}
 use Rattle.protocol_moves.proofs.moves.guard_extent.Given as goal
 

@@ -1,6 +1,6 @@
 use Rattle.std.proofs.Common.{◌∙◌, subst, arith, length-set}
 use Rattle.std.proofs.lemmas.List.{take_all}
-use Rattle.protocol_moves.specs.Extents.{HaveExtents}
+use Rattle.protocol_moves.specs.private.Extents.{HaveExtents}
 use Rattle.protocol_moves.proofs.TestedMove.{extents_push}
 use Rattle.protocol_moves.proofs.moves.guard_extents.Goals as goal
 

@@ -1,5 +1,5 @@
 use Rattle.std.proofs.Common.{◌≡◌, take, length}
-use Rattle.protocol_moves.specs.Extents.{HaveExtents}
+use Rattle.protocol_moves.specs.private.Extents.{HaveExtents}
 use Rattle.protocol_moves.proofs.moves.guard_extents.Given as goal
 
 -- the guards before k have their extents

@@ -1,5 +1,5 @@
 use Rattle.std.proofs.Common.{◌≡◌, drop}
-use Rattle.protocol_moves.specs.Extents.{all_hold}
+use Rattle.protocol_moves.specs.private.Extents.{all_hold}
 use Rattle.protocol_moves.proofs.moves.guards_hold.Given as goal
 
 -- whether all guards hold is decided by those that are left

@@ -1,5 +1,5 @@
 use Rattle.std.proofs.Common.{◌≡◌, ◌<◌, ℕ, false}
-use Rattle.protocol_moves.specs.Extents.{is_at}
+use Rattle.protocol_moves.specs.private.Extents.{is_at}
 use Rattle.protocol_moves.proofs.moves.is_at_move.Given as goal
 
 -- no position before i is the moving one

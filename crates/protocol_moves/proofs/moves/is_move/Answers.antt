@@ -1,6 +1,6 @@
 use Rattle.std.proofs.Common.{◌↔◌, IsTrue, sym, subst}
 use Rattle.protocol_model.specs.Moves.{IsMove}
-use Rattle.protocol_model.proofs.Cuts.{cut_is_loss}
+use Rattle.protocol_model.proofs.ForCallers.{cut_is_loss}
 use Rattle.protocol_moves.proofs.moves.is_move.Goals as goal
 
 pub returns-in-Exit : goal.returns-in-Exit

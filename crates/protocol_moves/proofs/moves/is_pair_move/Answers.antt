@@ -1,6 +1,6 @@
 use Rattle.std.proofs.Common.{◌≡◌, inl, inr, ◌+◌, ◌-◌, ◌∙◌, sym, arith, false, refl, subst}
 use Rattle.std.proofs.lemmas.Bool.{cases_lt}
-use Rattle.protocol_moves.specs.Extents.{is_pair_at}
+use Rattle.protocol_moves.specs.private.Extents.{is_pair_at}
 use Rattle.protocol_moves.proofs.OneMove.{pair_found, pair_none, pair_length}
 use Rattle.protocol_moves.proofs.TestedMove.{pair_turn, two_hold}
 use Rattle.protocol_moves.proofs.EndMove.{never}

@@ -1,5 +1,5 @@
 use Rattle.std.proofs.Common.{◌≡◌, drop}
-use Rattle.protocol_moves.specs.Extents.{is_two_changes}
+use Rattle.protocol_moves.specs.private.Extents.{is_two_changes}
 use Rattle.protocol_moves.proofs.TwoMove.{is_left_over}
 use Rattle.protocol_moves.proofs.moves.is_two_move.Given as goal
 

@@ -1,5 +1,5 @@
 use Rattle.std.proofs.Common.{◌≡◌, false, drop}
-use Rattle.protocol_moves.specs.Simulation.{reaches_end}
+use Rattle.protocol_moves.specs.private.Simulation.{reaches_end}
 use Rattle.protocol_moves.proofs.patterns.reaches_end.Given as goal
 
 -- whether the end is reached is decided by the atoms from j on

@@ -1,5 +1,5 @@
 use Rattle.std.proofs.Common.{◌≡◌, false, take, drop, ◌++◌}
-use Rattle.protocol_moves.specs.Simulation.{begun_after, going_after}
+use Rattle.protocol_moves.specs.private.Simulation.{begun_after, going_after}
 use Rattle.protocol_moves.proofs.patterns.read_letter.Given as goal
 
 -- the atoms before j are done, and what is left is decided by the others

@@ -2,7 +2,7 @@ use Rattle.std.proofs.Common.{map, take, refl, arith}
 use Rattle.std.proofs.lemmas.Result.{err_from_is_err_and}
 use Rattle.protocol_model.specs.Numbering.{row_of}
 use Rattle.protocol_model.specs.Faults.{row_fault}
-use Rattle.protocol_model.proofs.Walk.{stops, goes_on, walked_all}
+use Rattle.protocol_model.proofs.ForCallers.{stops, goes_on, walked_all}
 use Rattle.protocol_properties.proofs.properties.test_rows.Goals as goal
 
 pub returns-in_err-resolve_row : goal.returns-in_err-resolve_row

@@ -1,7 +1,7 @@
 use Rattle.std.proofs.Common.{map, take}
 use Rattle.protocol_model.specs.Numbering.{row_of}
 use Rattle.protocol_model.specs.Faults.{row_fault}
-use Rattle.protocol_model.proofs.Walk.{IsWalked}
+use Rattle.protocol_model.proofs.ForCallers.{IsWalked}
 use Rattle.protocol_properties.proofs.properties.test_rows.Given as goal
 
 -- the rows of the blocks so far have no fault

@@ -1,4 +1,4 @@
-use Rattle.forms.proofs.Texts.{meaning_once, fault_once, fault_or_meaning}
+use Rattle.forms.proofs.ForCallers.{meaning_once, fault_once, fault_or_meaning}
 use Rattle.protocol_syntax.specs.Properties.{properties}
 use Rattle.protocol_syntax.proofs.Told.{properties_are_uniform, properties_are_told}
 use Rattle.protocol_syntax.proofs.law.one_reading_of_properties.Goals as goal

@@ -1,6 +1,6 @@
 use Rattle.std.proofs.Common.{◌∷◌, [], true, false, sym, ap, ◌∙◌}
 use Rattle.std.specs.Option.{option_copied}
-use Rattle.section_patterns.specs.Lists.{part_matches}
+use Rattle.section_patterns.specs.private.Lists.{part_matches}
 use Rattle.section_patterns.proofs.ListLemmas.{chosen_next}
 use Rattle.section_patterns.proofs.letters.single_letters.Goals as goal
 use Rattle.section_patterns.proofs.letters.single_letters.Goals.{then-matches_single+in_ok-push, else-matches_single}

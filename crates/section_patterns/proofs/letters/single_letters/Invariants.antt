@@ -2,7 +2,7 @@ use Rattle.std.proofs.Common.{◌≡◌, ◌∷◌, []}
 use Rattle.std.specs.List.{filter, range_with_len}
 use Rattle.std.specs.Option.{option_copied}
 use Rattle.protocol_model.specs.Words.{raised}
-use Rattle.section_patterns.specs.Lists.{part_matches}
+use Rattle.section_patterns.specs.private.Lists.{part_matches}
 use Rattle.section_patterns.proofs.letters.single_letters.Given as goal
 
 abbrev pub invariant-letters : goal.invariant-letters

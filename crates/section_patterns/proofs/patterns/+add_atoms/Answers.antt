@@ -1,7 +1,7 @@
 use Rattle.std.proofs.Common.{◌-◌, length, take, drop, subst}
 use Rattle.protocol_model.specs.Patterns.{atoms_match}
-use Rattle.section_patterns.specs.Languages.{AcceptsFrom, IsAdded}
-use Rattle.section_patterns.specs.Lists.{BeginsWithList}
+use Rattle.section_patterns.specs.private.Languages.{AcceptsFrom, IsAdded}
+use Rattle.section_patterns.specs.private.Lists.{BeginsWithList}
 use Rattle.section_patterns.proofs.ListLemmas.{first_and_rest}
 use Rattle.section_patterns.proofs.PatternLemmas.{atoms_more}
 use Rattle.section_patterns.proofs.patterns.+add_atoms.Goals as goal

@@ -1,7 +1,7 @@
 use Rattle.std.proofs.Common.{◌<◌, ◌∙◌, All, sym, subst, ap}
 use Rattle.protocol_model.specs.Words.{raised}
-use Rattle.section_patterns.specs.Languages.{AcceptsFrom, BeginsWithLetter, IsAdded}
-use Rattle.section_patterns.specs.Lists.{BeginsWithAtom}
+use Rattle.section_patterns.specs.private.Languages.{AcceptsFrom, BeginsWithLetter, IsAdded}
+use Rattle.section_patterns.specs.private.Lists.{BeginsWithAtom}
 use Rattle.section_patterns.proofs.ListLemmas.{raised_below}
 use Rattle.std.proofs.lemmas.Result.{IfOk-weaker}
 use Rattle.section_patterns.proofs.PatternLemmas.{atom_plus}

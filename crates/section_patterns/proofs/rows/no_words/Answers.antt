@@ -1,5 +1,5 @@
 use Rattle.std.proofs.Common.{◌∙◌, sym, ap}
-use Rattle.word_automata.proofs.Targets.{accepts-empty}
+use Rattle.word_automata.proofs.ForCallers.{accepts-empty}
 use Rattle.section_patterns.proofs.rows.no_words.Goals as goal
 
 pub returns-clause-language : goal.returns-clause-language

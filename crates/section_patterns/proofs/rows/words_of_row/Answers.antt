@@ -1,7 +1,7 @@
 use Rattle.std.proofs.Common.{◌↔◌, ◌∙◌, ◌+◌, ◌∷◌, [], subst, sym, ap}
 use Rattle.word_automata.specs.Nondeterministic.{Accepts, empty_nondeterministic}
-use Rattle.section_patterns.specs.Languages.{IsAdded}
-use Rattle.section_patterns.specs.Lists.{HasPatternsOf, IsRest, IsWordOfRows}
+use Rattle.section_patterns.specs.private.Languages.{IsAdded}
+use Rattle.section_patterns.specs.private.Lists.{HasPatternsOf, IsRest, IsWordOfRows}
 use Rattle.section_patterns.proofs.RowLemmas.{row_alone, valid_patterns}
 use Rattle.section_patterns.proofs.rows.words_of_row.Goals as goal
 

@@ -2,7 +2,7 @@ use Rattle.std.proofs.Common.{◌↔◌, ◌∙◌, IsTrue, ℕ, List, subst, sy
 use Rattle.std.proofs.lemmas.Bool.{false≢true}
 use Rattle.std.proofs.lemmas.List.{take_all}
 use Rattle.word_automata.specs.Automaton.{accepts}
-use Rattle.section_patterns.specs.Lists.{IsWordOfRows}
+use Rattle.section_patterns.specs.private.Lists.{IsWordOfRows}
 use Rattle.section_patterns.proofs.RowLemmas.{no_rows, rows_united, row_valid}
 use Rattle.section_patterns.proofs.rows.words_of_rows.Goals as goal
 

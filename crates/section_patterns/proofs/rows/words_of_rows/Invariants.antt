@@ -2,7 +2,7 @@ use Rattle.std.proofs.Common.{◌≡◌, ◌↔◌, ℕ, List, IsTrue, take}
 use Rattle.word_automata.specs.Automaton.{accepts}
 use Rattle.minimise.specs.Canonical.{IsCanonical}
 use Rattle.protocol_model.specs.Words.{automata_letters}
-use Rattle.section_patterns.specs.Lists.{IsWordOfRows}
+use Rattle.section_patterns.specs.private.Lists.{IsWordOfRows}
 use Rattle.section_patterns.proofs.rows.words_of_rows.Given as goal
 
 abbrev pub invariant-rows : goal.invariant-rows

@@ -1,8 +1,8 @@
 use Rattle.std.proofs.Common.{◌≡◌, ◌-◌, [], length, take, drop, subst, sym, arith}
 use Rattle.std.proofs.lemmas.List.{nil_from_length}
 use Rattle.std.specs.Option.{option_copied}
-use Rattle.section_patterns.specs.Languages.{IsAdded}
-use Rattle.section_patterns.specs.Lists.{IsRest}
+use Rattle.section_patterns.specs.private.Languages.{IsAdded}
+use Rattle.section_patterns.specs.private.Lists.{IsRest}
 use Rattle.section_patterns.proofs.ListLemmas.{first_and_rest}
 use Rattle.std.proofs.lemmas.Result.{IfOk-weaker}
 use Rattle.section_patterns.proofs.SectionLemmas.{section_next, sections_none}

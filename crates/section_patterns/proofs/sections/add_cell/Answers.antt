@@ -3,8 +3,8 @@ use Rattle.std.specs.List.{filter, range_with_len}
 use Rattle.std.specs.Option.{option_copied}
 use Rattle.protocol_model.specs.Patterns.{list_fits}
 use Rattle.protocol_model.specs.Words.{raised}
-use Rattle.section_patterns.specs.Languages.{AcceptsFrom, BeginsWithLetter, IsAdded}
-use Rattle.section_patterns.specs.Lists.{BeginsWithList, part_matches}
+use Rattle.section_patterns.specs.private.Languages.{AcceptsFrom, BeginsWithLetter, IsAdded}
+use Rattle.section_patterns.specs.private.Lists.{BeginsWithList, part_matches}
 use Rattle.section_patterns.proofs.ListLemmas.{raised_chosen_below}
 use Rattle.std.proofs.lemmas.Result.{IfOk-weaker}
 use Rattle.section_patterns.proofs.SectionLemmas.{cell_added, few_atoms}

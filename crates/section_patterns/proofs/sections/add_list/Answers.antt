@@ -4,8 +4,8 @@ use Rattle.std.specs.Option.{option_copied}
 use Rattle.protocol_model.specs.System.{AllBelow, letter_count}
 use Rattle.protocol_model.specs.Patterns.{atoms_match, list_fits}
 use Rattle.protocol_model.specs.Words.{raised}
-use Rattle.section_patterns.specs.Languages.{AcceptsFrom, BeginsWithLetters, IsAdded}
-use Rattle.section_patterns.specs.Lists.{BeginsWithList, HasPatternOf, part_matches}
+use Rattle.section_patterns.specs.private.Languages.{AcceptsFrom, BeginsWithLetters, IsAdded}
+use Rattle.section_patterns.specs.private.Lists.{BeginsWithList, HasPatternOf, part_matches}
 use Rattle.section_patterns.proofs.ListLemmas.{raised_chosen_below}
 use Rattle.std.proofs.lemmas.Result.{IfOk-weaker}
 use Rattle.section_patterns.proofs.SectionLemmas.{any_added, pattern_added}

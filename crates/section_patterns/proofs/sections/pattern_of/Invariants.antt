@@ -1,5 +1,5 @@
 use Rattle.std.proofs.Common.{◌≡◌, drop}
-use Rattle.section_patterns.specs.Lists.{pattern_for}
+use Rattle.section_patterns.specs.private.Lists.{pattern_for}
 use Rattle.section_patterns.proofs.sections.pattern_of.Given as goal
 
 abbrev pub invariant-parts : goal.invariant-parts

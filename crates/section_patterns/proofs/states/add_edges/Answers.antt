@@ -1,6 +1,6 @@
 use Rattle.std.proofs.Common.{subst, sym, arith}
 use Rattle.std.proofs.lemmas.List.{take_more, take_all}
-use Rattle.section_patterns.specs.Languages.{AddsLetterEdges}
+use Rattle.section_patterns.specs.private.Languages.{AddsLetterEdges}
 use Rattle.section_patterns.proofs.StateLemmas.{letter_edges_none, letter_edges_more}
 use Rattle.section_patterns.proofs.states.add_edges.Goals as goal
 

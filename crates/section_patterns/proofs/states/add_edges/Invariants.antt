@@ -1,5 +1,5 @@
 use Rattle.std.proofs.Common.{take}
-use Rattle.section_patterns.specs.Languages.{AddsLetterEdges}
+use Rattle.section_patterns.specs.private.Languages.{AddsLetterEdges}
 use Rattle.section_patterns.proofs.states.add_edges.Given as goal
 
 abbrev pub invariant-letters : goal.invariant-letters

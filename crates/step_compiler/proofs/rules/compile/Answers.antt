@@ -2,7 +2,7 @@ use Rattle.std.proofs.Common.{◌≡◌, ◌↔◌, ◌∙◌, ℕ, List, All, l
 use Rattle.std.proofs.lemmas.List.Elements.{All-push}
 use Rattle.protocol_model.specs.Words.{automata_letters}
 use Rattle.transducers.specs.Transducer.{Relates}
-use Rattle.sequence.proofs.Places.{pushed_places}
+use Rattle.sequence.proofs.ForCallers.{pushed_places}
 use Rattle.step_compiler.specs.Rules.{IsRuleStep}
 use Rattle.step_compiler.proofs.rules.compile.Goals as goal
 

@@ -5,7 +5,7 @@ use Rattle.protocol_model.specs.Patterns.{has_any_length}
 use Rattle.protocol_model.specs.Raised.{IsRaisedMove}
 use Rattle.transducers.specs.Transducer.{Relates}
 use Rattle.step_compiler.specs.Sections.{Stays}
-use Rattle.sequence.proofs.Tests.{joined}
+use Rattle.sequence.proofs.ForCallers.{joined}
 use Rattle.step_compiler.proofs.SectionLemmas.{copies_one, copies_any}
 use Rattle.step_compiler.proofs.sections.compile_copy.Goals as goal
 

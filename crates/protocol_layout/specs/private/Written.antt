@@ -1,4 +1,4 @@
--- What was written behind what was written before. Only private contracts speak of this.
+-- What was written behind what was written before.
 use Rattle.std.specs.Prelude.{◌≡◌, ℕ, List, ◌++◌}
 use Rattle.std.specs.List.{flat_map}
 use Rattle.protocol_syntax.specs.Spacing.{Word, spaced}

@@ -1,4 +1,4 @@
--- What the states of a nondeterministic automaton accept, and states that are added to one. Only private contracts speak of this.
+-- What the states of a nondeterministic automaton accept, and states that are added to one.
 use Rattle.std.specs.Prelude.{◌≡◌, ◌==◌, ◌<◌, ◌≤◌, ◌↔◌, ℕ, List, ◌∷◌, ◌++◌, map, Option, Some, Contains, All, IsTrue, length, if◌then◌else◌}
 use Rattle.word_automata.specs.Path.{edges_of, is_accepting, IsPath, spelled}
 use Rattle.word_automata.specs.Nondeterministic.{NondeterministicAutomaton}

@@ -1,5 +1,5 @@
 -- A pattern's atoms on a list, letter by letter. Before a letter an atom is begun where the letters so far match the atoms before it, and
--- it is going on where they match these and one or more letters of its own, which may be followed by more of them. Only private contracts speak of this.
+-- it is going on where they match these and one or more letters of its own, which may be followed by more of them.
 use Rattle.std.specs.Prelude.{ℕ, Bool, false, List, [], ◌∷◌, ◌||◌, ◌&&◌}
 use Rattle.protocol_syntax.specs.declared.protocol.Many.{Many}
 use Rattle.protocol_syntax.specs.declared.protocol.Many.TheVariants.{One, Star, Plus}

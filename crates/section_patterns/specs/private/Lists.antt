@@ -1,4 +1,4 @@
--- Lists of sections, and words that begin with them. Only private contracts speak of this.
+-- Lists of sections, and words that begin with them.
 use Rattle.std.specs.Prelude.{◌≡◌, ◌==◌, ◌&&◌, ◌+◌, ℕ, Bool, true, List, [], ◌∷◌, ◌++◌, Option, None, Some, IsTrue, if◌then◌else◌}
 use Rattle.protocol_syntax.specs.declared.protocol.Many.{Many}
 use Rattle.protocol_syntax.specs.declared.protocol.Many.TheVariants.{One, Star, Plus}
@@ -9,7 +9,7 @@ use Rattle.protocol_model.specs.declared.system.Configuration.{Configuration}
 use Rattle.protocol_model.specs.System.{SystemData, letter_count, IsValidPattern}
 use Rattle.protocol_model.specs.Patterns.{atoms_match, lists_fit, some_row_matches}
 use Rattle.protocol_model.specs.Words.{raised, raised_lists, joined, word_of}
-use Rattle.section_patterns.specs.Languages.{BeginsWithLetter, BeginsWithLetters}
+use Rattle.section_patterns.specs.private.Languages.{BeginsWithLetter, BeginsWithLetters}
 
 -- the word is letters, as many as an atom says, and then a word of the language
 abbrev pub BeginsWithAtom : Many → List ℕ → (List ℕ → Type 0) → List ℕ → Type 0

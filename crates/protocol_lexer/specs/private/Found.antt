@@ -1,4 +1,4 @@
--- The tokens of one piece. Only private contracts speak of this.
+-- The tokens of one piece.
 use Rattle.std.specs.Prelude.{ℕ, ◌+◌, List, [], ◌∷◌, Some, None}
 use Rattle.protocol_lexer.specs.declared.Place.{Place}
 use Rattle.protocol_lexer.specs.declared.Token.{Token}

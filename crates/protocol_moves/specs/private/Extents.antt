@@ -1,4 +1,4 @@
--- Some positions of a list, told by the first and the last of them. Only private contracts speak of this.
+-- Some positions of a list, told by the first and the last of them.
 use Rattle.std.specs.Prelude.{◌≡◌, ◌==◌, ℕ, Bool, true, false, List, [], ◌∷◌, length, ◌||◌, map, if◌then◌else◌, not, nat_lt, take, drop, ◌<◌, ◌≤◌, ◌+◌}
 use Rattle.std.specs.List.{list_any, list_all}
 use Rattle.std.specs.Prelude.{◌&&◌, slice_index_or as get_or}

@@ -1,4 +1,4 @@
--- Words that are cut at separators. Only private contracts speak of this.
+-- Words that are cut at separators.
 pub use Rattle.sequence.specs.Cuts.{Lacks}
 use Rattle.std.specs.Prelude.{◌≡◌, ℕ, List, ◌∷◌, ◌++◌, Option, MatchOption}
 

@@ -1,0 +1,4 @@
+-- What only contracts of private functions cite.
+pub mod Extents
+pub mod Gathering
+pub mod Simulation
