@@ -14,14 +14,12 @@ use Rattle.protocol_syntax.specs.MoveLetters.{MoveBody, IsAllowedMove}
 use Rattle.forms.specs.declared.symbol.Keyword.TheVariants as Words
 use Rattle.forms.specs.Grammar.{name}
 use Rattle.protocol_syntax.specs.Grammar.{section, letters_of, more_sections, row, guard, at_move, pair_move, ring_move, two_move, set_move, send_move, recv_move, pushed, pop_move, push_move, channel_or_stack_move, common_move, spawn_move, exit_move, lose_move, later_move, any_move, step, rule, protocol, IsProtocol}
-use Rattle.forms.proofs.MayMean.{MayMean, AllAfter, within_may_mean}
-use Rattle.forms.proofs.MayMean as Grammar
-use Rattle.protocol_syntax.proofs.Told.{protocol_is_told, protocol_is_uniform}
-use Rattle.protocol_syntax.proofs.Within.{up_to_within, each_item, row_within}
+use Rattle.forms.proofs.ForCallers.{MayMean, AllAfter, IsName as IsGrammarName, within_may_mean}
+use Rattle.protocol_syntax.proofs.ForCallers.{protocol_is_told, protocol_is_uniform, up_to_within, each_item, row_within}
 use Rattle.protocol_model.specs.Names.{IsName}
 use Rattle.protocol_model.specs.Allowed.{IsAllowed, IsAllowedSection, IsAllowedRule, IsAllowedRow}
 
-pub named : (n : Name) → Grammar.IsName n → IsName n.text
+pub named : (n : Name) → IsGrammarName n → IsName n.text
 named n is =
     and_from _ _
     (and_from _ _ (and_from _ _ (lt-ltb 0 (length n.text) is.some) (le-leb (length n.text) 32 is.short)) is.bytes)

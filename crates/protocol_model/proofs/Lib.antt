@@ -1,3 +1,4 @@
+pub mod ForCallers
 pub mod Below
 pub mod Fitting
 pub mod Cuts
@@ -10,3 +11,4 @@ pub mod Distinct
 pub mod InRange
 pub mod Validity
 pub mod AllowedTexts
+pub mod Unchanged

@@ -1,49 +1,55 @@
 -- The first fault of the letters of a move is that of its parts, one after the other.
-use Rattle.std.proofs.Common.{◌≡◌, ℕ, List, [], ◌∷◌, ◌++◌, Option, None, Some, refl, ap, sym, ◌∙◌}
+use Rattle.std.proofs.Common.{◌≡◌, List, [], ◌∷◌, ◌++◌, Option, None, Some, refl, ap, sym, ◌∙◌}
 use Rattle.std.specs.List.{flat_map}
 use Rattle.std.specs.Option.{option_or, option_map_or}
-use Rattle.forms.specs.declared.name.Name.{Name}
+use Rattle.protocol_syntax.specs.declared.protocol.Guard.{Guard}
 use Rattle.protocol_syntax.specs.declared.protocol.Move.TheVariants.{At, Stack}
-use Rattle.protocol_syntax.specs.MoveLetters.{GuardText}
-use Rattle.protocol_model.specs.Faults.{unknown, letters_fault, entry_fault, body_fault, first_fault_of}
+use Rattle.protocol_model.specs.declared.fault.ModelFault.{ModelFault}
+use Rattle.protocol_model.specs.Faults.{first_fault_of}
+use Rattle.protocol_model.specs.private.Traversal.{pair_fault, move_fault}
 use Rattle.protocol_model.proofs.Walk.{option_or_none, option_or_assoc}
 
 -- the letters before do not count
-letters_after : (letters : List (List ℕ)) (earlier names : List Name) → first_fault_of (λ _. unknown letters) earlier names ≡ letters_fault letters names
-letters_after letters earlier [] = refl
-letters_after letters earlier (n ∷ names) =
-    ap (λ o. option_or (unknown letters n) o) (letters_after letters (earlier ++ n ∷ []) names ∙ sym (letters_after letters (n ∷ []) names))
+letters_after : {L : Type 0} (fault : L → Option ModelFault) (earlier letters : List L) →
+    first_fault_of (λ _. fault) earlier letters ≡ first_fault_of (λ _. fault) [] letters
+letters_after fault earlier [] = refl
+letters_after fault earlier (a ∷ letters) =
+    ap (λ o. option_or (fault a) o) (letters_after fault (earlier ++ a ∷ []) letters ∙ sym (letters_after fault (a ∷ []) letters))
 
-letters_append : (letters : List (List ℕ)) (first second : List Name) →
-    letters_fault letters (first ++ second) ≡ option_or (letters_fault letters first) (letters_fault letters second)
-letters_append letters [] second = refl
-letters_append letters (n ∷ first) second =
-    ap (λ o. option_or (unknown letters n) o)
-    (letters_after letters (n ∷ []) (first ++ second) ∙ letters_append letters first second
-    ∙ ap (λ o. option_or o (letters_fault letters second)) (sym (letters_after letters (n ∷ []) first)))
-    ∙ sym (option_or_assoc (unknown letters n) (first_fault_of (λ _. unknown letters) (n ∷ []) first) (letters_fault letters second))
+letters_append : {L : Type 0} (fault : L → Option ModelFault) (first second : List L) →
+    first_fault_of (λ _. fault) [] (first ++ second) ≡ option_or (first_fault_of (λ _. fault) [] first) (first_fault_of (λ _. fault) [] second)
+letters_append fault [] second = refl
+letters_append fault (a ∷ first) second =
+    ap (λ o. option_or (fault a) o)
+    (letters_after fault (a ∷ []) (first ++ second) ∙ letters_append fault first second
+    ∙ ap (λ o. option_or o (first_fault_of (λ _. fault) [] second)) (sym (letters_after fault (a ∷ []) first)))
+    ∙ sym (option_or_assoc (fault a) (first_fault_of (λ _. fault) (a ∷ []) first) (first_fault_of (λ _. fault) [] second))
 
-guards_fault : (letters : List (List ℕ)) (earlier guards : List GuardText) →
-    first_fault_of (λ _ guard. letters_fault letters guard.letters) earlier guards ≡ letters_fault letters (flat_map (λ guard. guard.letters) guards)
-guards_fault letters earlier [] = refl
-guards_fault letters earlier (g ∷ guards) =
-    ap (λ o. option_or (letters_fault letters g.letters) o) (guards_fault letters (earlier ++ g ∷ []) guards)
-    ∙ sym (letters_append letters g.letters (flat_map (λ guard. guard.letters) guards))
+guards_fault : {L : Type 0} (fault : L → Option ModelFault) (earlier guards : List (Guard L)) →
+    first_fault_of (λ _ guard. first_fault_of (λ _. fault) [] guard.letters) earlier guards
+    ≡ first_fault_of (λ _. fault) [] (flat_map (λ guard. guard.letters) guards)
+guards_fault fault earlier [] = refl
+guards_fault fault earlier (g ∷ guards) =
+    ap (λ o. option_or (first_fault_of (λ _. fault) [] g.letters) o) (guards_fault fault (earlier ++ g ∷ []) guards)
+    ∙ sym (letters_append fault g.letters (flat_map (λ guard. guard.letters) guards))
 
-pub at_fault : (letters : List (List ℕ)) (f t : Name) (guards : List GuardText) (table : List (Name × Name)) →
-    option_or (letters_fault letters (f ∷ t ∷ []))
-    (option_or (first_fault_of (λ _ guard. letters_fault letters guard.letters) [] guards) (first_fault_of (entry_fault letters) [] table))
-    ≡ body_fault letters (At f t guards table)
-at_fault letters f t guards table =
-    let entries = first_fault_of (entry_fault letters) [] table in
-    let own = letters_fault letters (f ∷ t ∷ []) in
-    sym (option_or_assoc own (first_fault_of (λ _ guard. letters_fault letters guard.letters) [] guards) entries)
-    ∙ ap (λ o. option_or (option_or own o) entries) (guards_fault letters [] guards)
-    ∙ ap (λ o. option_or o entries) (sym (letters_append letters (f ∷ t ∷ []) (flat_map (λ guard. guard.letters) guards)))
+pub at_fault : {L S : Type 0} (fault : L → Option ModelFault) (left_fault : List (L × L) → L → Option ModelFault) (of_set : S → List L)
+    (f t : L) (guards : List (Guard L)) (table : List (L × L)) →
+    option_or (first_fault_of (λ _. fault) [] (f ∷ t ∷ []))
+    (option_or (first_fault_of (λ _ guard. first_fault_of (λ _. fault) [] guard.letters) [] guards)
+    (first_fault_of (pair_fault fault left_fault) [] table))
+    ≡ move_fault fault left_fault of_set (At f t guards table)
+at_fault fault left_fault of_set f t guards table =
+    let entries = first_fault_of (pair_fault fault left_fault) [] table in
+    let own = first_fault_of (λ _. fault) [] (f ∷ t ∷ []) in
+    sym (option_or_assoc own (first_fault_of (λ _ guard. first_fault_of (λ _. fault) [] guard.letters) [] guards) entries)
+    ∙ ap (λ o. option_or (option_or own o) entries) (guards_fault fault [] guards)
+    ∙ ap (λ o. option_or o entries) (sym (letters_append fault (f ∷ t ∷ []) (flat_map (λ guard. guard.letters) guards)))
 
-pub stack_fault : (letters : List (List ℕ)) (pop : Option Name) (push : List Name) →
-    option_or (option_map_or (unknown letters) pop None) (letters_fault letters push) ≡ body_fault letters (Stack pop push)
-stack_fault letters None push = sym (option_or_none (letters_fault letters push))
-stack_fault letters (Some a) push =
-    ap (λ o. option_or (unknown letters a) o) (sym (letters_after letters (a ∷ []) push))
-    ∙ sym (option_or_none (letters_fault letters (a ∷ push)))
+pub stack_fault : {L S : Type 0} (fault : L → Option ModelFault) (left_fault : List (L × L) → L → Option ModelFault) (of_set : S → List L)
+    (pop : Option L) (push : List L) →
+    option_or (option_map_or fault pop None) (first_fault_of (λ _. fault) [] push) ≡ move_fault fault left_fault of_set (Stack pop push)
+stack_fault fault left_fault of_set None push = sym (option_or_none (first_fault_of (λ _. fault) [] push))
+stack_fault fault left_fault of_set (Some a) push =
+    ap (λ o. option_or (fault a) o) (sym (letters_after fault (a ∷ []) push))
+    ∙ sym (option_or_none (first_fault_of (λ _. fault) [] (a ∷ push)))

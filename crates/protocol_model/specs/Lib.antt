@@ -10,3 +10,4 @@ pub mod Numbering
 pub mod Faults
 pub mod Allowed
 pub mod Outcome
+pub mod private

@@ -1,4 +1,4 @@
--- What the parts of the reader of names answer. Only private contracts speak of this.
+-- What the parts of the reader of names answer.
 use Rattle.std.specs.Prelude.{◌≡◌, ◌⊎◌, ℕ, true, List, Option, None, Some, Result, Ok, Err}
 use Rattle.std.specs.Option.{option_map}
 use Rattle.protocol_syntax.specs.declared.protocol.Kind.{Kind}

@@ -1,11 +1,12 @@
 //! Copies of configurations and of systems.
 //! Each function copies one level, so a copy costs what the value holds; the copy is equal to it.
 
-ghost use Rattle.std.specs.Prelude.{◌≡◌, IfOk};
-ghost use Rattle.protocol_syntax.specs.declared.protocol.Move.TheVariants.{At};
+ghost use Rattle.std.specs.Prelude.{◌≡◌, IfOk, None};
 
+use crate::fault::ModelFault;
+use crate::renaming::{MoveRenaming, Renaming, rename_move};
 use crate::sections::copy_text;
-use crate::system::{Atom, Configuration, Guard, Move, Pattern, Row, Rule, Section, System};
+use crate::system::{Atom, Configuration, Move, Pattern, Row, Rule, Section, System};
 use sequence::{Sequence, Text};
 use std::alloc::{AllocError, Global};
 
@@ -13,15 +14,6 @@ fn copy_numbers(alloc: Global, numbers: &Sequence<u32>) -> Result<Sequence<u32>,
     ensures { IfOk result (λ copy. copy ≡ numbers.now) }
 {
     Ok(Sequence::from_vec(numbers.as_slice().to_vec(alloc)?))
-}
-
-fn copy_pairs(
-    alloc: Global,
-    pairs: &Sequence<(u32, u32)>,
-) -> Result<Sequence<(u32, u32)>, AllocError>
-    ensures { IfOk result (λ copy. copy ≡ pairs.now) }
-{
-    Ok(Sequence::from_vec(pairs.as_slice().to_vec(alloc)?))
 }
 
 fn copy_texts(alloc: Global, texts: &[Text]) -> Result<Sequence<Text>, AllocError>
@@ -85,83 +77,50 @@ fn copy_rows(alloc: Global, rows: &[Row]) -> Result<Sequence<Row>, AllocError>
     Ok(Sequence::from_vec(copies))
 }
 
-fn copy_guards(alloc: Global, guards: &[Guard]) -> Result<Sequence<Guard>, AllocError>
-    ensures { IfOk result (λ copies. copies ≡ guards.now) }
-{
-    let mut copies = Vec::new(alloc);
-    'guards: for guard in guards {
-        let letters = copy_numbers(alloc, &guard.letters)?;
-        copies.push(Guard {
-            all: guard.all,
-            region: guard.region,
-            letters,
-        })?;
+/// The renaming by which each number stays.
+struct Identity;
+
+impl Renaming for Identity {
+    type Letter = u32;
+
+    ghost number = { λ _ letter. letter };
+
+    ghost fault = { λ _ _. None };
+
+    fn letter(&self, _alloc: Global, letter: &u32) -> Result<u32, ModelFault> {
+        Ok(*letter)
     }
-    Ok(Sequence::from_vec(copies))
 }
 
-fn copy_at(
-    alloc: Global,
-    change: (u32, u32),
-    guards: &[Guard],
-    map: &Sequence<(u32, u32)>,
-) -> Result<Move, AllocError>
-    ensures { IfOk result (λ copy. copy ≡ At change.0 change.1 guards.now map.now) }
-{
-    let guards = copy_guards(alloc, guards)?;
-    let map = copy_pairs(alloc, map)?;
-    Ok(Move::At {
-        from: change.0,
-        to: change.1,
-        guards,
-        map,
-    })
+impl MoveRenaming for Identity {
+    type Set = Sequence<u32>;
+
+    ghost letters = { λ _ set. set };
+
+    ghost numbers = { λ _ set. set };
+
+    ghost left_fault = { λ _ _ _. None };
+
+    fn set(&self, alloc: Global, set: &Sequence<u32>) -> Result<Sequence<u32>, ModelFault> {
+        Ok(copy_numbers(alloc, set)?)
+    }
+
+    fn check_entry(
+        &self,
+        _alloc: Global,
+        _earlier: &[(u32, u32)],
+        _entry: &(u32, u32),
+    ) -> Result<(), ModelFault> {
+        Ok(())
+    }
 }
 
 fn copy_move(alloc: Global, source: &Move) -> Result<Move, AllocError>
     ensures { IfOk result (λ copy. copy ≡ source.now) }
 {
-    match source {
-        Move::At {
-            from,
-            to,
-            guards,
-            map,
-        } => copy_at(alloc, (*from, *to), guards.as_slice(), map),
-        Move::Pair { a, b, c, d } => Ok(Move::Pair {
-            a: *a,
-            b: *b,
-            c: *c,
-            d: *d,
-        }),
-        Move::Ring { a, b, c, d } => Ok(Move::Ring {
-            a: *a,
-            b: *b,
-            c: *c,
-            d: *d,
-        }),
-        Move::Two { a, b, c, d } => Ok(Move::Two {
-            a: *a,
-            b: *b,
-            c: *c,
-            d: *d,
-        }),
-        Move::Set { from, to } => Ok(Move::Set {
-            from: *from,
-            to: *to,
-        }),
-        Move::Send { letter } => Ok(Move::Send { letter: *letter }),
-        Move::Recv { letter } => Ok(Move::Recv { letter: *letter }),
-        Move::Stack { pop, push } => {
-            let push = copy_numbers(alloc, push)?;
-            Ok(Move::Stack { pop: *pop, push })
-        }
-        Move::Spawn { letter } => Ok(Move::Spawn { letter: *letter }),
-        Move::Exit { letter } => Ok(Move::Exit { letter: *letter }),
-        Move::Lose { letters } => {
-            let letters = copy_numbers(alloc, letters)?;
-            Ok(Move::Lose { letters })
-        }
+    match rename_move(alloc, &Identity, source) {
+        Ok(copy) => Ok(copy),
+        Err(_) => Err(AllocError),
     }
 }
 

@@ -2,6 +2,7 @@
 //! Each takes time linear in what it is asked of, and no memory.
 
 ghost use Rattle.std.specs.Prelude.{◌≡◌, ◌≤◌};
+ghost use Rattle.protocol_syntax.specs.declared.limits.TheConstants.{MAX_LETTERS};
 ghost use Rattle.protocol_model.specs.System.{IsValid, letter_count};
 ghost use Rattle.protocol_model.specs.Patterns.{has_any_length};
 ghost use Rattle.protocol_model.specs.Moves.{is_in, table_value};
@@ -25,7 +26,7 @@ impl System {
     /// The number of letters of all sections, which is also the letter that separates them in words.
     pub fn separator(&self) -> u32
         ensures separator { result ≡ separator_of self.now }
-        ensures limit { result ≤ 256 }
+        ensures limit { result ≤ MAX_LETTERS }
         ensures valid { IsValid self.now }
     {
         let mut total = 0;
@@ -39,7 +40,7 @@ impl System {
 impl Section {
     /// The number of letters of the section.
     pub fn letter_count(&self) -> u32
-        requires { letter_count self.now ≤ 256 }
+        requires { letter_count self.now ≤ MAX_LETTERS }
         ensures { result ≡ letter_count self.now }
     {
         self.letters.len() as u32

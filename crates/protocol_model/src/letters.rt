@@ -1,21 +1,24 @@
-//! Letters of a section by number.
-//! A letter is looked up once for each name; sets of letters keep the order of the text.
+//! The letters of a section as a renaming: each name becomes its number.
+//! A letter is looked up once for each name; sets of letters keep the order of the text. The left letters of a table are searched through,
+//! so a table costs the square of its entries.
 
-ghost use Rattle.std.specs.Prelude.{◌≡◌, ◌∷◌, [], IfOk, map};
-ghost use Rattle.std.specs.List.{range_with_len};
-ghost use Rattle.protocol_model.specs.Numbering.{number_of};
-ghost use Rattle.protocol_model.specs.Faults.{unknown, letters_fault};
-ghost use Rattle.protocol_model.specs.Outcome.{IsOutcome};
+ghost use Rattle.std.specs.Prelude.{◌≡◌, IfOk, map};
+ghost use Rattle.std.specs.List.{list_any, range_with_len};
+ghost use Rattle.std.specs.Str.{bytes_eq};
+ghost use Rattle.protocol_syntax.specs.MoveLetters.{base_names};
+ghost use Rattle.protocol_model.specs.Numbering.{base_numbers, number_of};
+ghost use Rattle.protocol_model.specs.Faults.{duplicate, unknown};
 
 use crate::fault::ModelFault;
 use crate::names::Names;
-use crate::sections::unknown_name;
-use protocol_syntax::Name;
+use crate::renaming::{MoveRenaming, Renaming, rename_letters};
+use crate::sections::{duplicate_name, unknown_name};
+use protocol_syntax::{BaseText, Name};
 use sequence::Sequence;
 use std::alloc::{AllocError, Global};
 
 /// The numbers below the count, in order.
-pub fn numbers_below(alloc: Global, count: u32) -> Result<Sequence<u32>, AllocError>
+fn numbers_below(alloc: Global, count: u32) -> Result<Sequence<u32>, AllocError>
     ensures { IfOk result (λ numbers. numbers ≡ range_with_len 0 count) }
 {
     let mut numbers = Vec::new(alloc);
@@ -25,42 +28,59 @@ pub fn numbers_below(alloc: Global, count: u32) -> Result<Sequence<u32>, AllocEr
     Ok(Sequence::from_vec(numbers))
 }
 
-/// The number of a letter, or the fault of a name that is no letter of the section.
-pub fn letter_number(alloc: Global, letters: &Names, name: &Name) -> Result<u32, ModelFault>
-    ensures { IsOutcome (unknown letters.now name.now) (number_of letters.now name.now) result }
-{
-    match letters.number(name.text.as_str()) {
-        Some(number) => Ok(number),
-        None => Err(unknown_name(alloc, name)),
+impl<'a> Renaming for Names<'a> {
+    type Letter = Name;
+
+    ghost number = { number_of };
+
+    ghost fault = { unknown };
+
+    fn letter(&self, alloc: Global, letter: &Name) -> Result<u32, ModelFault> {
+        match self.number(letter.text.as_str()) {
+            Some(number) => Ok(number),
+            None => Err(unknown_name(alloc, letter)),
+        }
     }
 }
 
-/// The numbers of letters, or the first fault among them.
-pub fn letter_numbers(
-    alloc: Global,
-    letters: &Names,
-    names: &[Name],
-) -> Result<Sequence<u32>, ModelFault>
-    ensures { IsOutcome (letters_fault letters.now names.now) (map (number_of letters.now) names.now) result }
+/// Whether one of the entries has this letter on the left.
+fn is_replaced(entries: &[(Name, Name)], name: &Name) -> bool
+    ensures { result ≡ list_any (λ entry. bytes_eq name.now.text entry.0.text) entries.now }
 {
-    let mut numbers = Vec::new(alloc);
-    'names: for name in names {
-        let number = letter_number(alloc, letters, name)?;
-        numbers.push(number)?;
-    }
-    Ok(Sequence::from_vec(numbers))
+    entries
+        .iter()
+        .any(|entry| name.text.as_str() == entry.0.text.as_str())
 }
 
-/// The numbers of two letters, or the first fault of them.
-pub fn two_numbers(
-    alloc: Global,
-    letters: &Names,
-    a: &Name,
-    b: &Name,
-) -> Result<(u32, u32), ModelFault>
-    ensures { IsOutcome (letters_fault letters.now (a.now ∷ b.now ∷ [])) (number_of letters.now a.now, number_of letters.now b.now) result }
-{
-    let first = letter_number(alloc, letters, a)?;
-    let second = letter_number(alloc, letters, b)?;
-    Ok((first, second))
+impl<'a> MoveRenaming for Names<'a> {
+    type Set = BaseText;
+
+    ghost letters = { λ _. base_names };
+
+    ghost numbers = { base_numbers };
+
+    ghost left_fault = { λ _ earlier. duplicate (map (λ before. before.0.text) earlier) };
+
+    fn set(&self, alloc: Global, set: &BaseText) -> Result<Sequence<u32>, ModelFault> {
+        match set {
+            BaseText::Letter(name) => {
+                let number = self.letter(alloc, name)?;
+                Ok(Sequence::from_vec(vec![in alloc; number]?))
+            }
+            BaseText::Set(names) => rename_letters(alloc, self, names.as_slice()),
+            BaseText::Any => Ok(numbers_below(alloc, self.len())?),
+        }
+    }
+
+    fn check_entry(
+        &self,
+        alloc: Global,
+        earlier: &[(Name, Name)],
+        entry: &(Name, Name),
+    ) -> Result<(), ModelFault> {
+        if is_replaced(earlier, &entry.0) {
+            return Err(duplicate_name(alloc, &entry.0));
+        }
+        Ok(())
+    }
 }

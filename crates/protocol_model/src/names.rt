@@ -5,15 +5,19 @@ ghost use Rattle.std.specs.Prelude.{◌≡◌, ◌+◌, ◌<◌, ◌≤◌, ℕ,
 ghost use Rattle.std.specs.List.{list_any, position_or_len};
 ghost use Rattle.std.specs.Str.{bytes_eq};
 ghost use Rattle.protocol_model.specs.Names.{is_name, is_word};
+ghost use Rattle.protocol_model.specs.declared.names.TheConstants.{MAX_NAMES};
 
 use forms::MAX_NAME_BYTES;
 use indexmap::IndexSet;
 use protocol_lexer::are_word_bytes;
-use protocol_syntax::keyword_of;
+use protocol_syntax::{MAX_RULES, keyword_of};
 use std::alloc::{AllocError, Global};
 use std::marker::Model;
 
-/// Distinct names, 256 at most, numbered from 0 in the order in which they were added.
+/// The most names that are numbered together: as many as there may be rules. Sections, and the letters of one, are no more.
+pub const MAX_NAMES: usize = MAX_RULES;
+
+/// Distinct names, no more than `MAX_NAMES`, numbered from 0 in the order in which they were added.
 #[derive(Drop)]
 pub struct Names<'a> {
     set: IndexSet<&'a str>,
@@ -24,7 +28,7 @@ impl<'a> Model for Names<'a> {
 
     ghost view = { λ names. map (λ key. key.now) names.set.keys };
 
-    ghost invariant = { λ names. length names.set.keys ≤ 256 };
+    ghost invariant = { λ names. length names.set.keys ≤ MAX_NAMES };
 }
 
 impl<'a> Names<'a> {
@@ -39,7 +43,7 @@ impl<'a> Names<'a> {
 
     /// Gives the name the next number, and says whether it had none before. A name that has one keeps it.
     pub fn add(&mut self, name: &'a str) -> Result<bool, AllocError>
-        requires { length self.old < 256 }
+        requires { length self.old < MAX_NAMES }
         ensures added { IfOk result (λ added. added ≡ not (list_any (bytes_eq name.now) self.old)) }
         ensures names { IfOk result (λ added. self.new ≡ (if added then self.old ++ name.now ∷ [] else self.old)) }
     {
@@ -65,14 +69,16 @@ impl<'a> Names<'a> {
     }
 }
 
-/// Whether the text is a name: 1 to 32 bytes, each a letter of ASCII, a digit or `_`, and no reserved word. It takes no memory.
+/// Whether the text is a name: 1 to `MAX_NAME_BYTES` bytes, each a letter of ASCII, a digit or `_`, and no reserved word.
+/// It takes no memory.
 pub fn is_name(text: &[u8]) -> bool
     ensures { result ≡ is_name text.now }
 {
     is_word(text) && keyword_of(text).is_none()
 }
 
-/// Whether the text is a word of 1 to 32 bytes, each a letter of ASCII, a digit or `_`, reserved or not. It takes no memory.
+/// Whether the text is a word of 1 to `MAX_NAME_BYTES` bytes, each a letter of ASCII, a digit or `_`, reserved or not.
+/// It takes no memory.
 pub fn is_word(text: &[u8]) -> bool
     ensures { result ≡ is_word text.now }
 {

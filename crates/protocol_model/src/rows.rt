@@ -2,44 +2,26 @@
 //! Each name is looked up once; whether an earlier part names the section is a search through them, so a row costs the square of its parts.
 
 ghost use Rattle.std.specs.Prelude.{◌≡◌, [], map};
-ghost use Rattle.protocol_model.specs.Numbering.{base_numbers, atom_of, part_of, row_of};
+ghost use Rattle.protocol_model.specs.Numbering.{atom_of, part_of, row_of};
 ghost use Rattle.protocol_model.specs.Faults.{base_fault, part_fault, row_fault, first_fault_of};
 ghost use Rattle.std.specs.List.{list_any};
 ghost use Rattle.std.specs.Str.{bytes_eq};
 ghost use Rattle.protocol_model.specs.Outcome.{IsOutcome};
 
 use crate::fault::ModelFault;
-use crate::letters::{letter_number, letter_numbers, numbers_below};
 use crate::names::Names;
+use crate::renaming::MoveRenaming;
 use crate::sections::{Sections, duplicate_name, unknown_name};
 use crate::system::{Atom, Pattern, Row};
-use protocol_syntax::{AtomText, BaseText, Name, PartText, RowText};
+use protocol_syntax::{AtomText, Name, PartText, RowText};
 use sequence::Sequence;
 use std::alloc::Global;
-
-/// The letters of an atom, or of those that may be lost.
-pub fn resolve_base(
-    alloc: Global,
-    letters: &Names,
-    base: &BaseText,
-) -> Result<Sequence<u32>, ModelFault>
-    ensures { IsOutcome (base_fault letters.now base.now) (base_numbers letters.now base.now) result }
-{
-    match base {
-        BaseText::Letter(name) => {
-            let number = letter_number(alloc, letters, name)?;
-            Ok(Sequence::from_vec(vec![in alloc; number]?))
-        }
-        BaseText::Set(names) => letter_numbers(alloc, letters, names.as_slice()),
-        BaseText::Any => Ok(numbers_below(alloc, letters.len())?),
-    }
-}
 
 /// An atom, where these are the letters of its section.
 fn resolve_atom(alloc: Global, letters: &Names, atom: &AtomText) -> Result<Atom, ModelFault>
     ensures { IsOutcome (base_fault letters.now atom.now.base) (atom_of letters.now atom.now) result }
 {
-    let numbers = resolve_base(alloc, letters, &atom.base)?;
+    let numbers = letters.set(alloc, &atom.base)?;
     Ok(Atom {
         letters: numbers,
         many: atom.many,

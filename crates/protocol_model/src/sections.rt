@@ -7,6 +7,7 @@ ghost use Rattle.protocol_model.specs.Numbering.{texts_of, section_names};
 ghost use Rattle.protocol_model.specs.Faults.{duplicate, is_among, section_fault, first_fault_of};
 ghost use Rattle.protocol_model.specs.Outcome.{IsOutcome, IsFault, IsSectionNamed};
 ghost use Rattle.protocol_model.specs.declared.fault.ModelFault.TheVariants as fault;
+ghost use Rattle.protocol_model.specs.declared.names.TheConstants.{MAX_NAMES};
 
 use crate::fault::ModelFault;
 use crate::names::Names;
@@ -86,7 +87,7 @@ pub fn unknown_name(alloc: Global, name: &Name) -> ModelFault
 
 /// The letters of a section by number, or the first of them that stands twice.
 fn letter_names<'a>(alloc: Global, letters: &'a [Name]) -> Result<Names<'a>, ModelFault>
-    requires { length letters.now ≤ 256 }
+    requires { length letters.now ≤ MAX_NAMES }
     ensures { IsOutcome (first_fault_of (λ before. duplicate (texts_of before)) [] letters.now) (texts_of letters.now) result }
 {
     let mut names = Names::new(alloc);
@@ -101,8 +102,8 @@ fn letter_names<'a>(alloc: Global, letters: &'a [Name]) -> Result<Names<'a>, Mod
 impl<'a> Sections<'a> {
     /// The sections by name, or the first name of a section or a letter that stands twice.
     pub fn new(alloc: Global, texts: &'a [SectionText]) -> Result<Sections<'a>, ModelFault>
-        requires few { length texts.now ≤ 256 }
-        requires few_letters { AllByRecursion (λ section. length section.letters ≤ 256) texts.now }
+        requires few { length texts.now ≤ MAX_NAMES }
+        requires few_letters { AllByRecursion (λ section. length section.letters ≤ MAX_NAMES) texts.now }
         ensures { IsOutcome (first_fault_of section_fault [] texts.now) texts.now result }
     {
         let mut numbers = Names::new(alloc);
