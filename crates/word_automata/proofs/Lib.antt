@@ -2,8 +2,10 @@ pub mod AsNondeterministic
 pub mod Building
 pub mod EdgeList
 pub mod Edges
+pub mod ForCallers
 pub mod Members
 pub mod Paths
 pub mod Rows
+pub mod RowsInOrder
 pub mod StateSets
 pub mod Targets

@@ -1,6 +1,6 @@
-//! Deterministic automata, whose states keep a list of edges sorted by letter.
+//! Deterministic automata, whose states keep a list of edges sorted by letter, each for itself or all in one list, as they were built.
 //! A letter is looked up by binary search, after a look at the last edge; an edge goes to its place, which is cheap at the end and else
-//! linear in the edges of the state. Up to four edges stand in the state itself, which takes less than 100 bytes then.
+//! linear in the edges of the state. Up to four edges stand in a state for itself, which takes less than 100 bytes then.
 
 ghost use Rattle.std.specs.Prelude.{◌≡◌, ◌↔◌, ◌+◌, ◌^◌, ◌<◌, ◌≤◌, ◌++◌, [], ◌∷◌, ℕ, true, length, OnOk, OnErr, IfOk, IfErr, IfSome, OnSome, IfNone, None, Some, IsSome};
 ghost use Rattle.std.specs.List.{insert};
@@ -9,6 +9,7 @@ ghost use Rattle.word_automata.specs.Automaton.{Automaton, accepts, target, IsVa
 ghost use Rattle.word_automata.specs.Building.{empty_automaton, with_state, edge_count, IsEdgeInRange, IsSecondEdge, AddsEdge, MakesAccepting};
 ghost use Rattle.word_automata.specs.EdgeList.{IsEdgeAt, IsGapFor};
 
+use crate::compressed_rows::CompressedRows;
 use crate::fault::BuildFault;
 use smallvec::SmallVec;
 use std::alloc::{AllocError, Global};
@@ -76,8 +77,104 @@ impl State {
     }
 }
 
+/// The states of an automaton: those with their own lists of edges, or else those with the edges of all in one list. It is no enum, whose
+/// variants each caller's proofs would have to tell apart where an automaton is dropped.
+#[derive(Debug, Drop)]
+struct States {
+    separate: Vec<State>,
+    rows: CompressedRows,
+}
+
+impl Model for States {
+    ghost use Rattle.std.specs.Prelude.{List, ℕ};
+    ghost use Rattle.word_automata.specs.Path.{Node};
+    ghost use Rattle.word_automata.specs.private.States.{nodes_of};
+
+    ghost Value = { List (Node ℕ) };
+
+    ghost view = { λ s. nodes_of s.separate.items s.rows };
+}
+
+impl States {
+    ghost use Rattle.std.specs.Prelude.{◌≡◌, ◌^◌, ◌<◌, length, IfOk};
+    ghost use Rattle.word_automata.specs.Path.{edges_of, is_accepting};
+
+    /// The states with their own lists of edges.
+    fn from_separate(alloc: Global, separate: Vec<State>) -> States
+        ensures { result ≡ separate.items }
+    {
+        States {
+            separate,
+            rows: CompressedRows::new(alloc),
+        }
+    }
+
+    /// The states with the edges of all in one list.
+    fn from_rows(alloc: Global, rows: CompressedRows) -> States
+        ensures { result ≡ rows }
+    {
+        States {
+            separate: Vec::new(alloc),
+            rows,
+        }
+    }
+
+    fn len(&self) -> usize
+        ensures count { result ≡ length self.now }
+        ensures small { length self.now < 2 ^ 63 }
+    {
+        if self.separate.is_empty() {
+            return self.rows.len();
+        }
+        self.separate.len()
+    }
+
+    fn accepting(&self, state: usize) -> bool
+        requires { state < length self.now }
+        ensures { result ≡ is_accepting self.now state }
+    {
+        if self.separate.is_empty() {
+            return self.rows.accepting(state);
+        }
+        let state: &State = &self.separate[state];
+        state.is_accepting()
+    }
+
+    fn edges(&self, state: usize) -> &[(u32, usize)]
+        requires { state < length self.now }
+        ensures { result.now ≡ edges_of self.now state }
+    {
+        if self.separate.is_empty() {
+            return self.rows.edges(state);
+        }
+        let state: &State = &self.separate[state];
+        state.edges()
+    }
+
+    /// The same states.
+    fn copy(&self, alloc: Global) -> Result<States, AllocError>
+        ensures { IfOk result (λ copy. copy ≡ self.now) }
+    {
+        Ok(States {
+            separate: copied(alloc, &self.separate)?,
+            rows: self.rows.copy(alloc)?,
+        })
+    }
+}
+
+/// The same states.
+fn copied(alloc: Global, states: &[State]) -> Result<Vec<State>, AllocError>
+    ensures { IfOk result (λ copy. copy.items ≡ states.now) }
+{
+    let mut copy = Vec::with_capacity(alloc, states.len())?;
+    'states: for state in states {
+        copy.push(state.copy(alloc)?)?;
+    }
+    Ok(copy)
+}
+
 /// The place of the edge with this letter among edges sorted by letter, or else the place where such an edge would go.
-fn search(edges: &[(u32, usize)], letter: u32) -> Result<usize, usize>
+pub(crate) fn search(edges: &[(u32, usize)], letter: u32) -> Result<usize, usize>
     requires { HasIncreasingLetters edges.now }
     ensures found { IfOk result (IsEdgeAt edges.now letter) }
     ensures absent { IfErr result (IsGapFor edges.now letter) }
@@ -94,7 +191,7 @@ fn search(edges: &[(u32, usize)], letter: u32) -> Result<usize, usize>
 pub struct Dfa {
     letters: u32,
     edge_count: usize,
-    states: Vec<State>,
+    states: States,
 }
 
 impl Model for Dfa {
@@ -103,9 +200,9 @@ impl Model for Dfa {
 
     ghost Value = { Automaton };
 
-    ghost view = { λ d. record { letters = d.letters; states = d.states.items } };
+    ghost view = { λ d. record { letters = d.letters; states = d.states } };
 
-    ghost invariant = { λ d. IsValidWithEdges (record { letters = d.letters; states = d.states.items }) d.edge_count };
+    ghost invariant = { λ d. IsValidWithEdges (record { letters = d.letters; states = d.states }) d.edge_count };
 }
 
 impl Dfa {
@@ -154,8 +251,7 @@ impl Dfa {
         requires { state < length self.now.states }
         ensures { result ≡ is_accepting self.now.states state }
     {
-        let state: &State = &self.states[state];
-        state.is_accepting()
+        self.states.accepting(state)
     }
 
     /// The edges of the state, each a letter and a target, sorted by letter.
@@ -164,8 +260,7 @@ impl Dfa {
         ensures edges { result.now ≡ edges_of self.now.states state }
         ensures valid { IsValid self.now }
     {
-        let state: &State = &self.states[state];
-        state.edges()
+        self.states.edges(state)
     }
 
     /// Where the letter leads from the state, if anywhere. It takes time logarithmic in the number of the state's edges.
@@ -185,15 +280,23 @@ impl Dfa {
     pub fn copy(&self, alloc: Global) -> Result<Dfa, AllocError>
         ensures { IfOk result (λ copy. copy ≡ self.now) }
     {
-        let mut states = Vec::with_capacity(alloc, self.states.len())?;
-        'states: for state in &self.states {
-            states.push(state.copy(alloc)?)?;
-        }
         Ok(Dfa {
             letters: self.letters,
             edge_count: self.edge_count,
-            states,
+            states: self.states.copy(alloc)?,
         })
+    }
+
+    /// The automaton over the letters with these states.
+    pub(crate) fn from_rows(alloc: Global, letters: u32, rows: CompressedRows) -> Dfa
+        requires { IsValid (record { letters = letters; states = rows }) }
+        ensures { result ≡ record { letters = letters; states = rows } }
+    {
+        Dfa {
+            letters,
+            edge_count: rows.edge_count(),
+            states: States::from_rows(alloc, rows),
+        }
     }
 }
 
@@ -318,7 +421,7 @@ impl DfaBuilder {
         Dfa {
             letters: self.letters,
             edge_count: self.edge_count,
-            states: self.states,
+            states: States::from_separate(self.alloc, self.states),
         }
     }
 
