@@ -3,7 +3,7 @@ use Rattle.std.proofs.Common.{◌≡◌, ◌≤◌, ℕ, Bool, false, List, [], 
 use Rattle.std.proofs.lemmas.List.{nil_from_length}
 use Rattle.std.proofs.lemmas.Option.{slice_get_within}
 use Rattle.word_automata.specs.Automaton.{Automaton, target, accepts_from, accepts}
-use Rattle.exploration.specs.System.{look_up}
+use Rattle.exploration.specs.DeterministicSystem.{look_up}
 use Rattle.exploration.specs.Residuals.{StartsWith, AreResiduals}
 use Rattle.exploration.specs.Numbering.{IsBreadthFirst, StandsForLanguages}
 use Rattle.exploration.specs.private.Worklist.{IsPlaceOf, Explored}

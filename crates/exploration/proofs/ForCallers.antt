@@ -1,5 +1,6 @@
 -- What proofs of other crates take from here: lists of letters with states, places in lists, successors told by edges, runs, the order
 -- of words, and states that a set takes in.
+pub use Rattle.exploration.proofs.Chains.{index-zeros}
 pub use Rattle.exploration.proofs.Lists.{look_up-here, look_up-there, look_up-above, look_up-below, look_up-beneath, look_up-push_same, look_up-push_other}
 pub use Rattle.exploration.proofs.Lists.{slice_get-some, slice_get-append, slice_get-append_below, slice_get-push, slice_get-push_cases}
 pub use Rattle.exploration.proofs.Runs.{accepts_from-append, run_from-accepted}

@@ -1,5 +1,6 @@
 pub mod ForCallers
 pub mod Words
+pub mod WrittenNumbers
 pub mod Runs
 pub mod FirstEdges
 pub mod Lists
@@ -7,3 +8,5 @@ pub mod Explored
 pub mod Steps
 pub mod Finished
 pub mod Successors
+pub mod Buckets
+pub mod Chains

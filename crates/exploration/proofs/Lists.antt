@@ -4,7 +4,7 @@ use Rattle.std.proofs.lemmas.Bool.{cases_eq, or_left, or_right}
 use Rattle.std.proofs.Math.Seq.{get_or-append_seam}
 use Rattle.std.proofs.lemmas.List.Elements.{All-nil, All-cons, All-head, All-tail}
 use Rattle.std.specs.List.{list_any}
-use Rattle.exploration.specs.System.{look_up, HasIncreasingLetters}
+use Rattle.exploration.specs.DeterministicSystem.{look_up, HasIncreasingLetters}
 
 module _ {X : Type 0} where
   -- a place that a list has keeps its element when the list grows

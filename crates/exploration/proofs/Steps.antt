@@ -9,7 +9,7 @@ use Rattle.indexmap.specs.IndexSet.{insert_key}
 use Rattle.word_automata.specs.Path.{Node, edges_of, is_accepting}
 use Rattle.word_automata.specs.Automaton.{Automaton, target, find_target}
 use Rattle.word_automata.specs.Building.{AddsEdge, IsEdgeInRange, with_state, empty_automaton}
-use Rattle.exploration.specs.System.{look_up}
+use Rattle.exploration.specs.DeterministicSystem.{look_up}
 use Rattle.exploration.specs.Residuals.{StartsWith, AreResiduals}
 use Rattle.exploration.specs.private.Worklist.{IsEarlier, FirstEdges, IsPlaceOf, Explored, Expands, Numbers}
 use Rattle.exploration.proofs.Explored.{AddsTarget, adds_target, FirstEdges-kept, FirstEdges-added}
@@ -334,6 +334,14 @@ module _ {S : Type 0} (letters : ℕ) (accepted : List ℕ → Type 0) (language
         by : Numbers language found new m after s number → target after next letter ≡ None
         by (inl k) = subst (λ x. target x next letter ≡ None) (sym k.same_automaton) none
         by (inr k) = subst (λ x. target x next letter ≡ None) (sym k.automaton) (target-with_state m k.flag next letter ∙ none)
+
+    -- nor is there any edge from a later state
+    pub none_later : (q a : ℕ) → next < q → target after q a ≡ None
+    none_later q a later = by numbers
+      where
+        by : Numbers language found new m after s number → target after q a ≡ None
+        by (inl k) = subst (λ x. target x q a ≡ None) (sym k.same_automaton) (e.explored.later q a later)
+        by (inr k) = subst (λ x. target x q a ≡ None) (sym k.automaton) (target-with_state m k.flag q a ∙ e.explored.later q a later)
 
     -- and the edge may be added
     pub edge_in_range : IsEdgeInRange after next letter number

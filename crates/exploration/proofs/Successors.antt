@@ -5,7 +5,7 @@ use Rattle.std.proofs.lemmas.List.Elements.{All-nil, All-cons, All-head, All-tai
 use Rattle.std.specs.List.{filter_map, cons_option}
 use Rattle.std.specs.Option.{option_map, option_and_then}
 use Rattle.word_automata.specs.Automaton.{find_target, HasIncreasingLetters as HasIncreasingEdges}
-use Rattle.exploration.specs.System.{System, look_up, HasIncreasingLetters, IsSuccessors}
+use Rattle.exploration.specs.DeterministicSystem.{DeterministicSystem, look_up, HasIncreasingLetters, IsSuccessors}
 use Rattle.exploration.proofs.Lists.{look_up-here, look_up-there, look_up-beneath}
 
 -- the list of the edges of an automaton is one of letters and states
@@ -73,7 +73,8 @@ module _ {R S : Type 0} (f : ℕ → R → Option S) where
           unfold_first (Some s) e ∙ look_up-there (edge.0, s) (filter_map moved edges) a other ∙ rest ∙ ap (option_and_then (f a)) (sym (look_up-there edge edges a other))
 
   -- so they are the successors of a state whose steps are those of the edges
-  pub IsSuccessors-moved : (t : System S) (P : S → Type 0) (s : S) (edges : List (ℕ × R)) → HasIncreasingLetters edges → All (λ edge. edge.0 < t.letters) edges
+  pub IsSuccessors-moved : (t : DeterministicSystem S) (P : S → Type 0) (s : S) (edges : List (ℕ × R))
+      → HasIncreasingLetters edges → All (λ edge. edge.0 < t.letters) edges
       → All (λ edge. (r : S) → f edge.0 edge.1 ≡ Some r → P r) edges → ((a : ℕ) → option_and_then (f a) (look_up edges a) ≡ t.step s a) → IsSuccessors t P s (filter_map moved edges)
   IsSuccessors-moved t P s edges increasing letters states steps = record {
     increasing = HasIncreasingLetters-moved edges increasing;

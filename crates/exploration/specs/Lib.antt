@@ -1,4 +1,5 @@
-pub mod System
+pub mod DeterministicSystem
+pub mod Incoming
 pub mod Numbering
 pub mod Residuals
 pub mod private

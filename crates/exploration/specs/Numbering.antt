@@ -2,7 +2,7 @@
 use Rattle.std.specs.Prelude.{◌≡◌, ◌↔◌, ◌<◌, ℕ, List, [], ◌∷◌, Option, None, Some, length, slice_get, IsTrue}
 use Rattle.sequence.specs.WordOrder.{is_before, IsLeastWord}
 use Rattle.word_automata.specs.Automaton.{Automaton, target, accepts_from}
-use Rattle.exploration.specs.System.{System, accepts_by_from}
+use Rattle.exploration.specs.DeterministicSystem.{DeterministicSystem, accepts_by_from}
 
 -- the state to which the word leads from the state, if it leads anywhere
 abbrev pub run_from : Automaton → ℕ → List ℕ → Option ℕ
@@ -21,7 +21,7 @@ pub record IsBreadthFirst (m : Automaton) : Type 0 where
 
 -- each state of the automaton stands for a state of the system that has the property P, no two for the same one,
 -- and accepts what the system accepts from there
-pub record StandsFor {S : Type 0} (t : System S) (P : S → Type 0) (m : Automaton) : Type 0 where
+pub record StandsFor {S : Type 0} (t : DeterministicSystem S) (P : S → Type 0) (m : Automaton) : Type 0 where
   pub found : List S
   pub count : length found ≡ length m.states
   pub states : (q : ℕ) (s : S) → slice_get found q ≡ Some s → P s

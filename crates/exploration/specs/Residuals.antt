@@ -1,6 +1,6 @@
 -- Systems whose states stand for languages, and whose letters lead to states that stand for what may follow the letter.
 use Rattle.std.specs.Prelude.{◌≡◌, ◌<◌, ◌↔◌, ℕ, List, ◌∷◌, Option, None, Some, All}
-use Rattle.exploration.specs.System.{look_up, HasIncreasingLetters}
+use Rattle.exploration.specs.DeterministicSystem.{look_up, HasIncreasingLetters}
 
 -- the start state's language is that of the system; without a start state no word is accepted
 abbrev pub StartsWith : {S : Type 0} → (List ℕ → Type 0) → (S → List ℕ → Type 0) → Option S → Type 0

@@ -1,2 +1,5 @@
 -- What only contracts of private functions cite.
+pub mod Chains
+pub mod NumberHasher
+pub mod StateTable
 pub mod Worklist

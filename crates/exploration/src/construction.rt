@@ -1,21 +1,21 @@
 //! The construction of an automaton from a transition system, breadth first: each state that is found gets the next number, and its
-//! successors are looked up by code or by hash. It costs time linear in the edges that are reached, on average.
+//! successors are looked up by their hashes. It costs time linear in the edges that are reached, on average.
 
 ghost use Rattle.std.specs.Prelude.{◌≡◌, ◌↔◌, ◌<◌, ◌+◌, ℕ, List, [], length, IsTrue, IfOk, OnOk};
 ghost use Rattle.word_automata.specs.Automaton.{accepts, IsValid};
 ghost use Rattle.word_automata.specs.Building.{empty_automaton};
-ghost use Rattle.exploration.specs.System.{accepts_by};
+ghost use Rattle.exploration.specs.DeterministicSystem.{accepts_by};
 ghost use Rattle.exploration.specs.Numbering.{IsBreadthFirst, StandsFor, StandsForLanguages};
 ghost use Rattle.exploration.specs.private.Worklist.{Explored, Numbers};
 
 use crate::found_states::stands_at;
 use crate::language_system::LanguageSystem;
-use crate::place_table::PlaceTable;
+use crate::number_hasher::hash_of;
+use crate::state_table::StateTable;
 use crate::stepwise::Stepwise;
 use crate::transition_system::TransitionSystem;
-use indexmap::IndexSet;
 use std::alloc::{AllocError, Global};
-use word_automata::{Dfa, DfaBuilder};
+use word_automata::{Dfa, RowBuilder};
 
 /// The automaton of the states of the system that are reached from its start state, with the same language from each. States are
 /// numbered breadth first, letters in increasing order. Each state of the automaton stands for one of the system; that no two of these
@@ -40,13 +40,12 @@ pub fn explore_languages<T: LanguageSystem>(alloc: Global, system: &T) -> Result
     ensures breadth_first { IfOk result IsBreadthFirst }
     ensures states { IfOk result (StandsForLanguages (T.language system.now) (T.is_state system.now)) }
 {
-    let mut found = IndexSet::new(alloc);
-    let mut places = PlaceTable::new(alloc, system.codes())?;
-    let mut builder = DfaBuilder::new(alloc, system.letters());
-    begin(alloc, system, &mut found, &mut places, &mut builder)?;
+    let mut found = StateTable::new(alloc)?;
+    let mut builder = RowBuilder::new(alloc, system.letters());
+    begin(alloc, system, &mut found, &mut builder)?;
     let mut next = 0;
     'states: while next < builder.states() {
-        expand(alloc, system, &mut found, &mut places, &mut builder, next)?;
+        expand(alloc, system, &mut found, &mut builder, next)?;
         next += 1;
     }
     Ok(builder.finish())
@@ -56,18 +55,17 @@ pub fn explore_languages<T: LanguageSystem>(alloc: Global, system: &T) -> Result
 fn begin<T: LanguageSystem>(
     alloc: Global,
     system: &T,
-    found: &mut IndexSet<T::State>,
-    places: &mut PlaceTable,
-    builder: &mut DfaBuilder,
+    found: &mut StateTable<T::State>,
+    builder: &mut RowBuilder,
 ) -> Result<(), AllocError>
-    requires none { found.old.keys ≡ [] }
+    requires none { found.old ≡ [] }
     requires empty { builder.old ≡ empty_automaton (T.letter_count system.now) }
     ensures { OnOk result (Explored (T.letter_count system.now) (T.accepted system.now)
-        (T.language system.now) (T.is_state system.now) found.new.keys builder.new 0 []) }
+        (T.language system.now) (T.is_state system.now) found.new builder.new 0 []) }
 {
     match system.start(alloc)? {
         Some(start) => {
-            number(system, found, places, builder, start, 0)?;
+            number(system, found, builder, start, 0)?;
             Ok(())
         }
         None => Ok(()),
@@ -78,21 +76,20 @@ fn begin<T: LanguageSystem>(
 fn expand<T: LanguageSystem>(
     alloc: Global,
     system: &T,
-    found: &mut IndexSet<T::State>,
-    places: &mut PlaceTable,
-    builder: &mut DfaBuilder,
+    found: &mut StateTable<T::State>,
+    builder: &mut RowBuilder,
     from: usize,
 ) -> Result<(), AllocError>
-    requires there { from < length found.old.keys }
+    requires there { from < length found.old }
     requires before { Explored (T.letter_count system.now) (T.accepted system.now)
-        (T.language system.now) (T.is_state system.now) found.old.keys builder.old from [] }
+        (T.language system.now) (T.is_state system.now) found.old builder.old from [] }
     ensures { OnOk result (Explored (T.letter_count system.now) (T.accepted system.now)
-        (T.language system.now) (T.is_state system.now) found.new.keys builder.new (from + 1) []) }
+        (T.language system.now) (T.is_state system.now) found.new builder.new (from + 1) []) }
 {
     let successors = system.successors(alloc, &found.as_slice()[from])?;
     let mut last = from;
     'successors: for (letter, state) in successors {
-        let to = number(system, found, places, builder, state, last)?;
+        let to = number(system, found, builder, state, last)?;
         builder.add_edge(from, letter, to)?;
         last = to;
     }
@@ -100,45 +97,27 @@ fn expand<T: LanguageSystem>(
 }
 
 /// The number of the state, which is a new one where it was not found before. The state with the number `last` is looked at first,
-/// since neighbouring letters often lead to one state, and then the place that the table has, where states have codes. Only then is the
-/// state hashed.
+/// since neighbouring letters often lead to one state. Only then is the state hashed.
 fn number<T: LanguageSystem>(
     system: &T,
-    found: &mut IndexSet<T::State>,
-    places: &mut PlaceTable,
-    builder: &mut DfaBuilder,
+    found: &mut StateTable<T::State>,
+    builder: &mut RowBuilder,
     state: T::State,
     last: usize,
 ) -> Result<usize, AllocError>
     requires { T.is_state system.now state }
-    ensures { IfOk result (Numbers (T.language system.now) found.old.keys found.new.keys builder.old builder.new state) }
+    ensures { IfOk result (Numbers (T.language system.now) found.old found.new builder.old builder.new state) }
 {
     if stands_at(found.as_slice(), last, &state) {
         return Ok(last);
     }
-    if system.codes() > 0 {
-        let known = places.place_of(system.code(&state), found.len())?;
-        if stands_at(found.as_slice(), known, &state) {
-            return Ok(known);
-        }
+    let hash = hash_of(&state);
+    if let Some(known) = found.find(hash, &state) {
+        return Ok(known);
     }
-    Ok(find(system, found, builder, state)?)
-}
-
-/// The number of the state, which is a new one where it was not found before.
-fn find<T: LanguageSystem>(
-    system: &T,
-    found: &mut IndexSet<T::State>,
-    builder: &mut DfaBuilder,
-    state: T::State,
-) -> Result<usize, AllocError>
-    requires { T.is_state system.now state }
-    ensures { IfOk result (Numbers (T.language system.now) found.old.keys found.new.keys builder.old builder.new state) }
-{
-    let (number, is_new) = found.insert_full(state)?;
-    if is_new {
-        let accepting = system.is_accepting(&found.as_slice()[number]);
-        builder.state(accepting)?;
-    }
+    let number = found.as_slice().len();
+    let accepting = system.is_accepting(&state);
+    found.push(hash, state)?;
+    builder.state(accepting)?;
     Ok(number)
 }

@@ -15,8 +15,8 @@ pub struct FoundStates<S> {
 }
 
 impl<S: Copy + Eq + Drop> FoundStates<S> {
-    /// No state yet. Codes are to be below `codes`; others cost more when they are looked up. Where `codes` is at most 1,048,576, time
-    /// and memory are linear in it, and else constant. `AllocError` where memory runs out.
+    /// No state yet, in constant time and memory. Codes are to be below `codes`; others may cost more when they are looked up.
+    /// `AllocError` where memory runs out.
     pub fn new(alloc: Global, codes: usize) -> Result<FoundStates<S>, AllocError>
         ensures { IfOk result (λ found. found.states.items ≡ []) }
     {

@@ -47,15 +47,5 @@ pub trait LanguageSystem {
         ensures { IfOk result (λ pairs. AreResiduals
             (letter_count self.now) (language self.now) (is_state self.now) state.now pairs.items) };
 
-    /// A number above all codes, or 0 where states have no codes: where it is small, states are looked up without hashing.
-    fn codes(&self) -> usize {
-        0
-    }
-
-    /// The code of the state. States that share a code are told apart all the same, but cost more.
-    fn code(&self, _state: &Self::State) -> usize {
-        0
-    }
-
     ghost equality: { (x y : Self.State) → Self.State.eq x y ≡ true → x ≡ y };
 }

@@ -1,12 +1,13 @@
-//! A table of places in a list by the codes of what stands there. Where there are few codes, it has a place for each; else codes are
-//! hashed by a multiplication (Knuth, The Art of Computer Programming, volume 3, section 6.4) into slots, which are tried one after the
-//! other and of which at most half are taken. A look-up takes constant time, on average. Nothing is promised of what it answers: who
-//! looks something up compares it with what stands at the place.
+//! A table of places in a list by the codes of what stands there. Codes are hashed by a multiplication (Knuth, The Art of Computer
+//! Programming, volume 3, section 6.4) into slots, which are tried one after the other and of which at most half are taken; where the
+//! slots would take as much memory as a place for each code, the table has a place for each code from then on. A look-up takes constant
+//! time, on average, and the table memory linear in the places. Nothing is promised of what it answers: who looks something up compares
+//! it with what stands at the place.
 
 use std::alloc::{AllocError, Global};
 
-/// So many codes, or fewer, have a place each.
-const MOST_DENSE: usize = 1_048_576;
+/// So many codes have a place each for what one slot takes.
+const CODES_IN_SLOT: usize = 4;
 
 /// The slots of the first table of hashed codes.
 const FIRST_SLOTS: usize = 64;
@@ -24,6 +25,7 @@ type Slot = (usize, u32);
 #[derive(Drop)]
 pub(crate) struct PlaceTable {
     alloc: Global,
+    codes: usize,
     dense: Vec<u32>,
     slots: Vec<Slot>,
 }
@@ -31,12 +33,16 @@ pub(crate) struct PlaceTable {
 impl PlaceTable {
     /// A table without a place, for codes below the number.
     pub(crate) fn new(alloc: Global, codes: usize) -> Result<PlaceTable, AllocError> {
-        let dense = if codes <= MOST_DENSE { codes } else { 0 };
-        Ok(PlaceTable {
+        let mut table = PlaceTable {
             alloc,
-            dense: vec![in alloc; NO_PLACE; dense]?,
+            codes,
+            dense: Vec::new(alloc),
             slots: Vec::new(alloc),
-        })
+        };
+        if codes / CODES_IN_SLOT <= FIRST_SLOTS {
+            table.spread()?;
+        }
+        Ok(table)
     }
 
     /// The place of the code, or a number past all places.
@@ -56,18 +62,44 @@ impl PlaceTable {
         if next >= NO_PLACE as usize {
             return Err(AllocError);
         }
-        if code < self.dense.len() {
-            return Ok(take_place(&mut self.dense[code], next as u32) as usize);
-        }
-        if next >= self.slots.len() / 2 {
+        if next >= self.slots.len() / 2 && self.dense.is_empty() {
             self.grow()?;
         }
-        Ok(take_slot(self.slots.as_mut_slice(), code, next as u32) as usize)
+        Ok(self.take(code, next as u32) as usize)
     }
 
-    /// Doubles the slots.
+    /// The place of the code, or the next place, which is the code's from now on.
+    fn take(&mut self, code: usize, next: u32) -> u32 {
+        match self.dense.get_mut(code) {
+            Some(place) => take_place(place, next),
+            None => take_slot(self.slots.as_mut_slice(), code, next),
+        }
+    }
+
+    /// Doubles the slots, or makes a place for each code where that takes no more memory.
     fn grow(&mut self) -> Result<(), AllocError> {
         let count = self.slots.len().saturating_mul(2).max(FIRST_SLOTS);
+        if self.codes / CODES_IN_SLOT <= count {
+            return self.spread();
+        }
+        self.double(count)
+    }
+
+    /// Makes a place for each code.
+    fn spread(&mut self) -> Result<(), AllocError> {
+        let mut dense = vec![in self.alloc; NO_PLACE; self.codes]?;
+        'slots: for &(code, place) in &self.slots {
+            if place != NO_PLACE && code < dense.len() {
+                dense[code] = place;
+            }
+        }
+        self.dense = dense;
+        self.slots = Vec::new(self.alloc);
+        Ok(())
+    }
+
+    /// Makes so many slots.
+    fn double(&mut self, count: usize) -> Result<(), AllocError> {
         let mut slots = vec![in self.alloc; (0, NO_PLACE); count]?;
         'slots: for &(code, place) in &self.slots {
             if place != NO_PLACE {

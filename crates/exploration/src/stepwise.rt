@@ -2,7 +2,7 @@
 //! Each call hands on to the system, and costs what it costs there.
 
 ghost use Rattle.std.specs.Prelude.{ℕ, List, IsTrue};
-ghost use Rattle.exploration.specs.System.{accepts_by, accepts_by_from};
+ghost use Rattle.exploration.specs.DeterministicSystem.{accepts_by, accepts_by_from};
 
 use crate::language_system::LanguageSystem;
 use crate::transition_system::TransitionSystem;
@@ -43,14 +43,6 @@ impl<'a, T: TransitionSystem> LanguageSystem for Stepwise<'a, T> {
         state: &T::State,
     ) -> Result<Vec<(u32, T::State)>, AllocError> {
         self.system.successors(alloc, state)
-    }
-
-    fn codes(&self) -> usize {
-        self.system.codes()
-    }
-
-    fn code(&self, state: &T::State) -> usize {
-        self.system.code(state)
     }
 
     ghost equality = { T.TransitionSystem.equality };

@@ -2,7 +2,7 @@
 //! The trait has no code of its own; what a call costs is the implementation's.
 
 ghost use Rattle.std.specs.Prelude.{◌≡◌, true, IfOk, IfSome};
-ghost use Rattle.exploration.specs.System.{System, IsSuccessors};
+ghost use Rattle.exploration.specs.DeterministicSystem.{DeterministicSystem, IsSuccessors};
 
 use std::alloc::{AllocError, Global};
 use std::hash::Hash;
@@ -13,7 +13,7 @@ use std::hash::Hash;
 pub trait TransitionSystem {
     type State: Eq + Hash + Drop;
 
-    ghost system: { Self → System Self.State };
+    ghost system: { Self → DeterministicSystem Self.State };
 
     ghost is_state: { Self → Self.State → Type 0 };
 
@@ -39,16 +39,6 @@ pub trait TransitionSystem {
     ) -> Result<Vec<(u32, Self::State)>, AllocError>
         requires { is_state self.now state.now }
         ensures { IfOk result (λ pairs. IsSuccessors (system self.now) (is_state self.now) state.now pairs.items) };
-
-    /// A number above all codes, or 0 where states have no codes: where it is small, states are looked up without hashing.
-    fn codes(&self) -> usize {
-        0
-    }
-
-    /// The code of the state. States that share a code are told apart all the same, but cost more.
-    fn code(&self, _state: &Self::State) -> usize {
-        0
-    }
 
     ghost equality: { (x y : Self.State) → Self.State.eq x y ≡ true → x ≡ y };
 }

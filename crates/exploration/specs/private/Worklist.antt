@@ -3,7 +3,7 @@ use Rattle.std.specs.Prelude.{◌≡◌, ◌<◌, ◌⊎◌, ◌↔◌, ℕ, Boo
 use Rattle.word_automata.specs.Path.{is_accepting}
 use Rattle.word_automata.specs.Automaton.{Automaton, target}
 use Rattle.word_automata.specs.Building.{with_state}
-use Rattle.exploration.specs.System.{look_up}
+use Rattle.exploration.specs.DeterministicSystem.{look_up}
 use Rattle.exploration.specs.Residuals.{StartsWith, AreResiduals}
 
 -- the edge, a state and a letter, comes before the one from r under b: it leaves an earlier state, or the same under a smaller letter

@@ -8,7 +8,7 @@ pub returns-in_ok-number-in-Some : goal.returns-in_ok-number-in-Some
 returns-in_ok-number-in-Some g c =
     let system = c.args.system.now in
     let t = g.T.LanguageSystem in
-    begun_numbered (t.letter_count system) (t.accepted system) (t.language system) (t.is_state system) c.args.found.now.keys c.number.new.found.keys
+    begun_numbered (t.letter_count system) (t.accepted system) (t.language system) (t.is_state system) c.args.found.now c.number.new.found
     c.args.builder.now c.number.new.builder c.in-Some.start c.in_ok-number-in-Some.field-0 c.requires.none c.requires.empty
     (subst (StartsWith (t.accepted system) (t.language system)) c.in-Some.is c.in_ok-start.ensures.start) (rw c.in-Some.is at c.in_ok-start.ensures.state) c.in_ok-number-in-Some.ensures
 

@@ -5,7 +5,7 @@ use Rattle.exploration.proofs.construction.explore_languages.Given as goal
 abbrev pub invariant-states : goal.invariant-states
 invariant-states g l =
     Explored (g.T.LanguageSystem.letter_count l.system) (g.T.LanguageSystem.accepted l.system) (g.T.LanguageSystem.language l.system) (g.T.LanguageSystem.is_state l.system)
-    l.found.keys l.builder l.next []
+    l.found l.builder l.next []
 
 abbrev pub decreases-states : goal.decreases-states
 decreases-states g l = 2 ^ 64 - l.next
