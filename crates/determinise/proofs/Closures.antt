@@ -6,8 +6,8 @@ use Rattle.std.proofs.lemmas.List.Elements.{All-contains}
 use Rattle.std.specs.Option.{is_some}
 use Rattle.word_automata.specs.Nondeterministic.{NondeterministicAutomaton}
 use Rattle.word_automata.specs.StateSets.{AreStates, IsClosure, AddsTargets}
-use Rattle.determinise.specs.private.Subsets.{IsPlain, ArePlainWhereFalse, IsSubsetFrom}
-use Rattle.word_automata.proofs.Members.{All-from_contains}
+use Rattle.determinise.specs.private.Subsets.{IsPlain, ArePlainWhereFalse, IsSubsetFrom, LeadsTo}
+use Rattle.word_automata.proofs.ForCallers.{All-from_contains, Contains-cases, Contains-none}
 
 -- members of a list of states are states
 pub AreStates-members : (n : NondeterministicAutomaton) (xs ys : List ℕ) → ((q : ℕ) → Contains ys q → Contains xs q) → AreStates n xs → AreStates n ys
@@ -51,6 +51,18 @@ subset_itself n states are plain = record {
     reached = λ q there. (q, [], there, refl, refl);
   };
 }
+
+-- one state without such edges, to which the targets lead
+pub leads_to_one : (n : NondeterministicAutomaton) (targets : List ℕ) (to : ℕ) → targets ≡ to ∷ [] → AreStates n targets → IsPlain n to → LeadsTo n targets (to ∷ [])
+leads_to_one n targets to is are plain = record {
+  kept = targets;
+  same_words = λ w. ((λ accepted. accepted), (λ accepted. accepted));
+  from = subst (λ xs. IsSubsetFrom n targets xs) is (subset_itself n targets are (λ p there. by p (Contains-cases to [] p (subst (λ xs. Contains xs p) is there))));
+}
+  where
+    by : (p : ℕ) → (to ≡ p) ⊎ Contains [] p → IsPlain n p
+    by p (inl same) = subst (IsPlain n) same plain
+    by p (inr none) = absurd (Contains-none p none)
 
 -- one more flag
 pub plain_more : (n : NondeterministicAutomaton) (flags : List Bool) (flag : Bool) (state : ℕ) → length flags ≡ state → ArePlainWhereFalse n flags → (flag ≡ false → IsPlain n state)

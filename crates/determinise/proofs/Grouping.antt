@@ -6,10 +6,9 @@ use Rattle.std.proofs.lemmas.List.Elements.{All-nil, All-head, All-tail, All-pus
 use Rattle.word_automata.specs.Path.{edges_of}
 use Rattle.word_automata.specs.Nondeterministic.{NondeterministicAutomaton, AcceptsFromAny}
 use Rattle.word_automata.specs.StateSets.{AreStates, IsStep}
-use Rattle.word_automata.proofs.Members.{Contains-none, Contains-map, Contains-map_cases, All-from_contains}
-use Rattle.word_automata.proofs.Rows.{All-edges_of}
-use Rattle.word_automata.proofs.StateSets.{step_accepts, closure_accepts, move_within}
-use Rattle.exploration.specs.System.{look_up, HasIncreasingLetters}
+use Rattle.word_automata.proofs.ForCallers.{Contains-none, Contains-map, Contains-map_cases, All-from_contains, All-edges_of, step_accepts}
+use Rattle.word_automata.proofs.ForCallers.{closure_accepts, move_within}
+use Rattle.exploration.specs.DeterministicSystem.{look_up, HasIncreasingLetters}
 use Rattle.exploration.specs.Residuals.{AreResiduals}
 use Rattle.exploration.proofs.ForCallers.{look_up-above, look_up-below, look_up-push_same, look_up-push_other}
 use Rattle.determinise.specs.private.Subsets.{IsSubset, IsSubsetFrom, letter_of, AreOrderedMoves, IsRun}

@@ -1,4 +1,5 @@
 pub mod Closures
 pub mod Digests
+pub mod ForCallers
 pub mod Grouping
 pub mod MoveLists

@@ -8,7 +8,7 @@ use Rattle.std.proofs.lemmas.Option.{some_pair_parts}
 use Rattle.std.specs.List.{filter_map, flat_map, cons_option}
 use Rattle.word_automata.specs.Path.{edges_of}
 use Rattle.word_automata.specs.Nondeterministic.{NondeterministicAutomaton}
-use Rattle.word_automata.proofs.Members.{Contains-cases, Contains-here, Contains-there, Contains-none}
+use Rattle.word_automata.proofs.ForCallers.{Contains-cases, Contains-here, Contains-there, Contains-none}
 use Rattle.determinise.specs.private.Subsets.{lettered_move, moves_from, order_key, letter_of, HasOrderedLetters, IsRun}
 
 -- one more edge

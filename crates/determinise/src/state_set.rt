@@ -1,13 +1,16 @@
 //! Sets of states as the states of the construction. A set is hashed by one number, which a multiplication and an exclusive or a
-//! state make (G. Fowler, L. C. Noll and K.-P. Vo, 1991), and only that number goes through the hasher.
+//! state make (G. Fowler, L. C. Noll and K.-P. Vo, 1991), and only that number goes through the hasher. A set of one state takes no
+//! memory of its own.
 
-ghost use Rattle.std.specs.Prelude.{◌≡◌, nat_eq};
+ghost use Rattle.std.specs.Prelude.{◌≡◌, [], ◌∷◌, nat_eq};
 ghost use Rattle.std.specs.Cmp.{partial_equiv_from_equiv};
 ghost use Rattle.std.specs.Cmp.Lexicographic.{pointwise, bytes_decides, nat_list_eq_equiv};
 ghost use Rattle.std.specs.Hash as fed;
 ghost use Rattle.std.proofs.Common.{ap};
 ghost use Rattle.determinise.specs.private.Digest.{mixed, digest};
 
+use smallvec::SmallVec;
+use std::alloc::Global;
 use std::hash::{Hash, Hasher};
 use std::marker::Model;
 
@@ -17,7 +20,7 @@ const MULTIPLIER: u64 = 11400714819323198485;
 /// A set of states, by their numbers. Two are equal exactly where their lists of numbers are.
 #[derive(Debug, Drop)]
 pub struct StateSet {
-    states: Vec<usize>,
+    states: SmallVec<usize, 1>,
 }
 
 impl Model for StateSet {
@@ -33,7 +36,18 @@ impl StateSet {
     pub fn from_vec(states: Vec<usize>) -> StateSet
         ensures { result ≡ states.items }
     {
-        StateSet { states }
+        StateSet {
+            states: SmallVec::from_vec(states),
+        }
+    }
+
+    /// The set of one number. It takes no memory.
+    pub fn from_state(alloc: Global, state: usize) -> StateSet
+        ensures { result ≡ state ∷ [] }
+    {
+        StateSet {
+            states: SmallVec::from_buf(alloc, [state]),
+        }
     }
 
     /// The numbers, in their order.

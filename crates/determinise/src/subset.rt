@@ -1,7 +1,7 @@
 //! The sets of states that moves without a letter reach from some states, by a walk that visits each state once. Where no such move
 //! leaves them, they stay as they are, at the cost of looking at each once.
 
-ghost use Rattle.std.specs.Prelude.{◌≡◌, ◌↔◌, ◌<◌, ℕ, true, false, All, Contains, IsTrue, IfOk, OnOk, length, slice_index_or};
+ghost use Rattle.std.specs.Prelude.{◌≡◌, ◌↔◌, ◌<◌, [], ◌∷◌, ℕ, true, false, All, Contains, IsTrue, IfOk, IfSome, OnOk, length, map, slice_index_or};
 ghost use Rattle.word_automata.specs.Path.{edges_of, is_accepting};
 ghost use Rattle.word_automata.specs.Nondeterministic.{IsInRange};
 ghost use Rattle.word_automata.specs.StateSets.{AreStates, AddsState, AddsTargets, IsClosure};
@@ -30,6 +30,23 @@ pub fn subset_of(
         return Ok(subset_from(alloc, automaton, silent, &from)?);
     }
     Ok(StateSet::from_vec(from))
+}
+
+/// The one target of the moves, where there is one move and no move without a letter leaves its target.
+pub fn only_plain_target(silent: &[bool], moves: &[(u32, usize)]) -> Option<usize>
+    ensures target { IfSome result (λ to. map (λ move. move.1) moves.now ≡ to ∷ []) }
+    ensures plain { IfSome result (λ to. slice_index_or silent.now to true ≡ false) }
+{
+    match moves {
+        [only] => {
+            let (_, to) = *only;
+            if to < silent.len() && !silent[to] {
+                return Some(to);
+            }
+            None
+        }
+        _ => None,
+    }
 }
 
 /// Whether one of the states has the flag.

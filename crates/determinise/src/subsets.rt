@@ -1,15 +1,16 @@
 //! The system of the sets of states of a nondeterministic automaton: a letter leads from a set to the set of all its targets.
 //! The successors of a set cost the edges that leave its states, up to sorting, and the pairs of targets that are compared.
 
-ghost use Rattle.std.specs.Prelude.{◌≡◌, ◌<◌, length};
+ghost use Rattle.std.specs.Prelude.{◌≡◌, ◌<◌, IfOk, length, map};
 ghost use Rattle.std.specs.Cmp.Lexicographic.{bytes_decides};
 ghost use Rattle.word_automata.specs.Nondeterministic.{Accepts, AcceptsFromAny};
-ghost use Rattle.determinise.specs.private.Subsets.{IsSubset, ArePlainWhereFalse};
+ghost use Rattle.word_automata.specs.StateSets.{AreStates};
+ghost use Rattle.determinise.specs.private.Subsets.{IsSubset, ArePlainWhereFalse, LeadsTo};
 ghost use Rattle.reduction.specs.Simulation.{AreIncluded};
 
 use crate::moves::{end_of_run, ordered_moves, targets};
 use crate::state_set::StateSet;
-use crate::subset::{accepts_some, subset_from, subset_of};
+use crate::subset::{accepts_some, only_plain_target, subset_from, subset_of};
 use exploration::LanguageSystem;
 use reduction::{StatePairs, maximal_states};
 use std::alloc::{AllocError, Global};
@@ -43,6 +44,19 @@ impl<'a> Subsets<'a> {
             silent,
             pairs,
         }
+    }
+
+    /// The set to which the moves lead, without states that others of it simulate.
+    fn set_after(&self, alloc: Global, moves: &[(u32, usize)]) -> Result<StateSet, AllocError>
+        requires { AreStates self.now.automaton.now (map (λ move. move.1) moves.now) }
+        ensures { IfOk result (LeadsTo self.now.automaton.now (map (λ move. move.1) moves.now)) }
+    {
+        if let Some(to) = only_plain_target(self.silent, moves) {
+            return Ok(StateSet::from_state(alloc, to));
+        }
+        let targets = targets(alloc, moves)?;
+        let kept = maximal_states(alloc, self.pairs, targets)?;
+        Ok(subset_of(alloc, self.automaton, self.silent, kept)?)
     }
 }
 
@@ -83,9 +97,7 @@ impl<'a> LanguageSystem for Subsets<'a> {
         let mut at = 0;
         'runs: while at < moves.len() {
             let end = end_of_run(&moves, at);
-            let targets = targets(alloc, &moves[at..end])?;
-            let kept = maximal_states(alloc, self.pairs, targets)?;
-            let subset = subset_of(alloc, self.automaton, self.silent, kept)?;
+            let subset = self.set_after(alloc, &moves[at..end])?;
             successors.push((moves[at].0, subset))?;
             at = end;
         }

@@ -4,9 +4,7 @@ use Rattle.std.proofs.lemmas.List.{take_more, map-append, append_assoc, append-n
 use Rattle.std.proofs.lemmas.List.Elements.{All-nil, All-contains}
 use Rattle.word_automata.specs.Path.{Node, edges_of, is_accepting}
 use Rattle.word_automata.specs.Nondeterministic.{NondeterministicAutomaton, IsInRange, IsMoveInRange, with_nondeterministic_state, with_start, AddsMove}
-use Rattle.word_automata.proofs.Members.{Contains-none, All-from_contains}
-use Rattle.word_automata.proofs.Rows.{All-edges_of, is_accepting-get_or}
-use Rattle.word_automata.proofs.StateSets.{move_within}
+use Rattle.word_automata.proofs.ForCallers.{Contains-none, All-from_contains, All-edges_of, is_accepting-get_or, move_within}
 use Rattle.reduction.specs.private.Copies.{without_edges, with_starts, AddsEdges}
 
 -- the first k states, without edges and without a start state

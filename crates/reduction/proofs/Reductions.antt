@@ -6,7 +6,7 @@ use Rattle.std.proofs.lemmas.List.Elements.{Contains-append_left, Contains-push,
 use Rattle.std.proofs.lemmas.List.Sorted.{Contains-permutation, IsPermutation-sym}
 use Rattle.word_automata.specs.Path.{edges_of, is_accepting, IsPath, spelled, spelled_one}
 use Rattle.word_automata.specs.Nondeterministic.{NondeterministicAutomaton, Accepts, AcceptsFromAny}
-use Rattle.word_automata.proofs.Members.{Contains-none}
+use Rattle.word_automata.proofs.ForCallers.{Contains-none}
 use Rattle.reduction.specs.Reduction.{AcceptsAlong, KeepsStarts}
 use Rattle.reduction.specs.private.Copies.{without_edges, states_alone, with_starts, AddsEdges, KeepsEdges, IsReduced, KeepsWhere}
 use Rattle.reduction.proofs.Copies.{is_accepting-alone, edges_of-alone, edges_within}
@@ -153,6 +153,10 @@ reduced_none n alone m starts is built keeps = subst (λ x. IsReduced n x 0) (sy
   done = λ p below. absurd (omega arith);
   later = λ p past. edges_of-alone n.states p;
 })
+
+-- all edges of a state
+pub all_edges_keep : (n : NondeterministicAutomaton) (edges : List (Option ℕ × ℕ)) → KeepsEdges n edges edges
+all_edges_keep n edges = record { only = λ edge there. there; kept = λ label q labels there along. (q, there, along) }
 
 pub reduced_more : (n old new : NondeterministicAutomaton) (state : ℕ) (edges : List (Option ℕ × ℕ)) → IsReduced n old state → KeepsEdges n (edges_of n.states state) edges
     → AddsEdges state edges old new → IsReduced n new (state + 1)

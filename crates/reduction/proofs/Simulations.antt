@@ -8,7 +8,7 @@ use Rattle.std.proofs.lemmas.List.Folds.{list_any-from_Any, Any-from_list_any}
 use Rattle.std.proofs.lemmas.List.Sorted.{Contains-permutation, IsPermutation-sym}
 use Rattle.word_automata.specs.Path.{edges_of}
 use Rattle.word_automata.specs.Nondeterministic.{NondeterministicAutomaton}
-use Rattle.word_automata.proofs.Members.{Contains-none, same_label}
+use Rattle.word_automata.proofs.ForCallers.{Contains-none, same_label}
 use Rattle.reduction.specs.Reduction.{AcceptsAlong}
 use Rattle.reduction.specs.private.Copies.{KeepsEdges, IsReduced}
 use Rattle.reduction.specs.Simulation.{IsBelow, IsMatched, AreMatched, IsSimulatedBy, IsSimulation, accepts_along, AreIncluded}

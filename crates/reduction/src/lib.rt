@@ -10,6 +10,7 @@ mod order;
 mod pruning;
 mod simulation_search;
 mod state_pairs;
+mod traces;
 mod trimming;
 
 pub use maximal::maximal_states;

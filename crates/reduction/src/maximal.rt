@@ -1,5 +1,5 @@
 //! The states of a set that none of the others simulates, which accept the same words (P. A. Abdulla and others, 2010). It takes time
-//! quadratic in the states that have others above them.
+//! in the product of the states that have others above them and all states of the set.
 
 ghost use Rattle.std.specs.Prelude.{ℕ, Contains, IsTrue, IfOk};
 ghost use Rattle.word_automata.specs.Nondeterministic.{NondeterministicAutomaton};

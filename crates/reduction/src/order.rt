@@ -34,7 +34,7 @@ pub fn has_ordered_edges(automaton: &Nfa) -> bool {
 }
 
 /// Whether the edges are in order.
-fn are_ordered(edges: &[(Option<u32>, usize)]) -> bool {
+pub fn are_ordered(edges: &[(Option<u32>, usize)]) -> bool {
     let mut least = 0;
     'edges: for &(letter, to) in edges {
         let number = edge_number(letter, to);

@@ -2,10 +2,10 @@
 //! O. Grumberg, 2003: little brothers; L. Clemente and R. Mayr, 2013). It takes time linear in the states and edges, and in the pairs
 //! of edges of a state with one letter.
 
-ghost use Rattle.std.specs.Prelude.{◌≡◌, ◌↔◌, ◌<◌, ℕ, List, IfOk, length};
+ghost use Rattle.std.specs.Prelude.{◌≡◌, ◌↔◌, ◌+◌, ◌<◌, ℕ, List, IfOk, OnOk, length};
 ghost use Rattle.word_automata.specs.Path.{edges_of};
 ghost use Rattle.word_automata.specs.Nondeterministic.{Accepts};
-ghost use Rattle.reduction.specs.private.Copies.{KeepsEdges};
+ghost use Rattle.reduction.specs.private.Copies.{KeepsEdges, IsReduced};
 ghost use Rattle.reduction.specs.Simulation.{IsSimulation, AreIncluded};
 ghost use Rattle.reduction.specs.private.Pruning.{DropsMatched};
 
@@ -13,7 +13,7 @@ use crate::copying::{add_edges, add_starts, states_alone};
 use crate::simulation_search::is_matched;
 use crate::state_pairs::StatePairs;
 use std::alloc::{AllocError, Global};
-use word_automata::Nfa;
+use word_automata::{Nfa, NfaBuilder};
 
 /// The automaton without edges that other edges match, which accepts the same words.
 pub fn pruned(alloc: Global, automaton: &Nfa, pairs: &StatePairs) -> Result<Nfa, AllocError>
@@ -25,10 +25,42 @@ pub fn pruned(alloc: Global, automaton: &Nfa, pairs: &StatePairs) -> Result<Nfa,
     let mut builder = states_alone(alloc, automaton)?;
     add_starts(&mut builder, automaton.starts())?;
     'states: for state in 0..automaton.states() {
-        let edges = unmatched_edges(alloc, automaton, pairs, state)?;
-        add_edges(&mut builder, state, &edges)?;
+        add_unmatched(alloc, &mut builder, automaton, pairs, state)?;
     }
     Ok(builder.finish())
+}
+
+/// Adds the edges of the state without those that others match. Where no edge leads to a state below another one, all are added.
+fn add_unmatched(
+    alloc: Global,
+    builder: &mut NfaBuilder,
+    automaton: &Nfa,
+    pairs: &StatePairs,
+    state: usize,
+) -> Result<(), AllocError>
+    requires simulation { IsSimulation automaton.now pairs.now }
+    requires state { state < length automaton.now.states }
+    requires before { IsReduced automaton.now builder.old state }
+    ensures { OnOk result (IsReduced automaton.now builder.new (state + 1)) }
+{
+    let edges = automaton.edges_from(state);
+    if !leads_to_low(pairs, edges) {
+        add_edges(builder, state, edges)?;
+        return Ok(());
+    }
+    let kept = unmatched_edges(alloc, automaton, pairs, state)?;
+    add_edges(builder, state, &kept)?;
+    Ok(())
+}
+
+/// Whether an edge leads to a state below another one.
+fn leads_to_low(pairs: &StatePairs, edges: &[(Option<u32>, usize)]) -> bool {
+    'edges: for &(_, to) in edges {
+        if pairs.is_low(to) {
+            return true;
+        }
+    }
+    false
 }
 
 /// The edges of the state without those that others match, in their order.

@@ -1,13 +1,15 @@
 //! A simulation between the states of an automaton (R. Milner, 1971), as far as it is asked for: the pairs of states to which one
 //! letter leads from one state, and the pairs on which these depend. Those that do not hold are taken out, in rounds, until a round
 //! takes none out (the greatest fixpoint). There are at most 2 to the 18 pairs and 16 rounds, and pairs are asked for at most 256 times
-//! for each state and edge, or there is no answer. Where no letter leads to two states, it costs one pass over the edges.
+//! for each state and edge, or there is no answer. Pairs that short paths tell apart are not added. Where no letter leads to two
+//! states, it costs one pass over the edges.
 
 ghost use Rattle.std.specs.Prelude.{◌≡◌, false, IsTrue, IfOk, IfSome};
 ghost use Rattle.reduction.specs.Simulation.{IsBelow, IsMatched, AreMatched, IsSimulatedBy, IsSimulation};
 
 use crate::order::letter_number;
 use crate::state_pairs::StatePairs;
+use crate::traces::{may_simulate, trace_filters};
 use std::alloc::{AllocError, Global};
 use word_automata::Nfa;
 
@@ -17,6 +19,9 @@ const MOST_PAIRS: usize = 262_144;
 /// Nor where pairs are asked for more often than so many times for each state and edge.
 const ASKS_PER_EDGE: usize = 256;
 
+/// Nor where they are asked for more often than so many times.
+const MOST_ASKS: usize = 16 * MOST_PAIRS;
+
 /// Nor after so many rounds.
 const MOST_ROUNDS: usize = 16;
 
@@ -24,10 +29,14 @@ const MOST_ROUNDS: usize = 16;
 pub fn simulation(alloc: Global, automaton: &Nfa) -> Result<Option<StatePairs>, AllocError>
     ensures { IfOk result (λ found. IfSome found (IsSimulation automaton.now)) }
 {
+    if !has_siblings(automaton) {
+        return Ok(None);
+    }
+    let filters = trace_filters(alloc, automaton)?;
     let mut pairs = StatePairs::new(alloc)?;
-    ask_siblings(&mut pairs, automaton)?;
+    ask_siblings(&mut pairs, automaton, &filters)?;
     let siblings = pairs.len();
-    if siblings == 0 || !ask_all(&mut pairs, automaton)? {
+    if siblings == 0 || !ask_all(&mut pairs, automaton, &filters)? {
         return Ok(None);
     }
     'rounds: for _ in 0..MOST_ROUNDS {
@@ -43,24 +52,61 @@ pub fn simulation(alloc: Global, automaton: &Nfa) -> Result<Option<StatePairs>, 
     Ok(None)
 }
 
-/// Adds the pairs of states to which one letter leads from one state.
-fn ask_siblings(pairs: &mut StatePairs, automaton: &Nfa) -> Result<(), AllocError> {
+/// Whether one letter leads to two states from one state, whose edges are in order.
+fn has_siblings(automaton: &Nfa) -> bool {
     'states: for state in 0..automaton.states() {
-        ask_within(pairs, automaton.edges_from(state))?;
+        if are_siblings(automaton.edges_from(state)) {
+            return true;
+        }
+    }
+    false
+}
+
+/// Whether edges side by side have one letter and different targets.
+fn are_siblings(edges: &[(Option<u32>, usize)]) -> bool {
+    'edges: for at in 1..edges.len() {
+        let (before, from) = edges[at - 1];
+        let (letter, to) = edges[at];
+        if from != to && before == letter {
+            return true;
+        }
+    }
+    false
+}
+
+/// Adds the pairs of states to which one letter leads from one state.
+fn ask_siblings(
+    pairs: &mut StatePairs,
+    automaton: &Nfa,
+    filters: &[u64],
+) -> Result<(), AllocError> {
+    'states: for state in 0..automaton.states() {
+        ask_within(pairs, automaton.edges_from(state), filters)?;
     }
     Ok(())
 }
 
 /// Adds the pairs of different targets of the edges, in order, with one letter. Of equal edges the first is looked at.
-fn ask_within(pairs: &mut StatePairs, edges: &[(Option<u32>, usize)]) -> Result<(), AllocError> {
+fn ask_within(
+    pairs: &mut StatePairs,
+    edges: &[(Option<u32>, usize)],
+    filters: &[u64],
+) -> Result<(), AllocError> {
     let (mut from, mut last) = (0, None);
     'edges: for &(letter, to) in edges {
-        if pairs.len() > MOST_PAIRS {
+        if pairs.len() > MOST_PAIRS || pairs.asked() > MOST_ASKS {
             return Ok(());
         }
         if last != Some((letter, to)) {
             from = first_with(edges, from, letter);
-            ask_above(pairs, edges, from, end_of_letter(edges, from, letter), to)?;
+            ask_above(
+                pairs,
+                edges,
+                from,
+                end_of_letter(edges, from, letter),
+                to,
+                filters,
+            )?;
             last = Some((letter, to));
         }
     }
@@ -68,7 +114,7 @@ fn ask_within(pairs: &mut StatePairs, edges: &[(Option<u32>, usize)]) -> Result<
 }
 
 /// Adds the pairs on which the pairs depend, and tells whether there are not too many.
-fn ask_all(pairs: &mut StatePairs, automaton: &Nfa) -> Result<bool, AllocError> {
+fn ask_all(pairs: &mut StatePairs, automaton: &Nfa, filters: &[u64]) -> Result<bool, AllocError> {
     let most = most_asks(automaton);
     'pairs: for place in 0..MOST_PAIRS {
         if place >= pairs.len() {
@@ -78,7 +124,7 @@ fn ask_all(pairs: &mut StatePairs, automaton: &Nfa) -> Result<bool, AllocError> 
             return Ok(false);
         }
         let (low, high) = pairs.pair(place);
-        ask_after(pairs, automaton, low, high)?;
+        ask_after(pairs, automaton, low, high, filters)?;
     }
     Ok(false)
 }
@@ -89,7 +135,7 @@ fn most_asks(automaton: &Nfa) -> usize {
     'states: for state in 0..automaton.states() {
         size = size.saturating_add(automaton.edges_from(state).len());
     }
-    size.saturating_mul(ASKS_PER_EDGE).min(16 * MOST_PAIRS)
+    size.saturating_mul(ASKS_PER_EDGE).min(MOST_ASKS)
 }
 
 /// Adds the pairs on which the pair depends, unless it does not hold at once.
@@ -98,6 +144,7 @@ fn ask_after(
     automaton: &Nfa,
     low: usize,
     high: usize,
+    filters: &[u64],
 ) -> Result<(), AllocError> {
     if low >= automaton.states() || high >= automaton.states() {
         return Ok(());
@@ -107,22 +154,45 @@ fn ask_after(
     }
     let edges = automaton.edges_from(low);
     let others = automaton.edges_from(high);
-    if has_letters(edges, others) {
-        ask_targets(pairs, edges, others)?;
+    if may_match(filters, edges, others) {
+        ask_targets(pairs, edges, others, filters)?;
     }
     Ok(())
 }
 
-/// Whether the others have each letter of the edges, both in order.
-fn has_letters(edges: &[(Option<u32>, usize)], others: &[(Option<u32>, usize)]) -> bool {
+/// Whether the filters allow that the others match each of the edges, both in order.
+fn may_match(
+    filters: &[u64],
+    edges: &[(Option<u32>, usize)],
+    others: &[(Option<u32>, usize)],
+) -> bool {
     let mut from = 0;
-    'edges: for &(letter, _) in edges {
+    'edges: for &(letter, to) in edges {
         from = first_with(others, from, letter);
-        if from >= others.len() || others[from].0 != letter {
+        if !may_match_one(filters, others, from, letter, to) {
             return false;
         }
     }
     true
+}
+
+/// Whether the others from the place on begin with edges with the letter, and the filters allow that one leads to a state above.
+fn may_match_one(
+    filters: &[u64],
+    others: &[(Option<u32>, usize)],
+    from: usize,
+    letter: Option<u32>,
+    to: usize,
+) -> bool {
+    'edges: for at in from..others.len() {
+        if others[at].0 != letter {
+            return false;
+        }
+        if may_simulate(filters, to, others[at].1) {
+            return true;
+        }
+    }
+    false
 }
 
 /// Adds the pairs of a target of the edges and the targets of the others with the same letter, unless it is one of them.
@@ -130,13 +200,14 @@ fn ask_targets(
     pairs: &mut StatePairs,
     edges: &[(Option<u32>, usize)],
     others: &[(Option<u32>, usize)],
+    filters: &[u64],
 ) -> Result<(), AllocError> {
     let mut from = 0;
     'edges: for &(letter, to) in edges {
         from = first_with(others, from, letter);
         let end = end_of_letter(others, from, letter);
         if !has_target(others, from, end, to) {
-            ask_above(pairs, others, from, end, to)?;
+            ask_above(pairs, others, from, end, to, filters)?;
         }
     }
     Ok(())
@@ -173,18 +244,28 @@ fn has_target(edges: &[(Option<u32>, usize)], from: usize, end: usize, to: usize
     false
 }
 
-/// Adds the pairs of the state and other targets of the edges between the places.
+/// Adds the pairs of the state and other targets of the edges between the places that the filters allow.
 fn ask_above(
     pairs: &mut StatePairs,
     edges: &[(Option<u32>, usize)],
     from: usize,
     end: usize,
     to: usize,
+    filters: &[u64],
 ) -> Result<(), AllocError> {
     'edges: for at in from..end {
         if at < edges.len() && edges[at].1 != to {
-            pairs.add(to, edges[at].1)?;
+            ask(pairs, filters, to, edges[at].1)?;
         }
+    }
+    Ok(())
+}
+
+/// Adds the pair, if the filters allow it.
+fn ask(pairs: &mut StatePairs, filters: &[u64], low: usize, high: usize) -> Result<(), AllocError> {
+    pairs.count_ask();
+    if may_simulate(filters, low, high) {
+        pairs.add(low, high)?;
     }
     Ok(())
 }

@@ -47,7 +47,12 @@ impl StatePairs {
         self.found.len()
     }
 
-    /// How often a pair was to be added.
+    /// Counts that a pair was asked for.
+    pub(crate) fn count_ask(&mut self) {
+        self.asked = self.asked.saturating_add(1);
+    }
+
+    /// How often a pair was asked for.
     pub(crate) fn asked(&self) -> usize {
         self.asked
     }
@@ -72,7 +77,6 @@ impl StatePairs {
 
     /// Adds the pair, if it is not there. More than 2 to the 32 pairs are answered as running out of memory.
     pub(crate) fn add(&mut self, low: usize, high: usize) -> Result<(), AllocError> {
-        self.asked = self.asked.saturating_add(1);
         let pair = (low, high);
         if self.found.look_up(code(low, high), &pair)?.is_none() {
             self.found.push(pair)?;

@@ -1,17 +1,17 @@
 //! The part of an automaton whose edges lead to states from which some word is accepted (S. Eilenberg, 1974: the coaccessible part),
 //! with the same states, and with the edges of each state in order. It takes time linear in the states and edges, up to sorting.
 
-ghost use Rattle.std.specs.Prelude.{◌≡◌, ◌↔◌, ◌<◌, ℕ, List, true, false, IsTrue, IfOk, IfSome, length, slice_index_or};
+ghost use Rattle.std.specs.Prelude.{◌≡◌, ◌↔◌, ◌+◌, ◌<◌, ℕ, List, true, false, IsTrue, IfOk, IfSome, OnOk, length, slice_index_or};
 ghost use Rattle.word_automata.specs.Path.{edges_of};
 ghost use Rattle.word_automata.specs.Nondeterministic.{Accepts};
 ghost use Rattle.reduction.specs.private.Emptiness.{AreRejecting};
-ghost use Rattle.reduction.specs.private.Copies.{KeepsEdges, KeepsWhere};
+ghost use Rattle.reduction.specs.private.Copies.{KeepsEdges, KeepsWhere, IsReduced};
 
 use crate::copying::{add_edges, add_starts, states_alone};
 use crate::emptiness::{dead_flags, is_flagged};
-use crate::order::{has_ordered_edges, order_edges};
+use crate::order::{are_ordered, has_ordered_edges, order_edges};
 use std::alloc::{AllocError, Global};
-use word_automata::Nfa;
+use word_automata::{Nfa, NfaBuilder};
 
 /// The automaton without edges to states from which no word is accepted and without such start states, or `None` where a search finds
 /// none of these and the edges are in order. Edges are in order by letter and target. That each such state is found is no clause.
@@ -38,10 +38,43 @@ fn without_dead(alloc: Global, automaton: &Nfa, dead: &[bool]) -> Result<Nfa, Al
     let starts = live_starts(alloc, automaton.starts(), dead)?;
     add_starts(&mut builder, &starts)?;
     'states: for state in 0..automaton.states() {
-        let edges = live_edges(alloc, automaton, dead, state)?;
-        add_edges(&mut builder, state, &edges)?;
+        add_live(alloc, &mut builder, automaton, dead, state)?;
     }
     Ok(builder.finish())
+}
+
+/// Adds the edges of the state that lead to states that are not flagged, in order. Where that are all edges, and they are in order,
+/// they are added as they stand.
+fn add_live(
+    alloc: Global,
+    builder: &mut NfaBuilder,
+    automaton: &Nfa,
+    dead: &[bool],
+    state: usize,
+) -> Result<(), AllocError>
+    requires dead { AreRejecting automaton.now dead.now }
+    requires state { state < length automaton.now.states }
+    requires before { IsReduced automaton.now builder.old state }
+    ensures { OnOk result (IsReduced automaton.now builder.new (state + 1)) }
+{
+    let edges = automaton.edges_from(state);
+    if are_ordered(edges) && !leads_to_dead(dead, edges) {
+        add_edges(builder, state, edges)?;
+        return Ok(());
+    }
+    let live = live_edges(alloc, automaton, dead, state)?;
+    add_edges(builder, state, &live)?;
+    Ok(())
+}
+
+/// Whether an edge leads to a state with the flag.
+fn leads_to_dead(dead: &[bool], edges: &[(Option<u32>, usize)]) -> bool {
+    'edges: for &(_, to) in edges {
+        if is_dead(dead, to) {
+            return true;
+        }
+    }
+    false
 }
 
 /// The start states that are not flagged.

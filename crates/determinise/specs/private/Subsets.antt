@@ -1,8 +1,8 @@
 -- Sets of states of a nondeterministic automaton, and the moves that lead out of them.
-use Rattle.std.specs.Prelude.{◌≡◌, ◌+◌, ◌*◌, ◌%◌, ◌<◌, ◌≤◌, ℕ, Bool, true, false, List, Option, None, Some, Contains, length, slice_index_or}
+use Rattle.std.specs.Prelude.{◌≡◌, ◌↔◌, ◌+◌, ◌*◌, ◌%◌, ◌<◌, ◌≤◌, ℕ, Bool, true, false, List, Option, None, Some, Contains, length, slice_index_or}
 use Rattle.std.specs.List.{filter_map, flat_map}
 use Rattle.word_automata.specs.Path.{edges_of}
-use Rattle.word_automata.specs.Nondeterministic.{NondeterministicAutomaton, IsInRange}
+use Rattle.word_automata.specs.Nondeterministic.{NondeterministicAutomaton, AcceptsFromAny, IsInRange}
 use Rattle.word_automata.specs.StateSets.{AreStates, IsClosed, IsClosure}
 
 -- a set of states out of which no move without a letter leads
@@ -15,6 +15,12 @@ pub record IsSubset (n : NondeterministicAutomaton) (subset : List ℕ) : Type 0
 pub record IsSubsetFrom (n : NondeterministicAutomaton) (from subset : List ℕ) : Type 0 where
   pub states : AreStates n subset
   pub closure : IsClosure n from subset
+
+-- the set that moves without a letter reach from some states, which accept the same words as the targets
+pub record LeadsTo (n : NondeterministicAutomaton) (targets subset : List ℕ) : Type 0 where
+  pub kept : List ℕ
+  pub same_words : (w : List ℕ) → AcceptsFromAny n targets w ↔ AcceptsFromAny n kept w
+  pub from : IsSubsetFrom n kept subset
 
 -- no edge without a letter leaves the state
 abbrev pub IsPlain : NondeterministicAutomaton → ℕ → Type 0

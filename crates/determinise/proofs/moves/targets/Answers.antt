@@ -1,6 +1,6 @@
 use Rattle.std.proofs.Common.{◌≡◌, ◌+◌, ℕ, Contains, get_or, map, sym, ap, subst, ◌∙◌, arith}
 use Rattle.std.proofs.lemmas.List.{get_or_default}
-use Rattle.word_automata.proofs.Members.{Contains-map, Contains-map_cases}
+use Rattle.word_automata.proofs.ForCallers.{Contains-map, Contains-map_cases}
 use Rattle.determinise.proofs.MoveLists.{HasTargets, targets_same, targets_more}
 use Rattle.determinise.proofs.moves.targets.Goals as goal
 use Rattle.determinise.proofs.moves.targets.Goals.{then-not-ends_with+in_ok-push, else-not-ends_with}

@@ -1,4 +1,4 @@
-use Rattle.word_automata.proofs.Members.{adds_state}
+use Rattle.word_automata.proofs.ForCallers.{adds_state}
 use Rattle.determinise.proofs.subset.add.Goals as goal
 
 pub returns : goal.returns

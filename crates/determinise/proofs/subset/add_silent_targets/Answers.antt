@@ -1,5 +1,5 @@
 use Rattle.std.proofs.Common.{None, refl, arith}
-use Rattle.word_automata.proofs.StateSets.{adds_some_other, adds_some_same, adds_some_all}
+use Rattle.word_automata.proofs.ForCallers.{adds_some_other, adds_some_same, adds_some_all}
 use Rattle.determinise.proofs.Closures.{none_from_test, some_from_test}
 use Rattle.determinise.proofs.subset.add_silent_targets.Goals as goal
 use Rattle.determinise.proofs.subset.add_silent_targets.Goals.{then-is_none+in_ok-add, else-is_none}

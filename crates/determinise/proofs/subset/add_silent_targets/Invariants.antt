@@ -1,5 +1,5 @@
 use Rattle.std.proofs.Common.{None}
-use Rattle.word_automata.proofs.StateSets.{AddsSomeTargets}
+use Rattle.word_automata.proofs.ForCallers.{AddsSomeTargets}
 use Rattle.determinise.proofs.subset.add_silent_targets.Given as goal
 
 abbrev pub invariant-edges : goal.invariant-edges

@@ -1,5 +1,5 @@
 use Rattle.std.proofs.Common.{get_or, ap, arith}
-use Rattle.word_automata.proofs.StateSets.{partial_closure_none, partial_closure_more, partial_closure_all}
+use Rattle.word_automata.proofs.ForCallers.{partial_closure_none, partial_closure_more, partial_closure_all}
 use Rattle.determinise.proofs.Closures.{AreStates-members, IsClosure-members}
 use Rattle.determinise.proofs.subset.closure.Goals as goal
 

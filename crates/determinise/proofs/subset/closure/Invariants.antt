@@ -1,5 +1,5 @@
 use Rattle.std.proofs.Common.{◌-◌, ◌^◌}
-use Rattle.word_automata.proofs.StateSets.{IsPartialClosure}
+use Rattle.word_automata.proofs.ForCallers.{IsPartialClosure}
 use Rattle.determinise.proofs.subset.closure.Given as goal
 
 abbrev pub invariant-states : goal.invariant-states

@@ -1,5 +1,5 @@
 use Rattle.std.proofs.Common.{refl, arith}
-use Rattle.word_automata.proofs.StateSets.{has_added_more, has_added_all}
+use Rattle.word_automata.proofs.ForCallers.{has_added_more, has_added_all}
 use Rattle.determinise.proofs.subset.set_of.Goals as goal
 
 pub states-preserved : goal.states-preserved

@@ -1,4 +1,4 @@
-use Rattle.word_automata.proofs.StateSets.{HasAddedSome}
+use Rattle.word_automata.proofs.ForCallers.{HasAddedSome}
 use Rattle.determinise.proofs.subset.set_of.Given as goal
 
 abbrev pub invariant-states : goal.invariant-states

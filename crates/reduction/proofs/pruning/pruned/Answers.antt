@@ -1,11 +1,10 @@
-use Rattle.std.proofs.Common.{◌≡◌, ◌<◌, ◌↔◌, ℕ, List, Option, All, length, sym, ap, subst, ◌∙◌, arith}
+use Rattle.std.proofs.Common.{◌≡◌, ◌<◌, ◌↔◌, ℕ, List, All, length, sym, ap, subst, ◌∙◌, arith}
 use Rattle.std.proofs.lemmas.List.{length-map}
 use Rattle.std.proofs.lemmas.List.Elements.{All-contains}
-use Rattle.word_automata.specs.Nondeterministic.{NondeterministicAutomaton, Accepts, IsMoveInRange}
-use Rattle.word_automata.proofs.Members.{All-from_contains}
-use Rattle.reduction.specs.private.Copies.{without_edges, with_starts, AddsEdges}
-use Rattle.reduction.proofs.Copies.{edges_in_range}
-use Rattle.reduction.proofs.Reductions.{reduced_none, reduced_more, reduced_accepts, starts_keep}
+use Rattle.word_automata.specs.Nondeterministic.{NondeterministicAutomaton, Accepts}
+use Rattle.word_automata.proofs.ForCallers.{All-from_contains}
+use Rattle.reduction.specs.private.Copies.{without_edges, with_starts}
+use Rattle.reduction.proofs.Reductions.{reduced_none, reduced_accepts, starts_keep}
 use Rattle.reduction.specs.Simulation.{AreIncluded}
 use Rattle.reduction.proofs.Simulations.{included_reduced}
 use Rattle.reduction.proofs.pruning.pruned.Goals as goal
@@ -25,20 +24,6 @@ states-init c =
     let n = c.args.automaton.now in
     reduced_none n c.in_ok-builder.builder c.add_starts.new.builder n.starts c.in_ok-builder.ensures
     (c.in_ok-add_starts.ensures ∙ ap (with_starts c.in_ok-builder.builder) c.starts.ensures.starts) (starts_keep n n.starts)
-
-pub add_edges-requires : goal.add_edges-requires
-add_edges-requires c =
-    let builder = c.states.builder in
-    let state = c.states.state in
-    subst (λ (xs : List (Option ℕ × ℕ)). All (λ (edge : Option ℕ × ℕ). IsMoveInRange builder state edge.0 edge.1) xs) (sym c.deref.ensures.value)
-    (edges_in_range c.args.automaton.now c.states-state-end.ensures.in_range builder c.states.invariant.same_letters c.states.invariant.same_size state
-    (let e = c.states-state-end.ensures.count in let x = c.states-test.true in omega arith) c.in_ok-edges.edges.items c.in_ok-edges.ensures.only)
-
-pub states-preserved : goal.states-preserved
-states-preserved c =
-    let new = c.add_edges.new.builder in
-    reduced_more c.args.automaton.now c.states.builder new c.states.state c.in_ok-edges.edges.items c.states.invariant c.in_ok-edges.ensures
-    (subst (λ (xs : List (Option ℕ × ℕ)). AddsEdges c.states.state xs c.states.builder new) c.deref.ensures.value c.in_ok-add_edges.ensures)
 
 pub returns-clause-language : goal.returns-clause-language
 returns-clause-language c w =

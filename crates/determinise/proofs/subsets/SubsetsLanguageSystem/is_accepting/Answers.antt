@@ -1,6 +1,6 @@
 use Rattle.std.proofs.Common.{ℕ, List, Contains, IsTrue, ◌↔◌, subst}
 use Rattle.word_automata.specs.Path.{is_accepting}
-use Rattle.word_automata.proofs.StateSets.{end_accepts}
+use Rattle.word_automata.proofs.ForCallers.{end_accepts}
 use Rattle.determinise.proofs.subsets.SubsetsLanguageSystem.is_accepting.Goals as goal
 
 pub returns : goal.returns

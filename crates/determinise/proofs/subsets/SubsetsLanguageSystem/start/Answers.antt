@@ -1,6 +1,6 @@
 use Rattle.std.proofs.Common.{ℕ, List, subst}
 use Rattle.determinise.specs.private.Subsets.{IsSubsetFrom}
-use Rattle.word_automata.proofs.StateSets.{closure_accepts}
+use Rattle.word_automata.proofs.ForCallers.{closure_accepts}
 use Rattle.determinise.proofs.subsets.SubsetsLanguageSystem.start.Goals as goal
 
 pub returns-clause-start : goal.returns-clause-start
