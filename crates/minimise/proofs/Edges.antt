@@ -7,10 +7,9 @@ use Rattle.std.specs.List.{filter_map}
 use Rattle.std.specs.Option.{option_and_then}
 use Rattle.word_automata.specs.Path.{Node, edges_of}
 use Rattle.word_automata.specs.Automaton.{Automaton, target, find_target, accepts_from, IsValid, HasIncreasingLetters as HasIncreasingEdges}
-use Rattle.word_automata.proofs.Edges.{edges_of-past}
-pub use Rattle.word_automata.proofs.Edges.{is_accepting-past}
-use Rattle.word_automata.proofs.Rows.{All-edges_of}
-use Rattle.exploration.specs.System.{System, look_up, HasIncreasingLetters, IsSuccessors}
+use Rattle.word_automata.proofs.ForCallers.{edges_of-past, All-edges_of}
+pub use Rattle.word_automata.proofs.ForCallers.{is_accepting-past}
+use Rattle.exploration.specs.DeterministicSystem.{DeterministicSystem, look_up, HasIncreasingLetters, IsSuccessors}
 use Rattle.exploration.proofs.ForCallers.{look_up-here, look_up-there, look_up-beneath, look_up-edges, HasIncreasingLetters-edges, IsSuccessors-moved}
 use Rattle.minimise.specs.Refinement.{live_class, live_edge}
 
@@ -78,7 +77,7 @@ module _ (m : Automaton) where
     class-past q l = get_or_past classes q 0 (omega arith)
 
     -- the system of all states whose letters lead to classes
-    classes_system : System ℕ
+    classes_system : DeterministicSystem ℕ
     classes_system = record { letters = m.letters; start = None; step = λ q a. live_class (slice_index classes (next_state q a)); accepting = λ q. false }
 
     -- the edges that a signature has are its successors

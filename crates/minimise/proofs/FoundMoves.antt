@@ -4,24 +4,25 @@ use Rattle.std.proofs.lemmas.Bool.{cases_lt}
 use Rattle.std.proofs.lemmas.List.{get_or_default, get_or_past}
 use Rattle.word_automata.specs.Path.{edges_of}
 use Rattle.word_automata.specs.Automaton.{Automaton, target, IsValid, HasIncreasingLetters}
-use Rattle.word_automata.proofs.Edges.{found_edge, edge_found, leads_within}
-use Rattle.word_automata.proofs.Members.{Contains-none}
-use Rattle.word_automata.proofs.Rows.{All-edges_of}
+use Rattle.word_automata.proofs.ForCallers.{found_edge, edge_found, leads_within, Contains-none, All-edges_of}
+use Rattle.exploration.specs.Incoming.{Chains, IsInto, AreIncoming, AddsMoves}
 use Rattle.minimise.specs.private.Rounds.{AreToldApart}
-use Rattle.minimise.specs.private.Splitters.{Link, IsInto, AreIncoming, AddsMoves, AddsMovesOf, AreMovesInto, IsSaturated}
+use Rattle.minimise.specs.private.Splitters.{AddsMovesOf, AreMovesInto, IsSaturated}
 use Rattle.minimise.proofs.Edges.{next_state, accepts_from-next}
 
 -- those into the first i states of the list were added
-pub record IsFinding (last : List ℕ) (edges : List Link) (classes : List ℕ) (class : ℕ) (states : List ℕ) (old found : List (ℕ × ℕ)) (i : ℕ) : Type 0 where
-  pub added : (k : ℕ) (move : ℕ × ℕ) → k < i → slice_index classes (slice_index states k) ≡ class → IsInto last edges (slice_index states k) move → Contains found move
-  pub only : (move : ℕ × ℕ) → Contains found move → Contains old move ⊎ ((q : ℕ) × (slice_index classes q ≡ class) × IsInto last edges q move)
+pub record IsFinding (chains : Chains) (classes : List ℕ) (class : ℕ) (states : List ℕ) (old found : List (ℕ × ℕ)) (i : ℕ) : Type 0 where
+  pub added : (k : ℕ) (move : ℕ × ℕ) → k < i → slice_index classes (slice_index states k) ≡ class → IsInto chains (slice_index states k) move
+      → Contains found move
+  pub only : (move : ℕ × ℕ) → Contains found move
+      → Contains old move ⊎ ((q : ℕ) × (slice_index classes q ≡ class) × IsInto chains q move)
 
-module _ (last : List ℕ) (edges : List Link) (classes : List ℕ) (class : ℕ) (states : List ℕ) (old : List (ℕ × ℕ)) where
-  pub finding_none : IsFinding last edges classes class states old old 0
+module _ (chains : Chains) (classes : List ℕ) (class : ℕ) (states : List ℕ) (old : List (ℕ × ℕ)) where
+  pub finding_none : IsFinding chains classes class states old old 0
   finding_none = record { added = λ k move l. absurd (omega arith); only = λ move there. inl there }
 
-  module _ (found : List (ℕ × ℕ)) (i : ℕ) (so_far : IsFinding last edges classes class states old found i) where
-    pub finding_same : (slice_index classes (slice_index states i) ≡ class → ⊥) → IsFinding last edges classes class states old found (i + 1)
+  module _ (found : List (ℕ × ℕ)) (i : ℕ) (so_far : IsFinding chains classes class states old found i) where
+    pub finding_same : (slice_index classes (slice_index states i) ≡ class → ⊥) → IsFinding chains classes class states old found (i + 1)
     finding_same other = record {
       added = λ k move l e into. elim (cases_lt k i) [
         | inl less ↦ so_far.added k move less e into
@@ -30,12 +31,12 @@ module _ (last : List ℕ) (edges : List Link) (classes : List ℕ) (class : ℕ
       only = so_far.only;
     }
 
-    pub finding_more : (new : List (ℕ × ℕ)) → slice_index classes (slice_index states i) ≡ class → AddsMoves last edges (slice_index states i) found new
-        → IsFinding last edges classes class states old new (i + 1)
+    pub finding_more : (new : List (ℕ × ℕ)) → slice_index classes (slice_index states i) ≡ class
+        → AddsMoves chains (slice_index states i) found new → IsFinding chains classes class states old new (i + 1)
     finding_more new own adds = record {
       added = λ k move l e into. elim (cases_lt k i) [
         | inl less ↦ adds.kept move (so_far.added k move less e into)
-        | inr more ↦ let same : k ≡ i = omega arith in adds.added move (subst (λ x. IsInto last edges (slice_index states x) move) same into)
+        | inr more ↦ let same : k ≡ i = omega arith in adds.added move (subst (λ x. IsInto chains (slice_index states x) move) same into)
       ];
       only = λ move there. elim (adds.only move there) [
         | inl before ↦ so_far.only move before
@@ -43,17 +44,19 @@ module _ (last : List ℕ) (edges : List Link) (classes : List ℕ) (class : ℕ
       ];
     }
 
-    pub finding_all : length states ≤ i → AddsMovesOf last edges classes class states old found
+    pub finding_all : length states ≤ i → AddsMovesOf chains classes class states old found
     finding_all end = record {
       added = λ q move member e into.
           let is : slice_index states member.0 ≡ q = get_or_default states member.0 0 q member.1 ∙ member.2 in
-          so_far.added member.0 move (let l = member.1 in omega arith) (ap (slice_index classes) is ∙ e) (subst (λ x. IsInto last edges x move) (sym is) into);
+          so_far.added member.0 move (let l = member.1 in omega arith) (ap (slice_index classes) is ∙ e)
+          (subst (λ x. IsInto chains x move) (sym is) into);
       only = so_far.only;
     }
 
 -- no move leads into a class where none was found
-pub moves_none : (last : List ℕ) (edges : List Link) (classes : List ℕ) (class : ℕ) (moves : List (ℕ × ℕ)) → moves ≡ [] → AreMovesInto last edges classes class moves
-moves_none last edges classes class moves none = record {
+pub moves_none : (chains : Chains) (classes : List ℕ) (class : ℕ) (moves : List (ℕ × ℕ)) → moves ≡ []
+    → AreMovesInto chains classes class moves
+moves_none chains classes class moves none = record {
   some = λ move there. absurd (nothing move there);
   complete = λ move other q there. absurd (nothing other there);
   sound = λ move there. absurd (nothing move there);
@@ -63,11 +66,11 @@ moves_none last edges classes class moves none = record {
     nothing move there = Contains-none move (subst (λ xs. Contains xs move) none there)
 
 -- those into all states of the class, in any order
-pub moves_of : (last : List ℕ) (edges : List Link) (classes : List ℕ) (class : ℕ) (states : List ℕ) (old found sorted : List (ℕ × ℕ)) → (class ≡ 0 → ⊥) → old ≡ []
-    → AddsMovesOf last edges classes class states old found → ((q : ℕ) → slice_index classes q ≡ class → Contains states q)
+pub moves_of : (chains : Chains) (classes : List ℕ) (class : ℕ) (states : List ℕ) (old found sorted : List (ℕ × ℕ)) → (class ≡ 0 → ⊥)
+    → old ≡ [] → AddsMovesOf chains classes class states old found → ((q : ℕ) → slice_index classes q ≡ class → Contains states q)
     → ((move : ℕ × ℕ) → Contains found move → Contains sorted move) → ((move : ℕ × ℕ) → Contains sorted move → Contains found move)
-    → AreMovesInto last edges classes class sorted
-moves_of last edges classes class states old found sorted some none adds all to from = record {
+    → AreMovesInto chains classes class sorted
+moves_of chains classes class states old found sorted some none adds all to from = record {
   some = λ move there. some;
   complete = λ move other q there e into. to move (adds.added q move (all q e) e into);
   sound = λ move there. elim (adds.only move (from move there)) [
@@ -77,8 +80,8 @@ moves_of last edges classes class states old found sorted some none adds all to 
 }
 
 -- a state that a move leaves is told apart from one that no move with its letter leaves
-module _ (m : Automaton) (valid : IsValid m) (last : List ℕ) (edges : List Link) (incoming : AreIncoming m last edges) (classes : List ℕ) (apart : AreToldApart m classes)
-    (class : ℕ) (moves : List (ℕ × ℕ)) (into : AreMovesInto last edges classes class moves) where
+module _ (m : Automaton) (valid : IsValid m) (chains : Chains) (incoming : AreIncoming m chains) (classes : List ℕ) (apart : AreToldApart m classes)
+    (class : ℕ) (moves : List (ℕ × ℕ)) (into : AreMovesInto chains classes class moves) where
   leads : (p a q : ℕ) → Contains (edges_of m.states p) (a, q) → target m p a ≡ Some q
   leads p a q member = edge_found (edges_of m.states p) (All-edges_of HasIncreasingLetters m.states tt valid.ordered p) a q member
 

@@ -6,7 +6,7 @@ use Rattle.std.proofs.lemmas.List.Sums.{fold-append}
 use Rattle.std.specs.List.{filter_map, fold}
 use Rattle.word_automata.specs.Automaton.{Automaton, IsValid}
 use Rattle.minimise.specs.Refinement.{live_edge}
-use Rattle.minimise.specs.private.Rounds.{AreToldApart, outgoing, mixed_in, mixed_in_edge, hash_of, AreHashes}
+use Rattle.minimise.specs.private.Rounds.{AreToldApart, outgoing, edge_number, mixed_in, mixed_in_edge, hash_of, AreHashes}
 use Rattle.minimise.proofs.Splitting.{live_edge_more, dead_edge_more}
 use Rattle.minimise.proofs.Refining.{outgoing_apart}
 use Rattle.minimise.proofs.OwnSignatures.{outgoing-past}
@@ -17,7 +17,7 @@ hash_before start classes edges i = fold mixed_in_edge start (filter_map (live_e
 
 module _ (start : ℕ) (classes : List ℕ) (edges : List (ℕ × ℕ)) (i : ℕ) (l : i < length edges) (value : ℕ) (h : value ≡ hash_before start classes edges i) where
   pub hash_more : (slice_index classes (get_or edges i (0, 0)).1 ≡ 0 → ⊥)
-      → mixed_in (mixed_in value (get_or edges i (0, 0)).0) (slice_index classes (get_or edges i (0, 0)).1) ≡ hash_before start classes edges (i + 1)
+      → mixed_in value (edge_number ((get_or edges i (0, 0)).0, slice_index classes (get_or edges i (0, 0)).1)) ≡ hash_before start classes edges (i + 1)
   hash_more ne =
       let edge : ℕ × ℕ = ((get_or edges i (0, 0)).0, slice_index classes (get_or edges i (0, 0)).1) in
       let before = filter_map (live_edge classes) (take i edges) in

@@ -7,12 +7,12 @@ use Rattle.std.specs.List.{filter_map, cons_option}
 use Rattle.std.specs.Option.{option_map, option_and_then}
 use Rattle.word_automata.specs.Path.{edges_of}
 use Rattle.word_automata.specs.Automaton.{Automaton, target, accepts, accepts_from, IsValid}
-use Rattle.word_automata.proofs.Rows.{All-edges_of}
-use Rattle.exploration.specs.System.{accepts_by, accepts_by_from, IsSuccessors}
+use Rattle.word_automata.proofs.ForCallers.{All-edges_of}
+use Rattle.exploration.specs.DeterministicSystem.{accepts_by, accepts_by_from, IsSuccessors}
 use Rattle.exploration.specs.Numbering.{IsBreadthFirst, StandsFor}
 use Rattle.exploration.proofs.ForCallers.{slice_get-some, look_up-edges, IsSuccessors-moved}
 use Rattle.minimise.specs.Canonical.{IsCanonical}
-use Rattle.minimise.specs.Refinement.{least_state, AreClasses, HasLeastStates, quotient, IsLeastState}
+use Rattle.minimise.specs.Refinement.{least_state, AreLanguageClasses, HasLeastStates, quotient, IsLeastState}
 use Rattle.minimise.proofs.Edges.{accepts_from-past, class-past, edges_of-increasing}
 
 -- an edge of the quotient
@@ -49,7 +49,7 @@ module _ (m : Automaton) (classes : List ℕ) (count : length classes ≡ length
       by a None = refl
       by a (Some r) = refl
 
-module _ (m : Automaton) (classes : List ℕ) (are : AreClasses m classes) where
+module _ (m : Automaton) (classes : List ℕ) (are : AreLanguageClasses m classes) where
   -- from the least state of a class the quotient accepts what the automaton does from any state of it
   from_least : (w : List ℕ) → ((r : ℕ) → accepts_by_from (quotient m classes) r w ≡ accepts_from m r w) → (q : ℕ)
       → (elim (least_state (slice_index classes q)) as (λ o. Bool) [ None ↦ false | Some r ↦ accepts_by_from (quotient m classes) r w ]) ≡ accepts_from m q w

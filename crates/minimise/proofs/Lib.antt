@@ -7,9 +7,8 @@ pub mod Unique
 pub mod Comparisons
 pub mod OwnSignatures
 pub mod HashLemmas
-pub mod Chains
 pub mod MemberLists
 pub mod FoundMoves
 pub mod LetterRuns
 pub mod MovedSources
-pub mod Firsts
+pub mod Buckets

@@ -5,7 +5,7 @@ use Rattle.std.proofs.lemmas.List.{length-set, get_or_past, get_or-set_same, get
 use Rattle.std.proofs.lemmas.List.Elements.{Contains-push, Contains-append_left}
 use Rattle.std.proofs.lemmas.Option.{slice_get-get_or, slice_get_within, get_or_from_slice_get}
 use Rattle.std.specs.List.{filter}
-use Rattle.word_automata.proofs.Members.{Contains-cases, Contains-here, Contains-there, Contains-none}
+use Rattle.word_automata.proofs.ForCallers.{Contains-cases, Contains-here, Contains-there, Contains-none}
 use Rattle.minimise.specs.Refinement.{HasLeastStates}
 use Rattle.minimise.specs.private.Splitters.{IsListed, AreListed, KeepsMembers}
 

@@ -3,7 +3,7 @@ use Rattle.std.proofs.Common.{◌≡◌, ◌<◌, ◌≤◌, ℕ, zero, suc, Lis
 use Rattle.std.proofs.lemmas.Bool.{cases_lt}
 use Rattle.std.proofs.lemmas.List.{get_or_past}
 use Rattle.word_automata.specs.Automaton.{Automaton}
-use Rattle.word_automata.proofs.Edges.{is_accepting-past}
+use Rattle.word_automata.proofs.ForCallers.{is_accepting-past}
 use Rattle.minimise.specs.Refinement.{no_word}
 use Rattle.minimise.specs.private.Rounds.{AreToldApart, outgoing, IsLikeLeast, AreAlike}
 use Rattle.minimise.proofs.Edges.{live_edges-past}

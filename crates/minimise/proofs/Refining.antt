@@ -1,20 +1,16 @@
 -- Rounds of refinement: different classes stay told apart by words, and at the end each class has one language.
-use Rattle.std.proofs.Common.{◌≡◌, ◌-◌, ◌<◌, ◌≤◌, ◌⊎◌, ℕ, zero, suc, Bool, true, false, List, [], ◌∷◌, length, replicate, slice_index, refl, sym, ap, ◌∙◌, inl, inr, arith}
+use Rattle.std.proofs.Common.{◌≡◌, ◌-◌, ◌<◌, ◌≤◌, ◌⊎◌, ℕ, zero, suc, Bool, true, false, List, [], ◌∷◌, length, slice_index, refl, sym, ap, ◌∙◌, inl, inr, arith}
 use Rattle.std.proofs.lemmas.Bool.{cases_eq, cases_lt, true≢false}
 use Rattle.std.proofs.lemmas.List.Sums.{sum_by-cons}
 use Rattle.std.specs.List.{filter_map, sum_by}
 use Rattle.word_automata.specs.Path.{edges_of, is_accepting}
 use Rattle.word_automata.specs.Automaton.{Automaton, accepts_from, IsValid}
-use Rattle.exploration.specs.System.{look_up}
+use Rattle.exploration.specs.DeterministicSystem.{look_up}
+pub use Rattle.exploration.proofs.ForCallers.{index-zeros}
 use Rattle.minimise.specs.Signatures.{Signature}
-use Rattle.minimise.specs.Refinement.{live_class, live_edge, signature_of, IsSplit, AreGrouped, AreCoarse, AreClasses}
+use Rattle.minimise.specs.Refinement.{live_class, live_edge, signature_of, IsSplit, AreGrouped, AreCoarse, AreLanguageClasses}
 use Rattle.minimise.specs.private.Rounds.{AreToldApart, outgoing, AreAlike}
 use Rattle.minimise.proofs.Edges.{edges_differ, next_state, accepts_from-next, class-past, look_up-live_edges, live_edges-increasing, live_class-same}
-
-pub index-zeros : (n q : ℕ) → slice_index (replicate n 0) q ≡ 0
-index-zeros zero q = refl
-index-zeros (suc n) zero = refl
-index-zeros (suc n) (suc q) = index-zeros n q
 
 same_or_not : (x y : Bool) → (x ≡ y) ⊎ (x ≡ y → ⊥)
 same_or_not true true = inl refl
@@ -124,7 +120,7 @@ alike_split m classes split p q e =
     λ i. record { class = 0; accepting = ap (λ (s : Signature). s.accepting) same i; edges = ap (λ (s : Signature). s.edges) same i }
 
 -- where the states of a class have one signature, they accept the same words
-pub stable : (m : Automaton) → IsValid m → (classes : List ℕ) → AreCoarse m classes → AreAlike m classes → AreClasses m classes
+pub stable : (m : Automaton) → IsValid m → (classes : List ℕ) → AreCoarse m classes → AreAlike m classes → AreLanguageClasses m classes
 stable m valid classes coarse same = record { valid = valid; coarse = coarse; alike = λ p q w h. alike w p q h }
   where
     alike : (w : List ℕ) (p q : ℕ) → slice_index classes p ≡ slice_index classes q → accepts_from m p w ≡ accepts_from m q w

@@ -9,7 +9,7 @@ use Rattle.word_automata.specs.Automaton.{Automaton}
 use Rattle.minimise.specs.Signatures.{Signature, same_signature}
 use Rattle.minimise.specs.SignatureLaws.{same_signature-decides}
 use Rattle.minimise.specs.Refinement.{live_class, live_edge, signature_of, no_word, FindsClass, AreGrouped}
-use Rattle.word_automata.proofs.Edges.{is_accepting-past}
+use Rattle.word_automata.proofs.ForCallers.{is_accepting-past}
 use Rattle.minimise.proofs.Edges.{live_edges-past}
 
 -- an edge of a signature, one after another

@@ -7,8 +7,7 @@ use Rattle.sequence.specs.WordOrder.{IsLeastWord}
 use Rattle.word_automata.specs.Path.{Node, edges_of, is_accepting}
 use Rattle.word_automata.specs.Automaton.{Automaton, target, accepts, accepts_from}
 use Rattle.std.proofs.lemmas.List.Elements.{All-nil}
-use Rattle.word_automata.proofs.Rows.{All-edges_of}
-use Rattle.word_automata.proofs.EdgeList.{find_target_within}
+use Rattle.word_automata.proofs.ForCallers.{All-edges_of, find_target_within}
 use Rattle.exploration.specs.Numbering.{run_from, Reaches}
 use Rattle.exploration.proofs.ForCallers.{is_before-asymmetric, accepts_from-append, run_from-accepted, look_up-edges}
 use Rattle.minimise.specs.Canonical.{IsCanonical, SameLanguage, CanonicalIsUnique, CanonicalIsLeast}

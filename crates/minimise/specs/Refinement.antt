@@ -5,7 +5,7 @@ use Rattle.std.specs.List.{filter_map}
 use Rattle.std.specs.Option.{option_map}
 use Rattle.word_automata.specs.Path.{edges_of, is_accepting}
 use Rattle.word_automata.specs.Automaton.{Automaton, target, accepts_from, IsValid}
-use Rattle.exploration.specs.System.{System}
+use Rattle.exploration.specs.DeterministicSystem.{DeterministicSystem}
 use Rattle.minimise.specs.Signatures.{Signature}
 
 -- the least state of a class, none for class 0
@@ -78,13 +78,13 @@ pub record AreCoarse (m : Automaton) (classes : List ℕ) : Type 0 where
   pub least : HasLeastStates classes
 
 -- and states of a valid automaton that are in the same class accept the same words
-pub record AreClasses (m : Automaton) (classes : List ℕ) : Type 0 where
+pub record AreLanguageClasses (m : Automaton) (classes : List ℕ) : Type 0 where
   pub valid : IsValid m
   pub coarse : AreCoarse m classes
   pub alike : (p q : ℕ) (w : List ℕ) → slice_index classes p ≡ slice_index classes q → accepts_from m p w ≡ accepts_from m q w
 
 -- the system of the least states of the classes but 0, where a letter leads to the least state of the class that it leads to
-abbrev pub quotient : Automaton → List ℕ → System ℕ
+abbrev pub quotient : Automaton → List ℕ → DeterministicSystem ℕ
 quotient m classes = record {
   letters = m.letters;
   start = least_state (slice_index classes 0);

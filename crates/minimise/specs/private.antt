@@ -1,3 +1,4 @@
 -- What only contracts of private functions cite.
+pub mod Numbering
 pub mod Rounds
 pub mod Splitters

@@ -3,9 +3,9 @@
 //!
 //! Signatures with one hash fall into one class, so that classes are at most too coarse.
 
-ghost use Rattle.std.specs.Prelude.{◌≡◌, ◌<◌, OnOk, IfOk, length};
+ghost use Rattle.std.specs.Prelude.{◌≡◌, ◌<◌, IfOk, length};
 ghost use Rattle.word_automata.specs.Automaton.{IsValid};
-ghost use Rattle.minimise.specs.private.Rounds.{AreToldApart, outgoing, mixed_in, hash_of, AreHashes};
+ghost use Rattle.minimise.specs.private.Rounds.{AreToldApart, outgoing, edge_number, mixed_in, hash_of, AreHashes};
 
 use crate::growth::Growth;
 use std::alloc::{AllocError, Global};
@@ -22,9 +22,9 @@ pub fn hashed_rounds(alloc: Global, automaton: &Dfa) -> Result<Vec<usize>, Alloc
     let count = automaton.states();
     let mut growth = Growth::new(alloc, count)?;
     let mut classes = vec![in alloc; 0; count]?;
-    let mut finer = Vec::with_capacity(alloc, count)?;
+    let mut finer = vec![in alloc; 0; count]?;
     'rounds: for _ in 0..MOST_ROUNDS {
-        hash_all(automaton, &classes, &mut finer)?;
+        hash_all(automaton, &classes, &mut finer);
         std::mem::swap(&mut classes, &mut finer);
         if growth.is_over(&classes) {
             return Ok(classes);
@@ -34,15 +34,14 @@ pub fn hashed_rounds(alloc: Global, automaton: &Dfa) -> Result<Vec<usize>, Alloc
 }
 
 /// Puts the hashes of the signatures of all states by the classes in the place of what the list has.
-fn hash_all(automaton: &Dfa, classes: &[usize], finer: &mut Vec<usize>) -> Result<(), AllocError>
-    requires { length classes.now ≡ length automaton.now.states }
-    ensures { OnOk result (AreHashes automaton.now classes.now finer.new.items) }
+fn hash_all(automaton: &Dfa, classes: &[usize], finer: &mut Vec<usize>)
+    requires classes { length classes.now ≡ length automaton.now.states }
+    requires finer { length finer.old.items ≡ length automaton.now.states }
+    ensures { AreHashes automaton.now classes.now finer.new.items }
 {
-    finer.clear();
     'states: for state in 0..automaton.states() {
-        finer.push(hash_of(automaton, classes, state))?;
+        finer[state] = hash_of(automaton, classes, state);
     }
-    Ok(())
 }
 
 /// The hash of the signature of the state by the classes, without its own class. That of no word is 0.
@@ -55,11 +54,19 @@ pub fn hash_of(automaton: &Dfa, classes: &[usize], state: usize) -> usize
     let mut value = if automaton.accepting(state) { 1 } else { 0 };
     'edges: for &(letter, to) in edges {
         if classes[to] != 0 {
-            let with_letter = mixed_in(value, letter as usize);
-            value = mixed_in(with_letter, classes[to]);
+            value = mixed_in(value, edge_number(letter, classes[to]));
         }
     }
     value
+}
+
+/// A number that few other letters have with their classes.
+fn edge_number(letter: u32, class: usize) -> usize
+    ensures { result ≡ edge_number (letter, class) }
+{
+    (letter as usize)
+        .wrapping_mul(11_400_714_819_323_198_485)
+        .wrapping_add(class)
 }
 
 /// The number in which the part is mixed. Its square makes sums of parts that are alike come to different numbers.

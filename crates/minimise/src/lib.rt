@@ -4,9 +4,9 @@
 #![tactic(auto)]
 
 mod canon;
+mod class_counter;
 mod growth;
 mod hashing;
-mod incoming;
 mod laws;
 mod numbering;
 mod parts;

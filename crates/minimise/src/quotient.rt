@@ -60,21 +60,14 @@ impl<'a> TransitionSystem for Quotient<'a> {
     }
 
     fn successors(&self, alloc: Global, state: &usize) -> Result<Vec<(u32, usize)>, AllocError> {
-        let mut successors = Vec::new(alloc);
-        'edges: for &(letter, to) in self.automaton.edges_from(*state) {
+        let edges = self.automaton.edges_from(*state);
+        let mut successors = Vec::with_capacity(alloc, edges.len())?;
+        'edges: for &(letter, to) in edges {
             if let Some(least) = least_state(self.classes[to]) {
                 successors.push((letter, least))?;
             }
         }
         Ok(successors)
-    }
-
-    fn codes(&self) -> usize {
-        self.automaton.states()
-    }
-
-    fn code(&self, state: &usize) -> usize {
-        *state
     }
 
     ghost equality = { λ x y h. eqb-true x y h };

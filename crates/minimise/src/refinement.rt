@@ -7,7 +7,7 @@ ghost use Rattle.minimise.specs.Signatures.{same_signature};
 ghost use Rattle.word_automata.specs.Path.{edges_of};
 ghost use Rattle.std.specs.List.{filter_map};
 ghost use Rattle.word_automata.specs.Automaton.{IsValid};
-ghost use Rattle.minimise.specs.Refinement.{live_edge, signature_of, no_word, FindsClass, IsSplit, AreCoarse, AreClasses};
+ghost use Rattle.minimise.specs.Refinement.{live_edge, signature_of, no_word, FindsClass, IsSplit, AreCoarse, AreLanguageClasses};
 
 use crate::hashing::hashed_rounds;
 use crate::numbering::by_least_states;
@@ -21,7 +21,7 @@ use word_automata::Dfa;
 /// The class of each state: 0 where no word is accepted from it, and else one more than the least state from which the same words
 /// are. It takes time linear in the edges times the logarithm of the states, up to sorting by letters, on average over hashing.
 pub fn classes(alloc: Global, automaton: &Dfa) -> Result<Vec<usize>, AllocError>
-    ensures { IfOk result (λ classes. AreClasses automaton.now classes.items) }
+    ensures { IfOk result (λ classes. AreLanguageClasses automaton.now classes.items) }
 {
     let hashed = hashed_rounds(alloc, automaton)?;
     let classes = by_least_states(alloc, automaton, &hashed)?;
@@ -39,7 +39,7 @@ fn split_further(
 ) -> Result<Vec<usize>, AllocError>
     requires valid { IsValid automaton.now }
     requires coarse { AreCoarse automaton.now coarse.items }
-    ensures { IfOk result (λ classes. AreClasses automaton.now classes.items) }
+    ensures { IfOk result (λ classes. AreLanguageClasses automaton.now classes.items) }
 {
     let refined = refine(alloc, automaton, coarse)?;
     let classes = by_least_states(alloc, automaton, &refined)?;
@@ -53,7 +53,7 @@ fn split_further(
 fn rounds(alloc: Global, automaton: &Dfa, coarse: Vec<usize>) -> Result<Vec<usize>, AllocError>
     requires valid { IsValid automaton.now }
     requires coarse { AreCoarse automaton.now coarse.items }
-    ensures { IfOk result (λ classes. AreClasses automaton.now classes.items) }
+    ensures { IfOk result (λ classes. AreLanguageClasses automaton.now classes.items) }
 {
     let mut classes = coarse;
     'rounds: loop {

@@ -8,10 +8,10 @@ ghost use Rattle.std.specs.Prelude.{◌≡◌, ◌<◌, ◌≤◌, ℕ, IfOk, On
 ghost use Rattle.word_automata.specs.Automaton.{IsValid};
 ghost use Rattle.minimise.specs.Refinement.{AreCoarse};
 ghost use Rattle.minimise.specs.private.Rounds.{AreToldApart};
-ghost use Rattle.minimise.specs.private.Splitters.{AreChained, AreListed, KeepsMembers, AddsMovesOf, AreMovesInto, HasOrderedLetters, IsRun, IsSaturated, AreSources, SplitsSoundly, AreMoved, target_of};
+ghost use Rattle.minimise.specs.private.Splitters.{AreListed, KeepsMembers, AddsMovesOf, AreMovesInto, HasOrderedLetters, IsRun, IsSaturated, AreSources, SplitsSoundly, AreMoved, target_of};
 
-use crate::incoming::Incoming;
 use crate::parts::Parts;
+use exploration::Incoming;
 use std::alloc::{AllocError, Global};
 use word_automata::Dfa;
 
@@ -72,10 +72,9 @@ fn find_moves(
     class: usize,
     found: &mut Vec<(u32, usize)>,
 ) -> Result<(), AllocError>
-    requires chained { AreChained incoming.now.last.items incoming.now.edges.items }
-    requires listed { AreListed classes.now members.old.items }
+    requires { AreListed classes.now members.old.items }
     ensures listed { OnOk result (AreListed classes.now members.new.items) }
-    ensures moves { OnOk result (AreMovesInto incoming.now.last.items incoming.now.edges.items classes.now class found.new.items) }
+    ensures moves { OnOk result (AreMovesInto incoming.now classes.now class found.new.items) }
     ensures ordered { OnOk result (HasOrderedLetters found.new.items) }
 {
     found.clear();
@@ -120,9 +119,7 @@ fn put_moves(
     class: usize,
     found: &mut Vec<(u32, usize)>,
 ) -> Result<(), AllocError>
-    requires chained { AreChained incoming.now.last.items incoming.now.edges.items }
-    ensures { OnOk result (AddsMovesOf incoming.now.last.items incoming.now.edges.items classes.now class states.now
-        found.old.items found.new.items) }
+    ensures { OnOk result (AddsMovesOf incoming.now classes.now class states.now found.old.items found.new.items) }
 {
     'states: for state in states {
         if class_of(classes, *state) == class {

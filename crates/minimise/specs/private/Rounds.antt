@@ -1,10 +1,10 @@
--- Rounds of refinement by hashes of signatures, classes that are stable, and first states of classes.
-use Rattle.std.specs.Prelude.{◌≡◌, ◌<◌, ◌+◌, ◌*◌, ◌%◌, ◌/◌, ◌^◌, ℕ, suc, List, Option, ltb, length, slice_index, if◌then◌else◌}
+-- Rounds of refinement by hashes of signatures, and classes that are stable.
+use Rattle.std.specs.Prelude.{◌≡◌, ◌<◌, ◌+◌, ◌*◌, ◌%◌, ◌/◌, ◌^◌, ℕ, suc, List, length, slice_index, if◌then◌else◌}
 use Rattle.std.specs.List.{filter_map, fold}
 use Rattle.word_automata.specs.Path.{edges_of, is_accepting}
 use Rattle.word_automata.specs.Automaton.{Automaton, accepts_from}
 use Rattle.minimise.specs.Signatures.{Signature}
-use Rattle.minimise.specs.Refinement.{live_class, live_edge, no_word}
+use Rattle.minimise.specs.Refinement.{live_edge, no_word}
 
 -- some word tells the states apart
 abbrev pub AreApart : Automaton → ℕ → ℕ → Type 0
@@ -30,8 +30,12 @@ with_square n = (n * (2 * (n / 4294967296) + 1)) % 2 ^ 64
 abbrev pub mixed_in : ℕ → ℕ → ℕ
 mixed_in value part = with_square ((((value + part) % 2 ^ 64) * 11400714819323198485) % 2 ^ 64)
 
+-- a letter with the class to which it leads as a number
+abbrev pub edge_number : ℕ × ℕ → ℕ
+edge_number edge = ((edge.0 * 11400714819323198485) % 2 ^ 64 + edge.1) % 2 ^ 64
+
 abbrev pub mixed_in_edge : ℕ → ℕ × ℕ → ℕ
-mixed_in_edge value edge = mixed_in (mixed_in value edge.0) edge.1
+mixed_in_edge value edge = mixed_in value (edge_number edge)
 
 -- the hash of a signature without its class, of which that of no word is 0
 abbrev pub hash_of : Signature → ℕ
@@ -50,7 +54,3 @@ pub record IsLikeLeast (m : Automaton) (classes : List ℕ) (q : ℕ) : Type 0 w
 -- states of one class have one signature
 abbrev pub AreAlike : Automaton → List ℕ → Type 0
 AreAlike m classes = (p q : ℕ) → slice_index classes p ≡ slice_index classes q → outgoing m classes p ≡ outgoing m classes q
-
--- what the table has at the class, none for 0, and beyond the table what is known beside it
-abbrev pub first_in : List ℕ → (ℕ → Option ℕ) → ℕ → Option ℕ
-first_in small others class = if ltb class (length small) then live_class (slice_index small class) else others class

@@ -1,66 +1,20 @@
--- Edges by their targets, and classes that are split by the states from which a letter leads to a class.
-use Rattle.std.specs.Prelude.{◌≡◌, ◌<◌, ◌≤◌, ◌⊎◌, ◌&&◌, ltb, eqb, ℕ, zero, suc, List, Vec, Some, Contains, length, slice_index, slice_index_or, slice_get, if◌then◌else◌}
-use Rattle.word_automata.specs.Path.{edges_of}
+-- Classes that are split by the states from which a letter leads to a class.
+use Rattle.std.specs.Prelude.{◌≡◌, ◌<◌, ◌≤◌, ◌⊎◌, ◌&&◌, ltb, eqb, ℕ, List, Vec, Some, Contains, length, slice_index, slice_index_or, slice_get, if◌then◌else◌}
 use Rattle.word_automata.specs.Automaton.{Automaton}
+use Rattle.exploration.specs.Incoming.{Chains, IsInto}
 use Rattle.minimise.specs.private.Rounds.{AreApart, AreToldApart}
 
--- a letter with the state that an edge leaves, and the number of the edge before it into the same state
-abbrev pub Link : Type 0
-Link = (ℕ × ℕ) × ℕ
-
--- the number of the edge before the one of this number, 0 where there is none
-abbrev pub before : List Link → ℕ → ℕ
-before edges zero = 0
-before edges (suc k) = (slice_index_or edges k ((0, 0), 0)).1
-
--- the number of the edge so many steps before the one of this number
-abbrev pub steps_before : List Link → ℕ → ℕ → ℕ
-steps_before edges zero number = number
-steps_before edges (suc n) number = steps_before edges n (before edges number)
-
--- the edge at place k is in the chain from the edge of this number
-abbrev pub IsInChain : List Link → ℕ → ℕ → Type 0
-IsInChain edges number k = (n : ℕ) × (steps_before edges n number ≡ suc k)
-
--- the letter and the source belong to an edge in the chain of the state
-abbrev pub IsInto : List ℕ → List Link → ℕ → ℕ × ℕ → Type 0
-IsInto last edges q move = (k : ℕ) × IsInChain edges (slice_index last q) k × ((slice_index_or edges k ((0, 0), 0)).0 ≡ move)
-
--- numbers of edges are at most their count, and an edge comes after the one before it
-pub record AreChained (last : List ℕ) (edges : List Link) : Type 0 where
-  pub within : (q : ℕ) → slice_index last q ≤ length edges
-  pub descends : (k : ℕ) → before edges (suc k) ≤ k
-
--- the chains have the edges of the automaton, each in the chain of its target
-pub record AreIncoming (m : Automaton) (last : List ℕ) (edges : List Link) : Type 0 where
-  pub chained : AreChained last edges
-  pub complete : (p a q : ℕ) → Contains (edges_of m.states p) (a, q) → IsInto last edges q (a, p)
-  pub sound : (q : ℕ) (move : ℕ × ℕ) → IsInto last edges q move → Contains (edges_of m.states move.1) (move.0, q)
-
--- the edges that leave the state are added to the chains of their targets
-pub record AddsEdges (last : List ℕ) (edges : List Link) (more : List ℕ) (longer : List Link) (leaving : List (ℕ × ℕ)) (state : ℕ) : Type 0 where
-  pub count : length more ≡ length last
-  pub chained : AreChained more longer
-  pub kept : (q : ℕ) (move : ℕ × ℕ) → IsInto last edges q move → IsInto more longer q move
-  pub added : (edge : ℕ × ℕ) → Contains leaving edge → edge.1 < length last → IsInto more longer edge.1 (edge.0, state)
-  pub only : (q : ℕ) (move : ℕ × ℕ) → IsInto more longer q move → IsInto last edges q move ⊎ ((move.1 ≡ state) × Contains leaving (move.0, q))
-
--- what leads into the state is added to the moves
-pub record AddsMoves (last : List ℕ) (edges : List Link) (q : ℕ) (old new : List (ℕ × ℕ)) : Type 0 where
-  pub kept : (move : ℕ × ℕ) → Contains old move → Contains new move
-  pub added : (move : ℕ × ℕ) → IsInto last edges q move → Contains new move
-  pub only : (move : ℕ × ℕ) → Contains new move → Contains old move ⊎ IsInto last edges q move
-
 -- what leads into the states of the list that are in the class is added to the moves
-pub record AddsMovesOf (last : List ℕ) (edges : List Link) (classes : List ℕ) (class : ℕ) (states : List ℕ) (old new : List (ℕ × ℕ)) : Type 0 where
-  pub added : (q : ℕ) (move : ℕ × ℕ) → Contains states q → slice_index classes q ≡ class → IsInto last edges q move → Contains new move
-  pub only : (move : ℕ × ℕ) → Contains new move → Contains old move ⊎ ((q : ℕ) × (slice_index classes q ≡ class) × IsInto last edges q move)
+pub record AddsMovesOf (chains : Chains) (classes : List ℕ) (class : ℕ) (states : List ℕ) (old new : List (ℕ × ℕ)) : Type 0 where
+  pub added : (q : ℕ) (move : ℕ × ℕ) → Contains states q → slice_index classes q ≡ class → IsInto chains q move → Contains new move
+  pub only : (move : ℕ × ℕ) → Contains new move → Contains old move ⊎ ((q : ℕ) × (slice_index classes q ≡ class) × IsInto chains q move)
 
 -- the moves are those that lead into the class, or there are none
-pub record AreMovesInto (last : List ℕ) (edges : List Link) (classes : List ℕ) (class : ℕ) (moves : List (ℕ × ℕ)) : Type 0 where
+pub record AreMovesInto (chains : Chains) (classes : List ℕ) (class : ℕ) (moves : List (ℕ × ℕ)) : Type 0 where
   pub some : (move : ℕ × ℕ) → Contains moves move → class ≡ 0 → ⊥
-  pub complete : (move other : ℕ × ℕ) (q : ℕ) → Contains moves other → slice_index classes q ≡ class → IsInto last edges q move → Contains moves move
-  pub sound : (move : ℕ × ℕ) → Contains moves move → (q : ℕ) × (slice_index classes q ≡ class) × IsInto last edges q move
+  pub complete : (move other : ℕ × ℕ) (q : ℕ) → Contains moves other → slice_index classes q ≡ class → IsInto chains q move
+      → Contains moves move
+  pub sound : (move : ℕ × ℕ) → Contains moves move → (q : ℕ) × (slice_index classes q ≡ class) × IsInto chains q move
 
 -- the state p is in the list of the class c
 abbrev pub IsListed : {A : Type 0} → List (Vec ℕ A) → ℕ → ℕ → Type 0

@@ -1,6 +1,6 @@
 use Rattle.std.proofs.Common.{◌≡◌, sym, subst, ◌∙◌}
 use Rattle.word_automata.specs.Automaton.{accepts}
-use Rattle.exploration.specs.System.{accepts_by}
+use Rattle.exploration.specs.DeterministicSystem.{accepts_by}
 use Rattle.exploration.specs.Numbering.{StandsFor}
 use Rattle.minimise.specs.Refinement.{HasLeastStates, quotient, IsLeastState}
 use Rattle.minimise.proofs.LeastStates.{quotient_language, quotient_canonical}

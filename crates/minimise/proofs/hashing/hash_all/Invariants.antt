@@ -4,6 +4,6 @@ use Rattle.minimise.proofs.hashing.hash_all.Given as goal
 
 abbrev pub invariant-states : goal.invariant-states
 invariant-states l = record {
-  count : length l.finer.items ≡ l.state;
+  count : length l.finer.items ≡ length l.automaton.states;
   each : (q : ℕ) → q < l.state → slice_index l.finer.items q ≡ hash_of (outgoing l.automaton l.classes q);
 }

@@ -1,4 +1,4 @@
-use Rattle.std.proofs.Common.{ap, ◌∙◌, get_or, slice_index, if◌then◌else◌}
+use Rattle.std.proofs.Common.{ap, ◌∙◌, if◌then◌else◌}
 use Rattle.word_automata.specs.Path.{is_accepting}
 use Rattle.minimise.specs.private.Rounds.{mixed_in}
 use Rattle.minimise.proofs.HashLemmas.{hash_more, hash_same}
@@ -14,7 +14,7 @@ edges-preserved c =
     elim c.if-classes-to-ne0.branch [
       | then-classes-to-ne0 w ↦
           w.value-is ∙ w.mixed_in-value.ensures
-          ∙ ap (λ v. mixed_in v (slice_index classes (get_or edges i (0, 0)).1)) w.mixed_in-with_letter.ensures
+          ∙ ap (mixed_in c.edges.value) w.edge_number.ensures
           ∙ hash_more start classes edges i c.edges-test.true c.edges.value c.edges.invariant w.if-classes-to-ne0.true
       | else-classes-to-ne0 w ↦
           w.value-is ∙ hash_same start classes edges i c.edges-test.true c.edges.value c.edges.invariant w.if-classes-to-ne0.false

@@ -1,5 +1,9 @@
+use Rattle.std.proofs.Common.{◌≡◌, length}
 use Rattle.minimise.specs.private.Rounds.{AreToldApart}
 use Rattle.minimise.proofs.hashing.hashed_rounds.Given as goal
 
 abbrev pub invariant-rounds : goal.invariant-rounds
-invariant-rounds l = AreToldApart l.automaton l.classes.items
+invariant-rounds l = record {
+  apart : AreToldApart l.automaton l.classes.items;
+  count : length l.finer.items ≡ length l.automaton.states;
+}

@@ -1,9 +1,10 @@
-use Rattle.std.proofs.Common.{nat_eq, slice_index}
-use Rattle.std.proofs.lemmas.Bool.{cases_eq}
-use Rattle.std.specs.HashMap.{get}
-use Rattle.minimise.specs.private.Rounds.{first_in}
-use Rattle.minimise.proofs.Splitting.{IsSplitting}
+use Rattle.std.proofs.Common.{◌≡◌, length}
+use Rattle.minimise.specs.private.Numbering.{AreNumbered, AreInBuckets}
 use Rattle.minimise.proofs.numbering.by_least_states.Given as goal
 
 abbrev pub invariant-states : goal.invariant-states
-invariant-states l = IsSplitting (slice_index l.classes) 0 cases_eq (first_in l.firsts.small.items (get nat_eq l.firsts.others)) l.least.items l.state
+invariant-states l = record {
+  count : length l.least.items ≡ l.state;
+  numbered : AreNumbered l.classes l.least.items;
+  buckets : AreInBuckets (length l.heads.items) l.classes l.heads.items l.links.items l.least.items;
+}
