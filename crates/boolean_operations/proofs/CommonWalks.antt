@@ -1,5 +1,5 @@
 -- Walks over pairs of states spell the words that both automata accept.
-use Rattle.std.proofs.Common.{ℕ, List, Option, None, Some, MatchOption, refl, sym, ap, ◌∙◌}
+use Rattle.std.proofs.Common.{ℕ, Bool, List, Option, None, Some, MatchOption, refl, sym, ap, ◌∙◌}
 use Rattle.std.proofs.lemmas.Bool.{and_parts, and_from}
 use Rattle.sequence.specs.WordOrder.{IsLeastWord}
 use Rattle.word_automata.specs.Path.{is_accepting}
@@ -8,9 +8,10 @@ use Rattle.word_automata.specs.Nondeterministic.{NondeterministicAutomaton}
 use Rattle.boolean_operations.specs.OptionalStates.{start_of, accepts_at}
 use Rattle.boolean_operations.specs.CommonWords.{IsCommonWord}
 use Rattle.boolean_operations.specs.private.Search.{IsFound}
-use Rattle.boolean_operations.specs.private.PairGraph.{IsStartPair, PairEdge, is_common_pair}
+use Rattle.boolean_operations.specs.private.DeadStates.{AreRejecting}
+use Rattle.boolean_operations.specs.private.PairGraph.{IsStartPair, PairEdge, LiveEdge, is_common_pair}
 use Rattle.boolean_operations.proofs.OptionalStates.{accepts_option, accepts_option-start}
-use Rattle.boolean_operations.proofs.PairWalks.{strip, lift, after, down, up}
+use Rattle.boolean_operations.proofs.PairWalks.{strip, lift, after, down, up, found_any, found_live}
 
 module _ (n : NondeterministicAutomaton) (m : Automaton) where
   common_of_found : (w : List ℕ) → IsFound (IsStartPair n m) (PairEdge n m) (is_common_pair n m) w → IsCommonWord n m w
@@ -35,10 +36,15 @@ module _ (n : NondeterministicAutomaton) (m : Automaton) where
         ((start, q), lift n m q moves, (begins, refl), u.0, u.1 ∙ says),
       )
 
-  pub common : {X : Type 0} (items : X → List ℕ) (o : Option X)
-      → MatchOption o ((w : List ℕ) → IsFound (IsStartPair n m) (PairEdge n m) (is_common_pair n m) w → ⊥)
-      (λ x. IsLeastWord (IsFound (IsStartPair n m) (PairEdge n m) (is_common_pair n m)) (items x))
-      → MatchOption o ((w : List ℕ) → IsCommonWord n m w → ⊥) (λ x. IsLeastWord (IsCommonWord n m) (items x))
-  common items None nothing = λ w is. nothing w (found_of_common w is)
-  common items (Some x) least =
-      (common_of_found (items x) least.0, λ v is before. least.1 v (found_of_common v is) before)
+  module _ (flags : List Bool) (rejecting : AreRejecting n flags) where
+    common_live : (w : List ℕ) → IsCommonWord n m w → IsFound (IsStartPair n m) (LiveEdge n m flags) (is_common_pair n m) w
+    common_live w is =
+        found_live n m flags rejecting (is_common_pair n m) (λ t good. (and_parts (is_accepting n.states t.0) (accepts_at m t.1) good).0) w (found_of_common w is)
+
+    pub common : {X : Type 0} (items : X → List ℕ) (o : Option X)
+        → MatchOption o ((w : List ℕ) → IsFound (IsStartPair n m) (LiveEdge n m flags) (is_common_pair n m) w → ⊥)
+        (λ x. IsLeastWord (IsFound (IsStartPair n m) (LiveEdge n m flags) (is_common_pair n m)) (items x))
+        → MatchOption o ((w : List ℕ) → IsCommonWord n m w → ⊥) (λ x. IsLeastWord (IsCommonWord n m) (items x))
+    common items None nothing = λ w is. nothing w (common_live w is)
+    common items (Some x) least =
+        (common_of_found (items x) (found_any n m flags (is_common_pair n m) (items x) least.0), λ v is before. least.1 v (common_live v is) before)

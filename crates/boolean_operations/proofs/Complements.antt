@@ -4,7 +4,7 @@ use Rattle.std.proofs.lemmas.Bool.{cases_lt}
 use Rattle.std.proofs.lemmas.Bool.Decides.{nat_tests}
 use Rattle.std.proofs.lemmas.List.Elements.{All-map}
 use Rattle.word_automata.specs.Automaton.{Automaton, accepts, IsValid}
-use Rattle.exploration.specs.System.{accepts_by, accepts_by_from, IsSuccessors}
+use Rattle.exploration.specs.DeterministicSystem.{accepts_by, accepts_by_from, IsSuccessors}
 use Rattle.boolean_operations.specs.OptionalStates.{start_of, follow, IsStateOrNone}
 use Rattle.boolean_operations.specs.Complements.{are_letters, complement_system}
 use Rattle.boolean_operations.proofs.OptionalStates.{accepts_option, accepts_option-nil, accepts_option-cons, accepts_option-start, follow-within}

@@ -3,7 +3,7 @@ use Rattle.std.proofs.Common.{◌≡◌, ℕ, zero, suc, ◌<◌, ◌≤◌, Lis
 use Rattle.std.proofs.lemmas.Bool.{cases_eq}
 use Rattle.std.proofs.lemmas.List.Elements.{All-nil, All-push, All-weaker, All-tail}
 use Rattle.std.proofs.lemmas.List.{map_push}
-use Rattle.exploration.specs.System.{look_up, HasIncreasingLetters}
+use Rattle.exploration.specs.DeterministicSystem.{look_up, HasIncreasingLetters}
 use Rattle.exploration.proofs.ForCallers.{look_up-above, look_up-push_same, look_up-push_other}
 
 -- the letters below n, in order

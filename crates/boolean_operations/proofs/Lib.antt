@@ -1,5 +1,6 @@
 pub mod CommonWalks
 pub mod Complements
+pub mod DeadStates
 pub mod EdgeTargets
 pub mod ForCallers
 pub mod Letters

@@ -4,7 +4,7 @@ use Rattle.std.proofs.lemmas.Bool.{cases_eq, cases_lt}
 use Rattle.std.proofs.lemmas.Option.{slice_get_within}
 use Rattle.std.proofs.lemmas.List.Elements.{All-nil, All-push, All-weaker, All-contains}
 use Rattle.word_automata.specs.Automaton.{Automaton, find_target, IsValid}
-use Rattle.exploration.specs.System.{look_up, IsSuccessors}
+use Rattle.exploration.specs.DeterministicSystem.{look_up, IsSuccessors}
 use Rattle.exploration.proofs.ForCallers.{look_up-above, look_up-push_same, look_up-push_other}
 use Rattle.boolean_operations.specs.OptionalStates.{follow, edges_at, IsStateOrNone}
 use Rattle.boolean_operations.specs.private.Products.{IsPairOfStates, pair_of, pair_system}

@@ -3,7 +3,7 @@ use Rattle.std.proofs.Common.{◌≡◌, ◌+◌, ◌-◌, ◌<◌, ◌≤◌, �
 use Rattle.std.proofs.lemmas.Bool.{cases_eq}
 use Rattle.word_automata.specs.Automaton.{HasIncreasingLetters}
 use Rattle.word_automata.specs.EdgeList.{letter_at, IsGapFor}
-use Rattle.word_automata.proofs.EdgeList.{letters_rise}
+use Rattle.word_automata.proofs.ForCallers.{letters_rise}
 
 -- the edge before a place has a smaller letter, and the edge at it a greater one
 pub gap_between : (edges : List (ℕ × ℕ)) → HasIncreasingLetters edges → (letter i : ℕ) → i ≤ length edges

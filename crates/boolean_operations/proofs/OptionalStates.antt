@@ -3,8 +3,7 @@ use Rattle.std.proofs.Common.{◌≡◌, ℕ, ◌<◌, Bool, false, List, [], �
 use Rattle.std.proofs.lemmas.List.Elements.{All-nil}
 use Rattle.word_automata.specs.Path.{Node}
 use Rattle.word_automata.specs.Automaton.{Automaton, accepts, accepts_from, target, find_target, IsValid, HasIncreasingLetters}
-use Rattle.word_automata.proofs.Targets.{accepts-empty, target_within, ordered_edges}
-use Rattle.word_automata.proofs.Rows.{All-edges_of}
+use Rattle.word_automata.proofs.ForCallers.{accepts-empty, target_within, ordered_edges, All-edges_of}
 use Rattle.boolean_operations.specs.OptionalStates.{start_of, follow, accepts_at, edges_at, IsStateOrNone}
 
 -- whether the automaton accepts the word from the state, if there is one

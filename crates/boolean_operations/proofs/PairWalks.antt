@@ -1,18 +1,18 @@
 -- Walks over pairs of states spell the words that one automaton accepts and the other refuses.
-use Rattle.std.proofs.Common.{◌≡◌, ◌+◌, ◌<◌, ◌≤◌, ◌⊎◌, ◌↔◌, ℕ, Bool, true, false, not, List, [], ◌∷◌, ◌++◌, Option, None, Some, All, Contains, get_or, length, slice_get, MatchOption, refl, sym, ap, subst, ◌∙◌, inl, inr, arith}
-use Rattle.std.proofs.lemmas.Bool.{and_parts, and_from, cases_eq, not-true}
+use Rattle.std.proofs.Common.{◌≡◌, ◌+◌, ◌<◌, ◌≤◌, ◌⊎◌, ◌↔◌, ℕ, Bool, true, false, not, List, [], ◌∷◌, ◌++◌, Option, None, Some, All, Contains, get_or, length, slice_get, slice_index_or, IsTrue, MatchOption, refl, sym, ap, subst, ◌∙◌, inl, inr, arith}
+use Rattle.std.proofs.lemmas.Bool.{and_parts, and_from, cases_eq, not-true, true≢false}
 use Rattle.std.proofs.lemmas.Option.{same_Some, slice_get-get_or}
 use Rattle.std.proofs.lemmas.List.Elements.{All-contains, All-nil, Contains-append_left, Contains-push, Contains-push_cases}
 use Rattle.sequence.specs.WordOrder.{IsLeastWord}
 use Rattle.word_automata.specs.Path.{edges_of, is_accepting, IsPath, spelled}
 use Rattle.word_automata.specs.Automaton.{Automaton, accepts, IsValid}
 use Rattle.word_automata.specs.Nondeterministic.{NondeterministicAutomaton, IsInRange}
-use Rattle.word_automata.proofs.Members.{Contains-none, All-from_contains}
-use Rattle.word_automata.proofs.Rows.{All-edges_of}
+use Rattle.word_automata.proofs.ForCallers.{Contains-none, All-from_contains, All-edges_of}
 use Rattle.boolean_operations.specs.OptionalStates.{start_of, follow, accepts_at, IsStateOrNone}
 use Rattle.boolean_operations.specs.Inclusion.{IsIncluded, IsOutside}
 use Rattle.boolean_operations.specs.private.Search.{Leads, letters_of, IsFound, Gathers}
-use Rattle.boolean_operations.specs.private.PairGraph.{IsPair, IsStartPair, advance, PairEdge, is_outside_pair, IsStartAmong, IsSilentAmong, IsStepAmong}
+use Rattle.boolean_operations.specs.private.DeadStates.{AreRejecting}
+use Rattle.boolean_operations.specs.private.PairGraph.{IsPair, IsStartPair, advance, PairEdge, LiveEdge, is_outside_pair, IsStartAmong, IsSilentAmong, IsStepAmong}
 use Rattle.boolean_operations.proofs.OptionalStates.{accepts_option, accepts_option-nil, accepts_option-cons, accepts_option-start, follow-within}
 use Rattle.boolean_operations.proofs.SearchCalls.{place_of, contains_at}
 
@@ -128,20 +128,60 @@ module _ (n : NondeterministicAutomaton) (m : Automaton) where
         ((start, q), lift q moves, (begins, refl), u.0, u.1 ∙ says),
       )
 
-  included_of : ((w : List ℕ) → IsFound (IsStartPair n m) (PairEdge n m) (is_outside_pair n m) w → ⊥) → IsIncluded n m
-  included_of nothing w run = by (accepts m w) refl
-    where
-      by : (b : Bool) → accepts m w ≡ b → accepts m w ≡ true
-      by true accepted = accepted
-      by false refused = absurd (nothing w (found_of_outside w (run, refused)))
+  -- walks that meet no flagged state
+  module _ (flags : List Bool) where
+    along_any : (moves : List (Option ℕ × (ℕ × Option ℕ))) (s t : ℕ × Option ℕ) → Leads (LiveEdge n m flags) s moves t → Leads (PairEdge n m) s moves t
+    along_any [] s t same = same
+    along_any (move ∷ moves) s t goes = (goes.0.0, along_any moves move.1 t goes.1)
 
-  pub inclusion : {X : Type 0} (items : X → List ℕ) (o : Option X)
-      → MatchOption o ((w : List ℕ) → IsFound (IsStartPair n m) (PairEdge n m) (is_outside_pair n m) w → ⊥)
-      (λ x. IsLeastWord (IsFound (IsStartPair n m) (PairEdge n m) (is_outside_pair n m)) (items x))
-      → MatchOption o (IsIncluded n m) (λ x. IsLeastWord (IsOutside n m) (items x))
-  inclusion items None nothing = included_of nothing
-  inclusion items (Some x) least =
-      (outside_of_found (items x) least.0, λ v is_outside before. least.1 v (found_of_outside v is_outside) before)
+    pub found_any : (goal : ℕ × Option ℕ → Bool) (w : List ℕ) → IsFound (IsStartPair n m) (LiveEdge n m flags) goal w → IsFound (IsStartPair n m) (PairEdge n m) goal w
+    found_any goal w (t, good, (s, moves, begins, leads, says)) = (t, good, (s, moves, begins, along_any moves s t leads, says))
+
+    module _ (rejecting : AreRejecting n flags) where
+      -- a state from which a walk leads to an accepting one has no flag
+      is_live : (moves : List (Option ℕ × (ℕ × Option ℕ))) (s t : ℕ × Option ℕ) → Leads (PairEdge n m) s moves t → IsTrue (is_accepting n.states t.0)
+          → slice_index_or flags s.0 false ≡ true → ⊥
+      is_live [] s t same accepting flag =
+          true≢false (sym accepting ∙ ap (λ (x : ℕ × Option ℕ). is_accepting n.states x.0) (sym same) ∙ (rejecting s.0).rejects flag)
+      is_live (move ∷ moves) s t goes accepting flag =
+          is_live moves move.1 t goes.1 accepting ((rejecting s.0).leads flag move.0 move.1.0 goes.0.0)
+
+      no_flag : (moves : List (Option ℕ × (ℕ × Option ℕ))) (s t : ℕ × Option ℕ) → Leads (PairEdge n m) s moves t → IsTrue (is_accepting n.states t.0)
+          → slice_index_or flags s.0 false ≡ false
+      no_flag moves s t goes accepting = by (slice_index_or flags s.0 false) refl
+        where
+          by : (b : Bool) → slice_index_or flags s.0 false ≡ b → slice_index_or flags s.0 false ≡ false
+          by true e = absurd (is_live moves s t goes accepting e)
+          by false e = e
+
+      along_live : (moves : List (Option ℕ × (ℕ × Option ℕ))) (s t : ℕ × Option ℕ) → Leads (PairEdge n m) s moves t → IsTrue (is_accepting n.states t.0)
+          → Leads (LiveEdge n m flags) s moves t
+      along_live [] s t same accepting = same
+      along_live (move ∷ moves) s t goes accepting = ((goes.0, no_flag moves move.1 t goes.1 accepting), along_live moves move.1 t goes.1 accepting)
+
+      pub found_live : (goal : ℕ × Option ℕ → Bool) → ((t : ℕ × Option ℕ) → IsTrue (goal t) → IsTrue (is_accepting n.states t.0))
+          → (w : List ℕ) → IsFound (IsStartPair n m) (PairEdge n m) goal w → IsFound (IsStartPair n m) (LiveEdge n m flags) goal w
+      found_live goal accepts_left w (t, good, (s, moves, begins, leads, says)) =
+          (t, good, (s, moves, begins, along_live moves s t leads (accepts_left t good), says))
+
+      outside_live : (w : List ℕ) → IsOutside n m w → IsFound (IsStartPair n m) (LiveEdge n m flags) (is_outside_pair n m) w
+      outside_live w is =
+          found_live (is_outside_pair n m) (λ t good. (and_parts (is_accepting n.states t.0) (not (accepts_at m t.1)) good).0) w (found_of_outside w is)
+
+      included_of : ((w : List ℕ) → IsFound (IsStartPair n m) (LiveEdge n m flags) (is_outside_pair n m) w → ⊥) → IsIncluded n m
+      included_of nothing w run = by (accepts m w) refl
+        where
+          by : (b : Bool) → accepts m w ≡ b → accepts m w ≡ true
+          by true accepted = accepted
+          by false refused = absurd (nothing w (outside_live w (run, refused)))
+
+      pub inclusion : {X : Type 0} (items : X → List ℕ) (o : Option X)
+          → MatchOption o ((w : List ℕ) → IsFound (IsStartPair n m) (LiveEdge n m flags) (is_outside_pair n m) w → ⊥)
+          (λ x. IsLeastWord (IsFound (IsStartPair n m) (LiveEdge n m flags) (is_outside_pair n m)) (items x))
+          → MatchOption o (IsIncluded n m) (λ x. IsLeastWord (IsOutside n m) (items x))
+      inclusion items None nothing = included_of nothing
+      inclusion items (Some x) least =
+          (outside_of_found (items x) (found_any (is_outside_pair n m) (items x) least.0), λ v is_outside before. least.1 v (outside_live v is_outside) before)
 
   -- the target of an edge is a state
   target_state : IsInRange n → (p : ℕ) (l : Option ℕ) (r : ℕ) → Contains (edges_of n.states p) (l, r) → r < length n.states
@@ -171,90 +211,98 @@ module _ (n : NondeterministicAutomaton) (m : Automaton) where
       (λ y is. (contains_at n.starts y.0 is.0 is.2, is.3))
       (λ y is. let place = place_of n.starts y.0 is.0 in (place.0, (let l = place.1 in omega arith), place.2, is.1)) g
 
-  module _ (in_range : IsInRange n) (valid : IsValid m) (p : ℕ) (q : Option ℕ) (state : IsStateOrNone m q) where
+  module _ (flags : List Bool) (in_range : IsInRange n) (valid : IsValid m) (p : ℕ) (q : Option ℕ) (state : IsStateOrNone m q) where
     edges : List (Option ℕ × ℕ)
     edges = edges_of n.states p
 
     -- one more edge without a letter
-    pub silent_more : (targets : List (ℕ × Option ℕ)) (k r : ℕ) → slice_get (edges_of n.states p) k ≡ Some (None, r) → Gathers (IsPair n m) (IsSilentAmong q (edges_of n.states p) k) [] targets
-        → Gathers (IsPair n m) (IsSilentAmong q (edges_of n.states p) (k + 1)) [] (targets ++ (r, q) ∷ [])
-    silent_more targets k r at g =
-        gathers_push (IsPair n m) (IsSilentAmong q (edges_of n.states p) k) (IsSilentAmong q (edges_of n.states p) (k + 1)) [] targets (r, q)
+    pub silent_more : (targets : List (ℕ × Option ℕ)) (k r : ℕ) → slice_get (edges_of n.states p) k ≡ Some (None, r)
+        → slice_index_or flags r false ≡ false → Gathers (IsPair n m) (IsSilentAmong flags q (edges_of n.states p) k) [] targets
+        → Gathers (IsPair n m) (IsSilentAmong flags q (edges_of n.states p) (k + 1)) [] (targets ++ (r, q) ∷ [])
+    silent_more targets k r at live g =
+        gathers_push (IsPair n m) (IsSilentAmong flags q (edges_of n.states p) k) (IsSilentAmong flags q (edges_of n.states p) (k + 1)) [] targets (r, q)
         (in_range, valid, target_state in_range p None r (contains_at (edges_of n.states p) (None, r) k at), state)
-        (k, omega arith, at, refl)
-        (λ y is. (is.0, (let l = is.1 in omega arith), is.2, is.3))
-        (λ y is. by y is.0 is.1 is.2 is.3 (cases_eq is.0 k)) g
+        (k, omega arith, at, refl, live)
+        (λ y is. (is.0, (let l = is.1 in omega arith), is.2, is.3, is.4))
+        (λ y is. by y is.0 is.1 is.2 is.3 is.4 (cases_eq is.0 k)) g
       where
-        by : (y : ℕ × Option ℕ) (i : ℕ) → i < k + 1 → slice_get (edges_of n.states p) i ≡ Some (None, y.0) → y.1 ≡ q → (i ≡ k) ⊎ (i ≡ k → ⊥)
-            → IsSilentAmong q (edges_of n.states p) k y ⊎ (◌≡◌ {A = ℕ × Option ℕ} (r, q) y)
-        by y i l here stays (inr other) = inl (i, omega arith, here, stays)
-        by y i l here stays (inl is_k) =
+        by : (y : ℕ × Option ℕ) (i : ℕ) → i < k + 1 → slice_get (edges_of n.states p) i ≡ Some (None, y.0) → y.1 ≡ q
+            → slice_index_or flags y.0 false ≡ false → (i ≡ k) ⊎ (i ≡ k → ⊥)
+            → IsSilentAmong flags q (edges_of n.states p) k y ⊎ (◌≡◌ {A = ℕ × Option ℕ} (r, q) y)
+        by y i l here stays goes_live (inr other) = inl (i, omega arith, here, stays, goes_live)
+        by y i l here stays goes_live (inl is_k) =
             let whole : ◌≡◌ {A = Option ℕ × ℕ} (None, r) (None, y.0) = same_Some (None, r) (None, y.0) (sym at ∙ ap (slice_get (edges_of n.states p)) (sym is_k) ∙ here) in
             inr (ap (λ x. (x, q)) (ap (λ (e : Option ℕ × ℕ). e.1) whole) ∙ ap (λ z. (y.0, z)) (sym stays))
 
-    -- an edge with one
-    pub silent_other : (targets : List (ℕ × Option ℕ)) (k : ℕ) (l : Option ℕ) (r : ℕ) → slice_get (edges_of n.states p) k ≡ Some (l, r) → (l ≡ None → ⊥)
-        → Gathers (IsPair n m) (IsSilentAmong q (edges_of n.states p) k) [] targets → Gathers (IsPair n m) (IsSilentAmong q (edges_of n.states p) (k + 1)) [] targets
-    silent_other targets k l r at lettered g =
-        gathers_same (IsPair n m) (IsSilentAmong q (edges_of n.states p) k) (IsSilentAmong q (edges_of n.states p) (k + 1)) [] targets
-        (λ y is. (is.0, (let l = is.1 in omega arith), is.2, is.3))
-        (λ y is. by y is.0 is.1 is.2 is.3 (cases_eq is.0 k)) g
+    -- an edge with one, or to a flagged state
+    pub silent_other : (targets : List (ℕ × Option ℕ)) (k : ℕ) (l : Option ℕ) (r : ℕ) → slice_get (edges_of n.states p) k ≡ Some (l, r)
+        → (l ≡ None → slice_index_or flags r false ≡ false → ⊥)
+        → Gathers (IsPair n m) (IsSilentAmong flags q (edges_of n.states p) k) [] targets → Gathers (IsPair n m) (IsSilentAmong flags q (edges_of n.states p) (k + 1)) [] targets
+    silent_other targets k l r at other_edge g =
+        gathers_same (IsPair n m) (IsSilentAmong flags q (edges_of n.states p) k) (IsSilentAmong flags q (edges_of n.states p) (k + 1)) [] targets
+        (λ y is. (is.0, (let l = is.1 in omega arith), is.2, is.3, is.4))
+        (λ y is. by y is.0 is.1 is.2 is.3 is.4 (cases_eq is.0 k)) g
       where
-        by : (y : ℕ × Option ℕ) (i : ℕ) → i < k + 1 → slice_get (edges_of n.states p) i ≡ Some (None, y.0) → y.1 ≡ q → (i ≡ k) ⊎ (i ≡ k → ⊥) → IsSilentAmong q (edges_of n.states p) k y
-        by y i less here stays (inr other) = (i, omega arith, here, stays)
-        by y i less here stays (inl is_k) =
+        by : (y : ℕ × Option ℕ) (i : ℕ) → i < k + 1 → slice_get (edges_of n.states p) i ≡ Some (None, y.0) → y.1 ≡ q
+            → slice_index_or flags y.0 false ≡ false → (i ≡ k) ⊎ (i ≡ k → ⊥) → IsSilentAmong flags q (edges_of n.states p) k y
+        by y i less here stays live (inr other) = (i, omega arith, here, stays, live)
+        by y i less here stays live (inl is_k) =
             let whole : ◌≡◌ {A = Option ℕ × ℕ} (l, r) (None, y.0) = same_Some (l, r) (None, y.0) (sym at ∙ ap (slice_get (edges_of n.states p)) (sym is_k) ∙ here) in
-            absurd (lettered (ap (λ (e : Option ℕ × ℕ). e.0) whole))
+            absurd (other_edge (ap (λ (e : Option ℕ × ℕ). e.0) whole)
+            (subst (λ x. slice_index_or flags x false ≡ false) (sym (ap (λ (e : Option ℕ × ℕ). e.1) whole)) live))
 
-    pub silent_all : (targets : List (ℕ × Option ℕ)) (k : ℕ) → length (edges_of n.states p) ≤ k → Gathers (IsPair n m) (IsSilentAmong q (edges_of n.states p) k) [] targets
-        → Gathers (IsPair n m) (PairEdge n m (p, q) None) [] targets
+    pub silent_all : (targets : List (ℕ × Option ℕ)) (k : ℕ) → length (edges_of n.states p) ≤ k → Gathers (IsPair n m) (IsSilentAmong flags q (edges_of n.states p) k) [] targets
+        → Gathers (IsPair n m) (LiveEdge n m flags (p, q) None) [] targets
     silent_all targets k all g =
-        gathers_same (IsPair n m) (IsSilentAmong q (edges_of n.states p) k) (PairEdge n m (p, q) None) [] targets
-        (λ y is. (contains_at (edges_of n.states p) (None, y.0) is.0 is.2, is.3))
-        (λ y is. let place = place_of (edges_of n.states p) (None, y.0) is.0 in (place.0, (let l = place.1 in omega arith), place.2, is.1)) g
+        gathers_same (IsPair n m) (IsSilentAmong flags q (edges_of n.states p) k) (LiveEdge n m flags (p, q) None) [] targets
+        (λ y is. ((contains_at (edges_of n.states p) (None, y.0) is.0 is.2, is.3), is.4))
+        (λ y is. let place = place_of (edges_of n.states p) (None, y.0) is.0.0 in (place.0, (let l = place.1 in omega arith), place.2, is.0.1, is.1)) g
 
     -- one more edge with a letter
     pub step_more : (old steps : List (ℕ × (ℕ × Option ℕ))) (k a r : ℕ) (next : Option ℕ) → next ≡ follow m q a → slice_get (edges_of n.states p) k ≡ Some (Some a, r)
-        → Gathers {X = ℕ × (ℕ × Option ℕ)} (λ step. IsPair n m step.1) (IsStepAmong m q (edges_of n.states p) k) old steps
-        → Gathers {X = ℕ × (ℕ × Option ℕ)} (λ step. IsPair n m step.1) (IsStepAmong m q (edges_of n.states p) (k + 1)) old (steps ++ (a, (r, next)) ∷ [])
-    step_more old steps k a r next follows at g =
-        gathers_push {X = ℕ × (ℕ × Option ℕ)} (λ step. IsPair n m step.1) (IsStepAmong m q (edges_of n.states p) k) (IsStepAmong m q (edges_of n.states p) (k + 1)) old steps (a, (r, next))
+        → slice_index_or flags r false ≡ false
+        → Gathers {X = ℕ × (ℕ × Option ℕ)} (λ step. IsPair n m step.1) (IsStepAmong flags m q (edges_of n.states p) k) old steps
+        → Gathers {X = ℕ × (ℕ × Option ℕ)} (λ step. IsPair n m step.1) (IsStepAmong flags m q (edges_of n.states p) (k + 1)) old (steps ++ (a, (r, next)) ∷ [])
+    step_more old steps k a r next follows at live g =
+        gathers_push {X = ℕ × (ℕ × Option ℕ)} (λ step. IsPair n m step.1) (IsStepAmong flags m q (edges_of n.states p) k) (IsStepAmong flags m q (edges_of n.states p) (k + 1)) old steps (a, (r, next))
         (in_range, valid, target_state in_range p (Some a) r (contains_at (edges_of n.states p) (Some a, r) k at), subst (IsStateOrNone m) (sym follows) (follow-within m valid q a))
-        (k, omega arith, at, follows)
-        (λ y is. (is.0, (let l = is.1 in omega arith), is.2, is.3))
-        (λ y is. by y is.0 is.1 is.2 is.3 (cases_eq is.0 k)) g
+        (k, omega arith, at, follows, live)
+        (λ y is. (is.0, (let l = is.1 in omega arith), is.2, is.3, is.4))
+        (λ y is. by y is.0 is.1 is.2 is.3 is.4 (cases_eq is.0 k)) g
       where
-        by : (y : ℕ × (ℕ × Option ℕ)) (i : ℕ) → i < k + 1 → slice_get (edges_of n.states p) i ≡ Some (Some y.0, y.1.0) → y.1.1 ≡ follow m q y.0 → (i ≡ k) ⊎ (i ≡ k → ⊥)
-            → IsStepAmong m q (edges_of n.states p) k y ⊎ (◌≡◌ {A = ℕ × (ℕ × Option ℕ)} (a, (r, next)) y)
-        by y i l here goes (inr other) = inl (i, omega arith, here, goes)
-        by y i l here goes (inl is_k) =
+        by : (y : ℕ × (ℕ × Option ℕ)) (i : ℕ) → i < k + 1 → slice_get (edges_of n.states p) i ≡ Some (Some y.0, y.1.0) → y.1.1 ≡ follow m q y.0
+            → slice_index_or flags y.1.0 false ≡ false → (i ≡ k) ⊎ (i ≡ k → ⊥)
+            → IsStepAmong flags m q (edges_of n.states p) k y ⊎ (◌≡◌ {A = ℕ × (ℕ × Option ℕ)} (a, (r, next)) y)
+        by y i l here goes goes_live (inr other) = inl (i, omega arith, here, goes, goes_live)
+        by y i l here goes goes_live (inl is_k) =
             let whole : ◌≡◌ {A = Option ℕ × ℕ} (Some a, r) (Some y.0, y.1.0) = same_Some (Some a, r) (Some y.0, y.1.0) (sym at ∙ ap (slice_get (edges_of n.states p)) (sym is_k) ∙ here) in
             let letter : a ≡ y.0 = same_Some a y.0 (ap (λ (e : Option ℕ × ℕ). e.0) whole) in
             let to : r ≡ y.1.0 = ap (λ (e : Option ℕ × ℕ). e.1) whole in
             let on : next ≡ y.1.1 = follows ∙ ap (follow m q) letter ∙ sym goes in
             inr (ap (λ x. (x, (r, next))) letter ∙ ap (λ x. (y.0, (x, next))) to ∙ ap (λ z. (y.0, (y.1.0, z))) on)
 
-    -- an edge without one
-    pub step_other : (old steps : List (ℕ × (ℕ × Option ℕ))) (k r : ℕ) → slice_get (edges_of n.states p) k ≡ Some (None, r)
-        → Gathers {X = ℕ × (ℕ × Option ℕ)} (λ step. IsPair n m step.1) (IsStepAmong m q (edges_of n.states p) k) old steps
-        → Gathers {X = ℕ × (ℕ × Option ℕ)} (λ step. IsPair n m step.1) (IsStepAmong m q (edges_of n.states p) (k + 1)) old steps
-    step_other old steps k r at g =
-        gathers_same {X = ℕ × (ℕ × Option ℕ)} (λ step. IsPair n m step.1) (IsStepAmong m q (edges_of n.states p) k) (IsStepAmong m q (edges_of n.states p) (k + 1)) old steps
-        (λ y is. (is.0, (let l = is.1 in omega arith), is.2, is.3))
-        (λ y is. by y is.0 is.1 is.2 is.3 (cases_eq is.0 k)) g
+    -- an edge without one, or to a flagged state
+    pub step_other : (old steps : List (ℕ × (ℕ × Option ℕ))) (k : ℕ) (l : Option ℕ) (r : ℕ) → slice_get (edges_of n.states p) k ≡ Some (l, r)
+        → ((a : ℕ) → l ≡ Some a → slice_index_or flags r false ≡ false → ⊥)
+        → Gathers {X = ℕ × (ℕ × Option ℕ)} (λ step. IsPair n m step.1) (IsStepAmong flags m q (edges_of n.states p) k) old steps
+        → Gathers {X = ℕ × (ℕ × Option ℕ)} (λ step. IsPair n m step.1) (IsStepAmong flags m q (edges_of n.states p) (k + 1)) old steps
+    step_other old steps k l r at other_edge g =
+        gathers_same {X = ℕ × (ℕ × Option ℕ)} (λ step. IsPair n m step.1) (IsStepAmong flags m q (edges_of n.states p) k) (IsStepAmong flags m q (edges_of n.states p) (k + 1)) old steps
+        (λ y is. (is.0, (let l = is.1 in omega arith), is.2, is.3, is.4))
+        (λ y is. by y is.0 is.1 is.2 is.3 is.4 (cases_eq is.0 k)) g
       where
-        by : (y : ℕ × (ℕ × Option ℕ)) (i : ℕ) → i < k + 1 → slice_get (edges_of n.states p) i ≡ Some (Some y.0, y.1.0) → y.1.1 ≡ follow m q y.0 → (i ≡ k) ⊎ (i ≡ k → ⊥)
-            → IsStepAmong m q (edges_of n.states p) k y
-        by y i less here goes (inr other) = (i, omega arith, here, goes)
-        by y i less here goes (inl is_k) =
-            let whole : ◌≡◌ {A = Option ℕ × ℕ} (None, r) (Some y.0, y.1.0) = same_Some (None, r) (Some y.0, y.1.0) (sym at ∙ ap (slice_get (edges_of n.states p)) (sym is_k) ∙ here) in
-            let none : None ≡ Some y.0 = ap (λ (e : Option ℕ × ℕ). e.0) whole in
-            (cc)
+        by : (y : ℕ × (ℕ × Option ℕ)) (i : ℕ) → i < k + 1 → slice_get (edges_of n.states p) i ≡ Some (Some y.0, y.1.0) → y.1.1 ≡ follow m q y.0
+            → slice_index_or flags y.1.0 false ≡ false → (i ≡ k) ⊎ (i ≡ k → ⊥) → IsStepAmong flags m q (edges_of n.states p) k y
+        by y i less here goes live (inr other) = (i, omega arith, here, goes, live)
+        by y i less here goes live (inl is_k) =
+            let whole : ◌≡◌ {A = Option ℕ × ℕ} (l, r) (Some y.0, y.1.0) = same_Some (l, r) (Some y.0, y.1.0) (sym at ∙ ap (slice_get (edges_of n.states p)) (sym is_k) ∙ here) in
+            absurd (other_edge y.0 (ap (λ (e : Option ℕ × ℕ). e.0) whole)
+            (subst (λ x. slice_index_or flags x false ≡ false) (sym (ap (λ (e : Option ℕ × ℕ). e.1) whole)) live))
 
     pub steps_all : (old steps : List (ℕ × (ℕ × Option ℕ))) (k : ℕ) → length (edges_of n.states p) ≤ k
-        → Gathers {X = ℕ × (ℕ × Option ℕ)} (λ step. IsPair n m step.1) (IsStepAmong m q (edges_of n.states p) k) old steps
-        → Gathers {X = ℕ × (ℕ × Option ℕ)} (λ step. IsPair n m step.1) (λ step. PairEdge n m (p, q) (Some step.0) step.1) old steps
+        → Gathers {X = ℕ × (ℕ × Option ℕ)} (λ step. IsPair n m step.1) (IsStepAmong flags m q (edges_of n.states p) k) old steps
+        → Gathers {X = ℕ × (ℕ × Option ℕ)} (λ step. IsPair n m step.1) (λ step. LiveEdge n m flags (p, q) (Some step.0) step.1) old steps
     steps_all old steps k all g =
-        gathers_same {X = ℕ × (ℕ × Option ℕ)} (λ step. IsPair n m step.1) (IsStepAmong m q (edges_of n.states p) k) (λ step. PairEdge n m (p, q) (Some step.0) step.1) old steps
-        (λ y is. (contains_at (edges_of n.states p) (Some y.0, y.1.0) is.0 is.2, is.3))
-        (λ y is. let place = place_of (edges_of n.states p) (Some y.0, y.1.0) is.0 in (place.0, (let l = place.1 in omega arith), place.2, is.1)) g
+        gathers_same {X = ℕ × (ℕ × Option ℕ)} (λ step. IsPair n m step.1) (IsStepAmong flags m q (edges_of n.states p) k) (λ step. LiveEdge n m flags (p, q) (Some step.0) step.1) old steps
+        (λ y is. ((contains_at (edges_of n.states p) (Some y.0, y.1.0) is.0 is.2, is.3), is.4))
+        (λ y is. let place = place_of (edges_of n.states p) (Some y.0, y.1.0) is.0.0 in (place.0, (let l = place.1 in omega arith), place.2, is.0.1, is.1)) g

@@ -2,7 +2,7 @@
 use Rattle.std.proofs.Common.{◌≡◌, ℕ, Bool, true, false, ◌&&◌, List, [], ◌∷◌, Option, None, Some, if◌then◌else◌, true≢false, refl, sym, ap, subst, ◌∙◌}
 use Rattle.std.proofs.lemmas.Option.{same_Some, none-some}
 use Rattle.word_automata.specs.Automaton.{Automaton, accepts}
-use Rattle.exploration.specs.System.{accepts_by, accepts_by_from}
+use Rattle.exploration.specs.DeterministicSystem.{accepts_by, accepts_by_from}
 use Rattle.boolean_operations.specs.OptionalStates.{start_of, follow, accepts_at, IsStateOrNone}
 use Rattle.boolean_operations.specs.private.Products.{combine, is_live, pair_of, pair_system}
 use Rattle.boolean_operations.specs.declared.products.Operation.{Operation}

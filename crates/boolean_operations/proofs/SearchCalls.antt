@@ -5,7 +5,7 @@ use Rattle.std.proofs.lemmas.List.Elements.{Contains-get_or}
 use Rattle.std.proofs.lemmas.List.Sorted.{Contains-permutation, IsPermutation-sym}
 use Rattle.std.proofs.lemmas.Option.{same_Some, slice_get_within, slice_get-get_or}
 use Rattle.std.specs.List.Sorted.{IsPermutation, IsNonDecreasingBy}
-use Rattle.word_automata.proofs.Members.{Contains-none}
+use Rattle.word_automata.proofs.ForCallers.{Contains-none}
 use Rattle.exploration.proofs.ForCallers.{slice_get-some}
 use Rattle.boolean_operations.specs.private.Search.{IsReached, IsIn, IsNotAfter, Spells, AreRising, Reached, Done, BeginsAt, AreStepsOf, AreInOrder, IsBounded, AreBefore, Extends, Joins, Gathers, AreFound, AreTaken, AreBounded, AreStepsUpTo}
 use Rattle.boolean_operations.proofs.SearchSteps.{reached_silently, in_kept, not_after_kept, Joined, joined, closed_more}

@@ -5,7 +5,7 @@ use Rattle.std.proofs.lemmas.Option.{same_Some}
 use Rattle.sequence.specs.WordOrder.{IsLeastWord}
 use Rattle.word_automata.specs.Path.{Node, edges_of, is_accepting}
 use Rattle.word_automata.specs.Automaton.{Automaton, accepts, accepts_from, target, IsValid}
-use Rattle.word_automata.proofs.Targets.{accepts-empty, target_within, ordered_edges}
+use Rattle.word_automata.proofs.ForCallers.{accepts-empty, target_within, ordered_edges}
 use Rattle.boolean_operations.specs.OptionalStates.{start_of}
 use Rattle.boolean_operations.specs.LeastWords.{AcceptsNothing, IsLeastAccepted, IsStateOf, LetteredEdge, IsEdgeAmong}
 use Rattle.boolean_operations.specs.private.Search.{Leads, letters_of, IsFound, Gathers}

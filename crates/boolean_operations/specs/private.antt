@@ -1,4 +1,5 @@
 -- What only contracts of private functions cite.
+pub mod DeadStates
 pub mod MergedEdges
 pub mod PairGraph
 pub mod Products

@@ -1,13 +1,14 @@
 //! The least word that a nondeterministic and a deterministic automaton accept: a walk over pairs of their states, breadth first, which
-//! ends at the first pair where both accept, so that neither automaton is made deterministic nor their product kept. It takes time
-//! linear in the edges that leave the pairs that are reached, up to sorting and searching, on average.
+//! ends at the first pair where both accept, so that neither automaton is made deterministic nor their product kept. It takes time linear
+//! in the first automaton and in the edges that leave the pairs that are reached, up to sorting and searching, on average.
 
 ghost use Rattle.std.specs.Prelude.{◌≡◌, ℕ, List, MatchOption, IfOk};
 ghost use Rattle.sequence.specs.WordOrder.{IsLeastWord};
 ghost use Rattle.boolean_operations.specs.CommonWords.{IsCommonWord};
-ghost use Rattle.boolean_operations.specs.private.PairGraph.{IsPair, IsStartPair, PairEdge, is_common_pair};
+ghost use Rattle.boolean_operations.specs.private.PairGraph.{IsPair, IsStartPair, LiveEdge, is_common_pair};
 ghost use Rattle.boolean_operations.specs.Equality.{same_left_pairs};
 
+use crate::dead_states::dead_flags;
 use crate::graph::Graph;
 use crate::inclusion::{LeftPair, PairGraph};
 use crate::optional_states::accepts_at;
@@ -28,7 +29,7 @@ impl Graph for CommonGraph<'_> {
 
     ghost is_start = { λ g. IsStartPair g.pairs.left.now g.pairs.right.now };
 
-    ghost edge = { λ g. PairEdge g.pairs.left.now g.pairs.right.now };
+    ghost edge = { λ g. LiveEdge g.pairs.left.now g.pairs.right.now g.pairs.dead.now };
 
     ghost goal = { λ g. is_common_pair g.pairs.left.now g.pairs.right.now };
 
@@ -70,6 +71,11 @@ pub fn least_common_word(alloc: Global, a: &Nfa, b: &Dfa) -> Result<Option<Vec<u
     ensures { IfOk result (λ word. MatchOption word ((w : List ℕ) → IsCommonWord a.now b.now w → ⊥)
         (λ w. IsLeastWord (IsCommonWord a.now b.now) w.items)) }
 {
-    let pairs = PairGraph { left: a, right: b };
+    let flags = dead_flags(alloc, a)?;
+    let pairs = PairGraph {
+        left: a,
+        right: b,
+        dead: &flags,
+    };
     Ok(least_word_to_goal(alloc, &CommonGraph { pairs })?)
 }

@@ -8,7 +8,7 @@ ghost use Rattle.boolean_operations.specs.Complements.{are_letters, complement_s
 ghost use Rattle.boolean_operations.specs.Equality.{same_options};
 
 use crate::merged_edges::take;
-use crate::optional_states::{accepts_at, code_of, edges_at, start_of};
+use crate::optional_states::{accepts_at, edges_at, start_of};
 use exploration::{TransitionSystem, explore};
 use std::alloc::{AllocError, Global};
 use word_automata::Dfa;
@@ -52,14 +52,6 @@ impl TransitionSystem for ComplementSystem<'_> {
             place = next;
         }
         Ok(successors)
-    }
-
-    fn codes(&self) -> usize {
-        self.automaton.states() + 1
-    }
-
-    fn code(&self, state: &Option<usize>) -> usize {
-        code_of(self.automaton, *state)
     }
 
     ghost equality = { same_options };

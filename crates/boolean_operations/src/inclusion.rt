@@ -1,14 +1,16 @@
 //! Whether each word of a nondeterministic automaton is one of a deterministic automaton: a walk over pairs of a state of the first
 //! and a state of the second or none, breadth first, which ends at the first pair where the one accepts and the other does not
-//! (so neither automaton is made deterministic or complemented). It takes time linear in the edges that leave the pairs that are
-//! reached, at most as many as the product of both numbers of states, up to sorting and searching, on average.
+//! (so neither automaton is made deterministic or complemented), and enters no state from which no word is accepted. It takes time linear
+//! in the first automaton and in the edges that leave the pairs that are reached, at most as many as the product of both numbers of
+//! states, up to sorting and searching, on average.
 
 ghost use Rattle.std.specs.Prelude.{◌≡◌, MatchOption, IfOk};
 ghost use Rattle.sequence.specs.WordOrder.{IsLeastWord};
 ghost use Rattle.boolean_operations.specs.Inclusion.{IsIncluded, IsOutside};
-ghost use Rattle.boolean_operations.specs.private.PairGraph.{IsPair, IsStartPair, PairEdge, is_outside_pair};
+ghost use Rattle.boolean_operations.specs.private.PairGraph.{IsPair, IsStartPair, LiveEdge, is_outside_pair};
 ghost use Rattle.boolean_operations.specs.Equality.{same_left_pairs};
 
+use crate::dead_states::{dead_flags, has_flag};
 use crate::graph::Graph;
 use crate::merged_edges::seek;
 use crate::optional_states::{accepts_at, code_of, edges_at, start_of};
@@ -16,11 +18,12 @@ use crate::search::least_word_to_goal;
 use std::alloc::{AllocError, Global};
 use word_automata::{Dfa, Nfa};
 
-/// The pairs of states of two automata, as a graph.
+/// The pairs of states of two automata, as a graph whose edges lead to no flagged state of the left automaton.
 #[derive(Drop)]
 pub(crate) struct PairGraph<'a> {
     pub(crate) left: &'a Nfa,
     pub(crate) right: &'a Dfa,
+    pub(crate) dead: &'a [bool],
 }
 
 /// A state of the left automaton, and one of the right automaton or none.
@@ -33,7 +36,7 @@ impl Graph for PairGraph<'_> {
 
     ghost is_start = { λ g. IsStartPair g.left.now g.right.now };
 
-    ghost edge = { λ g. PairEdge g.left.now g.right.now };
+    ghost edge = { λ g. LiveEdge g.left.now g.right.now g.dead.now };
 
     ghost goal = { λ g. is_outside_pair g.left.now g.right.now };
 
@@ -54,6 +57,9 @@ impl Graph for PairGraph<'_> {
         let (left, right) = *state;
         let mut targets = Vec::new(alloc);
         'edges: for &(letter, to) in self.left.edges_from(left) {
+            if has_flag(self.dead, to) {
+                continue;
+            }
             if letter.is_none() {
                 targets.push((to, right))?;
             }
@@ -70,6 +76,9 @@ impl Graph for PairGraph<'_> {
         let edges = edges_at(self.right, right);
         let mut near = 0;
         'edges: for &(letter, to) in self.left.edges_from(left) {
+            if has_flag(self.dead, to) {
+                continue;
+            }
             if let Some(letter) = letter {
                 let (target, next) = seek(edges, near, letter);
                 steps.push((letter, (to, target)))?;
@@ -99,5 +108,11 @@ pub fn included(alloc: Global, a: &Nfa, b: &Dfa) -> Result<Option<Vec<u32>>, All
     requires { a.now.letters ≡ b.now.letters }
     ensures { IfOk result (λ word. MatchOption word (IsIncluded a.now b.now) (λ w. IsLeastWord (IsOutside a.now b.now) w.items)) }
 {
-    Ok(least_word_to_goal(alloc, &PairGraph { left: a, right: b })?)
+    let flags = dead_flags(alloc, a)?;
+    let pairs = PairGraph {
+        left: a,
+        right: b,
+        dead: &flags,
+    };
+    Ok(least_word_to_goal(alloc, &pairs)?)
 }

@@ -5,6 +5,7 @@
 
 mod common_words;
 mod complementation;
+mod dead_states;
 mod graph;
 mod inclusion;
 mod least_words;

@@ -7,7 +7,7 @@ ghost use Rattle.boolean_operations.specs.private.Products.{IsPairOfStates, pair
 ghost use Rattle.boolean_operations.specs.Equality.{same_pairs};
 
 use crate::merged_edges::{least_letter, take};
-use crate::optional_states::{accepts_at, code_of, edges_at, start_of};
+use crate::optional_states::{accepts_at, edges_at, start_of};
 use exploration::{TransitionSystem, explore};
 use std::alloc::{AllocError, Global};
 use word_automata::Dfa;
@@ -89,19 +89,6 @@ impl TransitionSystem for Product<'_> {
             j = right_next;
         }
         Ok(successors)
-    }
-
-    fn codes(&self) -> usize {
-        let left = self.left.states() + 1;
-        let right = self.right.states() + 1;
-        left.saturating_mul(right)
-    }
-
-    fn code(&self, state: &Pair) -> usize {
-        let width = self.right.states() + 1;
-        let left = code_of(self.left, state.0);
-        let right = code_of(self.right, state.1);
-        left.wrapping_mul(width).wrapping_add(right)
     }
 
     ghost equality = { same_pairs };

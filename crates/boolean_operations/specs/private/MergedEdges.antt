@@ -1,7 +1,7 @@
 -- Two sorted lists of edges that are merged letter by letter.
 use Rattle.std.specs.Prelude.{◌≡◌, ◌+◌, ◌<◌, ◌≤◌, ◌⊎◌, ℕ, List, Option, Some, All, slice_get}
 use Rattle.word_automata.specs.Automaton.{Automaton, find_target}
-use Rattle.exploration.specs.System.{look_up, HasIncreasingLetters}
+use Rattle.exploration.specs.DeterministicSystem.{look_up, HasIncreasingLetters}
 use Rattle.boolean_operations.specs.private.Products.{pair_of, IsPairOfStates}
 use Rattle.boolean_operations.specs.declared.products.Operation.{Operation}
 

@@ -1,5 +1,5 @@
 -- Pairs of a state of a nondeterministic automaton and a state of a deterministic one or none, as a graph.
-use Rattle.std.specs.Prelude.{◌≡◌, ◌<◌, ◌&&◌, ℕ, Bool, not, List, Option, None, Some, Contains, length, slice_get}
+use Rattle.std.specs.Prelude.{◌≡◌, ◌<◌, ◌&&◌, ℕ, Bool, false, not, List, Option, None, Some, Contains, length, slice_get, slice_index_or}
 use Rattle.word_automata.specs.Path.{edges_of, is_accepting}
 use Rattle.word_automata.specs.Automaton.{Automaton, IsValid}
 use Rattle.word_automata.specs.Nondeterministic.{NondeterministicAutomaton, IsInRange}
@@ -22,6 +22,10 @@ advance m q (Some a) = follow m q a
 abbrev pub PairEdge : NondeterministicAutomaton → Automaton → ℕ × Option ℕ → Option ℕ → ℕ × Option ℕ → Type 0
 PairEdge n m s l r = Contains (edges_of n.states s.0) (l, r.0) × (r.1 ≡ advance m s.1 l)
 
+-- one of these edges that leads to no flagged state
+abbrev pub LiveEdge : NondeterministicAutomaton → Automaton → List Bool → ℕ × Option ℕ → Option ℕ → ℕ × Option ℕ → Type 0
+LiveEdge n m flags s l r = PairEdge n m s l r × (slice_index_or flags r.0 false ≡ false)
+
 -- the first accepts, and the second does not
 abbrev pub is_outside_pair : NondeterministicAutomaton → Automaton → ℕ × Option ℕ → Bool
 is_outside_pair n m pair = is_accepting n.states pair.0 && not (accepts_at m pair.1)
@@ -34,8 +38,10 @@ is_common_pair n m pair = is_accepting n.states pair.0 && accepts_at m pair.1
 abbrev pub IsStartAmong : Automaton → List ℕ → ℕ → ℕ × Option ℕ → Type 0
 IsStartAmong m starts k s = (i : ℕ) × (i < k) × (slice_get starts i ≡ Some s.0) × (s.1 ≡ start_of m.states)
 
-abbrev pub IsSilentAmong : Option ℕ → List (Option ℕ × ℕ) → ℕ → ℕ × Option ℕ → Type 0
-IsSilentAmong q edges k r = (i : ℕ) × (i < k) × (slice_get edges i ≡ Some (None, r.0)) × (r.1 ≡ q)
+abbrev pub IsSilentAmong : List Bool → Option ℕ → List (Option ℕ × ℕ) → ℕ → ℕ × Option ℕ → Type 0
+IsSilentAmong flags q edges k r = (i : ℕ) × (i < k) × (slice_get edges i ≡ Some (None, r.0)) × (r.1 ≡ q) × (slice_index_or flags r.0 false ≡ false)
 
-abbrev pub IsStepAmong : Automaton → Option ℕ → List (Option ℕ × ℕ) → ℕ → ℕ × (ℕ × Option ℕ) → Type 0
-IsStepAmong m q edges k step = (i : ℕ) × (i < k) × (slice_get edges i ≡ Some (Some step.0, step.1.0)) × (step.1.1 ≡ follow m q step.0)
+abbrev pub IsStepAmong : List Bool → Automaton → Option ℕ → List (Option ℕ × ℕ) → ℕ → ℕ × (ℕ × Option ℕ) → Type 0
+IsStepAmong flags m q edges k step =
+    (i : ℕ) × (i < k) × (slice_get edges i ≡ Some (Some step.0, step.1.0)) × (step.1.1 ≡ follow m q step.0)
+    × (slice_index_or flags step.1.0 false ≡ false)

@@ -1,7 +1,7 @@
 -- Products of two automata: their states are pairs of states that may be missing.
 use Rattle.std.specs.Prelude.{◌&&◌, ◌||◌, ℕ, Bool, not, Option, None, Some, is_some, if◌then◌else◌}
 use Rattle.word_automata.specs.Automaton.{Automaton, IsValid}
-use Rattle.exploration.specs.System.{System}
+use Rattle.exploration.specs.DeterministicSystem.{DeterministicSystem}
 use Rattle.boolean_operations.specs.OptionalStates.{start_of, follow, accepts_at, IsStateOrNone}
 use Rattle.boolean_operations.specs.declared.products.Operation.{Operation}
 use Rattle.boolean_operations.specs.declared.products.Operation.TheVariants.{Union, Intersection, Difference}
@@ -23,7 +23,7 @@ abbrev pub pair_of : Operation → Option ℕ → Option ℕ → Option (Option 
 pair_of operation p q = if is_live operation p q then Some (p, q) else None
 
 -- the product of two automata
-abbrev pub pair_system : Operation → Automaton → Automaton → System (Option ℕ × Option ℕ)
+abbrev pub pair_system : Operation → Automaton → Automaton → DeterministicSystem (Option ℕ × Option ℕ)
 pair_system operation left right = record {
   letters = left.letters;
   start = pair_of operation (start_of left.states) (start_of right.states);

@@ -1,6 +1,6 @@
 use Rattle.std.proofs.Common.{rules}
 use Rattle.std.proofs.lemmas.List.Sorted.{answers_always}
-use Rattle.word_automata.proofs.EdgeList.{searched}
+use Rattle.word_automata.proofs.ForCallers.{searched}
 use Rattle.boolean_operations.proofs.merged_edges.search_near.Goals as goal
 
 pub returns-clause-found : goal.returns-clause-found

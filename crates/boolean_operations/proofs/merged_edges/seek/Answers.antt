@@ -1,5 +1,5 @@
 use Rattle.std.proofs.Common.{sym}
-use Rattle.word_automata.proofs.EdgeList.{find_target_at, find_target_gap}
+use Rattle.word_automata.proofs.ForCallers.{find_target_at, find_target_gap}
 use Rattle.boolean_operations.proofs.merged_edges.seek.Goals as goal
 
 pub returns-in-Ok : goal.returns-in-Ok

@@ -1,6 +1,6 @@
 use Rattle.std.proofs.Common.{◌≡◌, ◌+◌, ◌++◌, ◌∷◌, [], suc, sym, ap, subst, ◌∙◌, arith}
 use Rattle.word_automata.specs.Automaton.{IsValid, HasIncreasingLetters}
-use Rattle.exploration.specs.System.{IsSuccessors}
+use Rattle.exploration.specs.DeterministicSystem.{IsSuccessors}
 use Rattle.boolean_operations.specs.OptionalStates.{follow, IsStateOrNone}
 use Rattle.boolean_operations.specs.private.MergedEdges.{IsPassed, IsTaken}
 use Rattle.boolean_operations.specs.Complements.{complement_system}

@@ -6,5 +6,6 @@ use Rattle.boolean_operations.proofs.inclusion.PairGraphGraph.add_steps.Given as
 
 abbrev pub invariant-edges : goal.invariant-edges
 invariant-edges l =
-    Gathers {X = ℕ × (ℕ × Option ℕ)} (λ step. IsPair l.self.left.now l.self.right.now step.1) (IsStepAmong l.self.right.now l.state.1 (edges_of l.self.left.now.states l.left) l.letter-index)
+    Gathers {X = ℕ × (ℕ × Option ℕ)} (λ step. IsPair l.self.left.now l.self.right.now step.1)
+    (IsStepAmong l.self.dead.now l.self.right.now l.state.1 (edges_of l.self.left.now.states l.left) l.letter-index)
     l.fn.steps.items l.steps.items

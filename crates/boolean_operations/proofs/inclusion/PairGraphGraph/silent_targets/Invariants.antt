@@ -6,4 +6,4 @@ use Rattle.boolean_operations.proofs.inclusion.PairGraphGraph.silent_targets.Giv
 
 abbrev pub invariant-edges : goal.invariant-edges
 invariant-edges l =
-    Gathers (IsPair l.self.left.now l.self.right.now) (IsSilentAmong l.right (edges_of l.self.left.now.states l.left) l.letter-index) [] l.targets.items
+    Gathers (IsPair l.self.left.now l.self.right.now) (IsSilentAmong l.self.dead.now l.right (edges_of l.self.left.now.states l.left) l.letter-index) [] l.targets.items
