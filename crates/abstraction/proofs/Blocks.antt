@@ -4,7 +4,7 @@ use Rattle.std.specs.Prelude.{replicate}
 use Rattle.std.proofs.lemmas.Bool.{cases_eq, cases_lt}
 use Rattle.std.proofs.lemmas.List.{get_or_append_left, get_or_push, get_or-set_same, get_or-set_other, length-set, length-replicate, get_or-replicate}
 use Rattle.std.proofs.lemmas.Option.{slice_get-get_or, same_Some}
-use Rattle.word_automata.proofs.Members.{Contains-none}
+use Rattle.word_automata.proofs.ForCallers.{Contains-none}
 use Rattle.abstraction.specs.FirstStates.{AreFirsts}
 use Rattle.abstraction.proofs.Firsts.{first_within, first_same}
 use Rattle.abstraction.specs.Partitions.{AreNumbers, AreBlocks, IsRefined, IsKnownMove, IsNewMove, IsNumbering}

@@ -6,8 +6,7 @@ use Rattle.std.proofs.lemmas.Bool.{cases_lt, cases_Bool, eqb-true, false≢true}
 use Rattle.std.proofs.lemmas.List.Elements.{All-cons, All-nil, All-tail, Contains-append_left, Contains-append_right, Contains-append_cases}
 use Rattle.word_automata.specs.Path.{edges_of}
 use Rattle.word_automata.specs.Automaton.{Automaton, accepts_from, find_target, target, IsValid}
-use Rattle.word_automata.proofs.Rows.{All-edges_of}
-use Rattle.word_automata.proofs.Members.{Contains-cases, Contains-none, Contains-map, Contains-map_cases}
+use Rattle.word_automata.proofs.ForCallers.{All-edges_of, Contains-cases, Contains-none, Contains-map, Contains-map_cases}
 use Rattle.abstraction.specs.BoundedWords.{words_of, words_up_to}
 use Rattle.abstraction.proofs.ListMembers.{contains_number, contains_joined, contained_in_one}
 

@@ -10,8 +10,8 @@ use Rattle.indexmap.proofs.CallerLemmas.{Contains-list_any}
 use Rattle.word_automata.specs.Path.{Node, edges_of, is_accepting}
 use Rattle.word_automata.specs.Automaton.{Automaton}
 use Rattle.word_automata.specs.Nondeterministic.{NondeterministicAutomaton, AddsMove}
-use Rattle.word_automata.proofs.Members.{Contains-none, Contains-cases, Contains-here}
-use Rattle.abstraction.specs.declared.class_automaton.Move.{Move}
+use Rattle.word_automata.proofs.ForCallers.{Contains-none, Contains-cases, Contains-here}
+use Rattle.abstraction.specs.declared.class_automaton.ClassEdge.{ClassEdge}
 use Rattle.abstraction.specs.ClassAutomata.{IsAcceptingClass, HasClassMoves, AddsMoveOnce}
 
 -- a state without edges
@@ -78,7 +78,8 @@ moves_begin a firsts accepting items i n starts same all is count accepts begins
     (λ q. subst (λ l. Contains l q ↔ ((0 < length a.states) × (slice_index firsts 0 ≡ q))) (sym (ap (λ (m : NondeterministicAutomaton). m.starts) is)) (begins q))
 
 -- one more edge
-pub moves_more : (a : Automaton) (firsts : List ℕ) (seen more : List Move) (n m : NondeterministicAutomaton) (i j : ℕ) (edge : ℕ × ℕ) (step : Move)
+pub moves_more : (a : Automaton) (firsts : List ℕ) (seen more : List ClassEdge) (n m : NondeterministicAutomaton) (i j : ℕ)
+    (edge : ℕ × ℕ) (step : ClassEdge)
     → j < length (edges_of a.states i) → edge ≡ get_or (edges_of a.states i) j (0, 0) → step ≡ record { from = slice_index firsts i; letter = edge.0; to = slice_index firsts edge.1 }
     → AddsMoveOnce seen more n m step → HasClassMoves a firsts seen n i j → HasClassMoves a firsts more m i (j + 1)
 moves_more a firsts seen more n m i j edge step within read is adds before = record {
@@ -94,7 +95,7 @@ moves_more a firsts seen more n m i j edge step within read is adds before = rec
     | inr from ↦
         let here : edge ≡ get_or (edges_of a.states i) k (0, 0) = read ∙ ap (λ x. get_or (edges_of a.states i) x (0, 0)) {x = j} {y = k} (omega arith) in
         subst (λ (e : ℕ × ℕ). Contains (edges_of m.states (slice_index firsts i)) (Some e.0, slice_index firsts e.1)) here
-        (subst (λ (s : Move). Contains (edges_of m.states s.from) (Some s.letter, s.to)) is there)
+        (subst (λ (s : ClassEdge). Contains (edges_of m.states s.from) (Some s.letter, s.to)) is there)
   ];
   only = λ k label t contained. elim (adds.only k (label, t) contained) [
     | inl old ↦ before.only k label t old
@@ -103,14 +104,14 @@ moves_more a firsts seen more n m i j edge step within read is adds before = rec
       edge.0,
       edge.1,
       subst (Contains (edges_of a.states i)) (sym read) (Contains-get_or (edges_of a.states i) j (0, 0) within),
-      sym (new.0 ∙ ap (λ (s : Move). s.from) is),
-      ap (λ (x : Option ℕ × ℕ). x.0) new.1 ∙ ap (λ (s : Move). Some s.letter) is,
-      sym (ap (λ (x : Option ℕ × ℕ). x.1) new.1 ∙ ap (λ (s : Move). s.to) is),
+      sym (new.0 ∙ ap (λ (s : ClassEdge). s.from) is),
+      ap (λ (x : Option ℕ × ℕ). x.0) new.1 ∙ ap (λ (s : ClassEdge). Some s.letter) is,
+      sym (ap (λ (x : Option ℕ × ℕ). x.1) new.1 ∙ ap (λ (s : ClassEdge). s.to) is),
     )
   ];
   seen_added = λ other contained. elim (adds.seen other contained) [
     | inl old ↦ adds.kept other.from (Some other.letter, other.to) (before.seen_added other old)
-    | inr new ↦ subst (λ (s : Move). Contains (edges_of m.states s.from) (Some s.letter, s.to)) (sym new) there
+    | inr new ↦ subst (λ (s : ClassEdge). Contains (edges_of m.states s.from) (Some s.letter, s.to)) (sym new) there
   ];
 }
   where
@@ -121,7 +122,8 @@ moves_more a firsts seen more n m i j edge step within read is adds before = rec
     ]
 
 -- all edges of a state
-pub moves_next : (a : Automaton) (firsts : List ℕ) (seen : List Move) (n : NondeterministicAutomaton) (i j : ℕ) → length (edges_of a.states i) ≤ j
+pub moves_next : (a : Automaton) (firsts : List ℕ) (seen : List ClassEdge) (n : NondeterministicAutomaton) (i j : ℕ)
+    → length (edges_of a.states i) ≤ j
     → HasClassMoves a firsts seen n i j → HasClassMoves a firsts seen n (i + 1) 0
 moves_next a firsts seen n i j all before = record {
   class_states = before.class_states;
@@ -139,9 +141,10 @@ moves_next a firsts seen n i j all before = record {
   seen_added = before.seen_added;
 }
 
-module _ (eq : Move → Move → Bool) (same : (x y : Move) → eq x y ≡ true → x ≡ y) (old new : List Move) (step : Move) (inserted : new ≡ insert_key eq old step) where
-  -- the set of seen moves has the move, and what it had
-  seen_cases : (other : Move) → Contains new other → Contains old other ⊎ (other ≡ step)
+module _ (eq : ClassEdge → ClassEdge → Bool) (same : (x y : ClassEdge) → eq x y ≡ true → x ≡ y) (old new : List ClassEdge) (step : ClassEdge)
+    (inserted : new ≡ insert_key eq old step) where
+  -- the set of seen edges has the edge, and what it had
+  seen_cases : (other : ClassEdge) → Contains new other → Contains old other ⊎ (other ≡ step)
   seen_cases other there = elim (cases_Bool (list_any (eq step) old)) [
     | inl known ↦ inl (subst (λ ms. Contains ms other) (inserted ∙ ap (λ (b : Bool). if b then old else old ++ step ∷ []) known) there)
     | inr unknown ↦
@@ -151,7 +154,7 @@ module _ (eq : Move → Move → Bool) (same : (x y : Move) → eq x y ≡ true 
         ]
   ]
 
-  -- a move that was seen
+  -- an edge that was seen
   pub once_seen : (n : NondeterministicAutomaton) → not (list_any (eq step) old) ≡ false → AddsMoveOnce old new n n step
   once_seen n known = record {
     same_letters = refl;
@@ -167,7 +170,7 @@ module _ (eq : Move → Move → Bool) (same : (x y : Move) → eq x y ≡ true 
     ];
   }
 
-  -- a new move
+  -- a new edge
   pub once_added : (before after : NondeterministicAutomaton) → AddsMove before after step.from (Some step.letter) step.to → AddsMoveOnce old new before after step
   once_added before after adds = record {
     same_letters = adds.same_letters;

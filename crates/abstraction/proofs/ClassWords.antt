@@ -3,9 +3,8 @@ use Rattle.std.proofs.Common.{◌≡◌, ◌<◌, ◌↔◌, ℕ, List, [], ◌�
 use Rattle.word_automata.specs.Path.{edges_of, is_accepting, IsPath, spelled_one, spelled}
 use Rattle.word_automata.specs.Automaton.{Automaton, IsValid}
 use Rattle.word_automata.specs.Nondeterministic.{NondeterministicAutomaton, Accepts}
-use Rattle.word_automata.proofs.Edges.{accepting_within, leads_within, found_edge, edge_found}
-use Rattle.word_automata.proofs.Targets.{target_within, ordered_edges}
-use Rattle.abstraction.specs.declared.class_automaton.Move.{Move}
+use Rattle.word_automata.proofs.ForCallers.{accepting_within, leads_within, found_edge, edge_found, target_within, ordered_edges}
+use Rattle.abstraction.specs.declared.class_automaton.ClassEdge.{ClassEdge}
 use Rattle.abstraction.specs.Merging.{HaveEqualClasses, IsMergedFrom, IsMerged}
 use Rattle.abstraction.specs.ClassAutomata.{HasClassMoves}
 use Rattle.abstraction.specs.FirstStates.{AreFirsts}
@@ -13,7 +12,7 @@ use Rattle.abstraction.proofs.Firsts.{first_same}
 use Rattle.abstraction.proofs.MergedWords.{merged_has_state}
 
 module _ (a : Automaton) (valid : IsValid a) (classes firsts : List ℕ) (count : length classes ≡ length a.states) (are : AreFirsts classes firsts)
-    (seen : List Move) (n : NondeterministicAutomaton) (i : ℕ) (all : i ≡ length a.states) (has : HasClassMoves a firsts seen n i 0) where
+    (seen : List ClassEdge) (n : NondeterministicAutomaton) (i : ℕ) (all : i ≡ length a.states) (has : HasClassMoves a firsts seen n i 0) where
   class : (q : ℕ) → ℕ
   class q = slice_index firsts q
 

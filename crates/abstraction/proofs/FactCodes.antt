@@ -14,9 +14,8 @@ use Rattle.std.proofs.lemmas.List.FromFn.{length-range_with_len}
 use Rattle.minimise.specs.SignatureLaws.{beq-decides}
 use Rattle.word_automata.specs.Path.{is_accepting}
 use Rattle.word_automata.specs.Automaton.{Automaton, target, IsValid}
-use Rattle.word_automata.proofs.Members.{Contains-map}
+use Rattle.word_automata.proofs.ForCallers.{Contains-map, accepting_within, leads_within}
 use Rattle.abstraction.specs.Signatures.{Fact, starts, accepts, leads, HasFact, HaveSameFacts, fact_count, width}
-use Rattle.word_automata.proofs.Edges.{accepting_within, leads_within}
 use Rattle.abstraction.proofs.ListMembers.{contains_joined, contains_number, some_passes, same_at}
 use Rattle.abstraction.proofs.BoundedWordLemmas.{leads_by_letter}
 

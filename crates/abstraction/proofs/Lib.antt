@@ -5,5 +5,6 @@ pub mod ClassWords
 pub mod FactCodes
 pub mod FactLemmas
 pub mod Firsts
+pub mod ForCallers
 pub mod ListMembers
 pub mod MergedWords

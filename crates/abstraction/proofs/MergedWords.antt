@@ -1,8 +1,7 @@
 -- Words of merged automata.
 use Rattle.std.proofs.Common.{◌<◌, ◌↔◌, ℕ, List, [], ◌∷◌, length, arith}
 use Rattle.word_automata.specs.Automaton.{Automaton, IsValid}
-use Rattle.word_automata.proofs.Edges.{accepting_within, leads_within}
-use Rattle.word_automata.proofs.Targets.{target_within}
+use Rattle.word_automata.proofs.ForCallers.{accepting_within, leads_within, target_within}
 use Rattle.safety_problem.specs.Task.{IsAutomatonOf}
 use Rattle.abstraction.specs.Merging.{AreClasses, HaveEqualClasses, IsMergedFrom, IsMerged}
 

@@ -3,7 +3,7 @@ use Rattle.std.specs.Prelude.{◌≡◌, ◌↔◌, ◌⊎◌, ◌<◌, ℕ, Lis
 use Rattle.word_automata.specs.Path.{edges_of, is_accepting}
 use Rattle.word_automata.specs.Automaton.{Automaton}
 use Rattle.word_automata.specs.Nondeterministic.{NondeterministicAutomaton}
-use Rattle.abstraction.specs.declared.class_automaton.Move.{Move}
+use Rattle.abstraction.specs.declared.class_automaton.ClassEdge.{ClassEdge}
 
 -- the first state of the class is known, and what is known stays
 pub record IsKnownFirst (old new : ℕ → Option ℕ) (class first : ℕ) : Type 0 where
@@ -40,7 +40,7 @@ IsClassMove a firsts k label t =
     × (slice_index firsts p ≡ k) × (label ≡ Some l) × (slice_index firsts r ≡ t)
 
 -- the edges of all states before i and the first j edges of state i were added, and nothing else
-pub record HasClassMoves (a : Automaton) (firsts : List ℕ) (seen : List Move) (n : NondeterministicAutomaton) (i j : ℕ) : Type 0 where
+pub record HasClassMoves (a : Automaton) (firsts : List ℕ) (seen : List ClassEdge) (n : NondeterministicAutomaton) (i j : ℕ) : Type 0 where
   pub class_states : HasClassStates a firsts n
   pub added : (p l r : ℕ) → p < i → Contains (edges_of a.states p) (l, r)
       → Contains (edges_of n.states (slice_index firsts p)) (Some l, slice_index firsts r)
@@ -50,10 +50,10 @@ pub record HasClassMoves (a : Automaton) (firsts : List ℕ) (seen : List Move) 
         slice_index firsts (slice_index_or (edges_of a.states i) k (0, 0)).1,
       )
   pub only : (k : ℕ) (label : Option ℕ) (t : ℕ) → Contains (edges_of n.states k) (label, t) → IsClassMove a firsts k label t
-  pub seen_added : (step : Move) → Contains seen step → Contains (edges_of n.states step.from) (Some step.letter, step.to)
+  pub seen_added : (step : ClassEdge) → Contains seen step → Contains (edges_of n.states step.from) (Some step.letter, step.to)
 
--- the move was seen before, or is new and is added
-pub record AddsMoveOnce (old new : List Move) (before after : NondeterministicAutomaton) (step : Move) : Type 0 where
+-- the edge was seen before, or is new and is added
+pub record AddsMoveOnce (old new : List ClassEdge) (before after : NondeterministicAutomaton) (step : ClassEdge) : Type 0 where
   pub same_letters : after.letters ≡ before.letters
   pub same_starts : after.starts ≡ before.starts
   pub same_size : length after.states ≡ length before.states
@@ -61,5 +61,5 @@ pub record AddsMoveOnce (old new : List Move) (before after : NondeterministicAu
   pub kept : (q : ℕ) (edge : Option ℕ × ℕ) → Contains (edges_of before.states q) edge → Contains (edges_of after.states q) edge
   pub only : (q : ℕ) (edge : Option ℕ × ℕ) → Contains (edges_of after.states q) edge
       → Contains (edges_of before.states q) edge ⊎ ((q ≡ step.from) × (edge ≡ (Some step.letter, step.to)))
-  pub seen : (other : Move) → Contains new other → Contains old other ⊎ (other ≡ step)
+  pub seen : (other : ClassEdge) → Contains new other → Contains old other ⊎ (other ≡ step)
   pub added : Contains old step ⊎ Contains (edges_of after.states step.from) (Some step.letter, step.to)

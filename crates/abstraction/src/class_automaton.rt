@@ -14,7 +14,7 @@ use word_automata::{Dfa, Nfa, NfaBuilder};
 
 /// An edge that leads from class to class.
 #[derive(Clone, Copy, PartialEq, Eq, Hash, Debug)]
-pub(crate) struct Move {
+pub(crate) struct ClassEdge {
     pub(crate) from: usize,
     pub(crate) letter: u32,
     pub(crate) to: usize,
@@ -30,7 +30,7 @@ pub fn class_automaton(alloc: Global, a: &Dfa, classes: &[usize]) -> Result<Nfa,
     let mut builder = class_states(alloc, a, &firsts)?;
     let mut seen = IndexSet::new(alloc);
     'states: for state in 0..a.states() {
-        add_moves(a, &firsts, &mut seen, &mut builder, state)?;
+        add_edges(a, &firsts, &mut seen, &mut builder, state)?;
     }
     Ok(builder.finish())
 }
@@ -68,10 +68,10 @@ fn accepting_classes(alloc: Global, a: &Dfa, firsts: &[usize]) -> Result<Vec<boo
 }
 
 /// Adds the edges of the state to those of its class.
-fn add_moves(
+fn add_edges(
     a: &Dfa,
     firsts: &[usize],
-    seen: &mut IndexSet<Move>,
+    seen: &mut IndexSet<ClassEdge>,
     builder: &mut NfaBuilder,
     state: usize,
 ) -> Result<(), AllocError>
@@ -82,21 +82,21 @@ fn add_moves(
 {
     let from = firsts[state];
     'edges: for &(letter, to) in a.edges_from(state) {
-        let step = Move {
+        let step = ClassEdge {
             from,
             letter,
             to: firsts[to],
         };
-        add_move(seen, builder, step)?;
+        add_edge(seen, builder, step)?;
     }
     Ok(())
 }
 
 /// Adds the edge, unless it was seen before.
-fn add_move(
-    seen: &mut IndexSet<Move>,
+fn add_edge(
+    seen: &mut IndexSet<ClassEdge>,
     builder: &mut NfaBuilder,
-    step: Move,
+    step: ClassEdge,
 ) -> Result<(), AllocError>
     requires { IsMoveInRange builder.old step.from (Some step.letter) step.to }
     ensures { OnOk result (AddsMoveOnce seen.old.keys seen.new.keys builder.old builder.new step) }

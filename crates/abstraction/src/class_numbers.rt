@@ -1,4 +1,5 @@
-//! Numbers of classes: each class has that of its first state. It takes time linear in the states, on average.
+//! Numbers of classes: each class has that of its first state, which a hash map keeps by the class. They take time and memory linear in the
+//! states, on average.
 
 ghost use Rattle.std.specs.Prelude.{◌⊎◌, IfOk, nat_eq};
 ghost use Rattle.std.specs.HashMap.{get};

@@ -1,4 +1,5 @@
-//! A law of merged automata. It has no code: it is the contract of a function that does nothing.
+//! A law of merged automata: their words depend on few facts of the automata that are merged, so that rounds are bounded. It has no code:
+//! it is the contract of a function that does nothing.
 
 ghost use Rattle.abstraction.specs.Signatures.{FactsDetermineWords};
 

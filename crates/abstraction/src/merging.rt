@@ -1,4 +1,6 @@
-//! The automaton whose states of one class are merged: a nondeterministic automaton over the classes, made canonical.
+//! The automaton whose states of one class are merged (Bouajjani, Habermehl and Vojnar, CAV 2004): a nondeterministic automaton over the
+//! classes, made canonical. The former takes time linear in the states and edges, on average; the latter may have exponentially many states
+//! more.
 
 ghost use Rattle.std.specs.Prelude.{◌≡◌, IfOk, length};
 ghost use Rattle.safety_problem.specs.Task.{IsAutomatonOf};

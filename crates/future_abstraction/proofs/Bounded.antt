@@ -5,11 +5,11 @@ use Rattle.std.proofs.lemmas.Option.{slice_get-get_or, same_Some}
 use Rattle.std.specs.List.{filter_map}
 use Rattle.word_automata.specs.Path.{edges_of, is_accepting}
 use Rattle.word_automata.specs.Automaton.{Automaton, accepts_from, IsValid}
-use Rattle.exploration.specs.System.{look_up}
+use Rattle.exploration.specs.DeterministicSystem.{look_up}
 use Rattle.minimise.specs.Signatures.{Signature}
 use Rattle.minimise.specs.Refinement.{live_class, live_edge, signature_of, IsSplit}
-use Rattle.minimise.proofs.Edges.{edges_differ, next_state, accepts_from-next, look_up-live_edges, live_edges-increasing, live_class-same}
-use Rattle.minimise.proofs.Refining.{index-zeros}
+use Rattle.minimise.proofs.ForCallers.{edges_differ, next_state, accepts_from-next, look_up-live_edges, live_edges-increasing}
+use Rattle.minimise.proofs.ForCallers.{live_class-same, index-zeros}
 use Rattle.abstraction.specs.Merging.{AreClasses}
 use Rattle.abstraction.specs.Bounds.{up_to}
 use Rattle.future_abstraction.specs.Futures.{is_related}

@@ -3,10 +3,9 @@ use Rattle.std.proofs.Common.{◌≡◌, ◌≤◌, ℕ, Bool, List, [], ◌∷�
 use Rattle.std.proofs.lemmas.Bool.{cases_Bool}
 use Rattle.std.proofs.lemmas.List.{length-map}
 use Rattle.word_automata.specs.Automaton.{Automaton, accepts_from, IsValid}
-use Rattle.word_automata.proofs.Members.{Contains-here, Contains-there}
+use Rattle.word_automata.proofs.ForCallers.{Contains-here, Contains-there}
 use Rattle.abstraction.specs.BoundedWords.{words_up_to}
-use Rattle.abstraction.proofs.ListMembers.{same_at}
-use Rattle.abstraction.proofs.BoundedWordLemmas.{contains_accepted, word_is_short}
+use Rattle.abstraction.proofs.ForCallers.{same_at, contains_accepted, word_is_short}
 use Rattle.future_abstraction.specs.Signatures.{RelatedBySignature}
 
 same_map : {X : Type 0} (f g : X → Bool) (xs : List X) → ((x : X) → Contains xs x → f x ≡ g x) → map f xs ≡ map g xs

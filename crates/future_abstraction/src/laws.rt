@@ -1,4 +1,5 @@
-//! A law of the relation of futures. It has no code: it is the contract of a function that does nothing.
+//! A law of the relation of futures: it is equality of signatures, by which rounds are bounded. It has no code: it is the contract of a
+//! function that does nothing.
 
 ghost use Rattle.future_abstraction.specs.Signatures.{RelatedBySignature};
 

@@ -6,12 +6,10 @@ use Rattle.std.proofs.lemmas.List.{append-nil, append_assoc, length-replicate, g
 use Rattle.std.proofs.lemmas.Option.{slice_get_within, get_or_from_slice_get}
 use Rattle.std.proofs.lemmas.List.Elements.{All-contains, Contains-append_left, Contains-get_or, Contains-push, Contains-push_cases}
 use Rattle.word_automata.specs.Automaton.{Automaton, IsValid}
-use Rattle.word_automata.proofs.Members.{Contains-none, All-from_contains}
-use Rattle.word_automata.proofs.Targets.{target_within}
+use Rattle.word_automata.proofs.ForCallers.{Contains-none, All-from_contains}
 use Rattle.abstraction.specs.Partitions.{AreNumbers, IsRefined}
-use Rattle.determinise.specs.private.Subsets.{letter_of, IsRun}
-use Rattle.past_abstraction.specs.WordSets.{IsImage, AreEdgesOf, AreBlocksOf, AddsSet, HasImage, AddsImages, AddsImagesOf}
-use Rattle.past_abstraction.proofs.ImageStates.{letter_at}
+use Rattle.past_abstraction.specs.private.WordSets.{LeadsFrom, IsImage, HaveSameStates, AreBlocksOf, AddsSet, AddsStates, HasImage, AddsImages, AddsImagesOf}
+use Rattle.past_abstraction.proofs.ImageStates.{letter_within}
 
 -- no set, and one block
 pub blocks_of_none : (a : Automaton) (blocks : List ℕ) → IsValid a → blocks ≡ replicate (length a.states) 0 → AreBlocksOf a [] blocks
@@ -92,49 +90,69 @@ blocks_more a set old new blocks finer states grown refined before = record {
 pub set_states : (a : Automaton) (sets : List (List ℕ)) (blocks set : List ℕ) → AreBlocksOf a sets blocks → Contains sets set → All (λ p. p < length a.states) set
 set_states a sets blocks set are there = All-from_contains (λ p. p < length a.states) set (λ p in_set. are.in_range set p there in_set)
 
-pub image_states : (a : Automaton) → IsValid a → (set image : List ℕ) (letter : ℕ) → IsImage a set letter image → All (λ p. p < length a.states) image
-image_states a valid set image letter is = All-from_contains (λ p. p < length a.states) image (λ q there. let step = (is q).0 there in target_within a valid step.0 letter q step.2)
+-- the states of a list, where there are none, and where they are a set
+pub adds_no_states : (states : List ℕ) (sets : List (List ℕ)) → states ≡ [] → AddsStates states sets sets
+adds_no_states states sets none = record {
+  begins = ([], sym (append-nil sets));
+  added = λ q there. absurd (Contains-none q (subst (λ xs. Contains xs q) none there));
+  only = λ other there. inl there;
+}
 
--- the images under the letters of the edges before a place
-pub record AddsImagesBefore (a : Automaton) (set : List ℕ) (edges : List (ℕ × ℕ)) (at : ℕ) (old new : List (List ℕ)) : Type 0 where
+pub adds_states : (states set : List ℕ) (old new : List (List ℕ)) → HaveSameStates states set → AddsSet set old new → AddsStates states old new
+adds_states states set old new same adds = record {
+  begins = adds.begins;
+  added = λ q there. (set, adds.added, same);
+  only = λ other there. elim (adds.only other there) [
+    | inl earlier ↦ inl earlier
+    | inr is ↦ inr (subst (HaveSameStates states) is same)
+  ];
+}
+
+pub same_within : (count : ℕ) (states set : List ℕ) → HaveSameStates states set → All (λ p. p < count) states → All (λ p. p < count) set
+same_within count states set same within = All-from_contains (λ p. p < count) set (λ q there. All-contains (λ p. p < count) states q within ((same q).0 there))
+
+-- the images under the letters before one
+pub record AddsImagesBefore (a : Automaton) (set : List ℕ) (at : ℕ) (old new : List (List ℕ)) : Type 0 where
   pub begins : (more : List (List ℕ)) × (new ≡ old ++ more)
-  pub images : (k : ℕ) → k < at → (image : List ℕ) × Contains new image × IsImage a set (letter_of edges k) image
+  pub images : (letter : ℕ) → letter < at → HasImage a new set letter
   pub only : (other : List ℕ) → Contains new other → Contains old other ⊎ ((letter : ℕ) × IsImage a set letter other)
 
-pub images_none : (a : Automaton) (set : List ℕ) (edges : List (ℕ × ℕ)) (old : List (List ℕ)) → AddsImagesBefore a set edges 0 old old
-images_none a set edges old = record { begins = ([], sym (append-nil old)); images = λ k less. absurd (omega arith); only = λ other there. inl there }
+pub images_none : (a : Automaton) (set : List ℕ) (old : List (List ℕ)) → AddsImagesBefore a set 0 old old
+images_none a set old = record { begins = ([], sym (append-nil old)); images = λ letter less. absurd (omega arith); only = λ other there. inl there }
 
--- one more run of edges with one letter
-pub images_more : (a : Automaton) (set image : List ℕ) (edges : List (ℕ × ℕ)) (at end : ℕ) (old mid new : List (List ℕ)) → IsRun edges at end
-    → IsImage a set (letter_of edges at) image → AddsImagesBefore a set edges at old mid → AddsSet image mid new → AddsImagesBefore a set edges end old new
-images_more a set image edges at end old mid new run is before adds = record {
+-- the same states are the same image
+same_image : (a : Automaton) (set : List ℕ) (at : ℕ) (states image : List ℕ) → ((q : ℕ) → Contains states q ↔ LeadsFrom a set at q) → HaveSameStates states image → IsImage a set at image
+same_image a set at states image of same q = (λ there. (of q).0 ((same q).0 there), λ leads. (same q).1 ((of q).1 leads))
+
+-- one more letter
+pub images_more : (a : Automaton) (set states : List ℕ) (at : ℕ) (old mid new : List (List ℕ)) → ((q : ℕ) → Contains states q ↔ LeadsFrom a set at q)
+    → AddsImagesBefore a set at old mid → AddsStates states mid new → AddsImagesBefore a set (at + 1) old new
+images_more a set states at old mid new of before adds = record {
   begins = (
     before.begins.0 ++ adds.begins.0,
     adds.begins.1 ∙ ap (λ sets. sets ++ adds.begins.0) before.begins.1 ∙ append_assoc old before.begins.0 adds.begins.0,
   );
-  images = λ k less. elim (cases_lt k at) [
-    | inl earlier ↦ let there = before.images k earlier in (there.0, kept there.0 there.1, there.2)
-    | inr from ↦ (image, adds.added, subst (λ letter. IsImage a set letter image) (sym (run.same k from less)) is)
+  images = λ letter less. elim (cases_lt letter at) [
+    | inl earlier ↦ λ q leads. (let there = before.images letter earlier q leads in (there.0, kept there.0 there.1, there.2))
+    | inr from ↦ let here : at ≡ letter = omega arith in subst (HasImage a new set) here now
   ];
   only = λ other there. elim (adds.only other there) [
     | inl earlier ↦ before.only other earlier
-    | inr same ↦ inr (letter_of edges at, subst (IsImage a set (letter_of edges at)) same is)
+    | inr same ↦ inr (at, same_image a set at states other of same)
   ];
 }
   where
     kept : (other : List ℕ) → Contains mid other → Contains new other
     kept other there = subst (λ sets. Contains sets other) (sym adds.begins.1) (Contains-append_left mid adds.begins.0 other there)
 
--- all edges out of the set
-pub images_all : (a : Automaton) (set : List ℕ) (edges : List (ℕ × ℕ)) (at : ℕ) (old new : List (List ℕ)) → AreEdgesOf a set edges → length edges ≤ at
-    → AddsImagesBefore a set edges at old new → AddsImages a set old new
-images_all a set edges at old new of all before = record {
+    now : HasImage a new set at
+    now q leads = let added = adds.added q ((of q).1 leads) in (added.0, added.1, same_image a set at states added.0 of added.2)
+
+-- all letters
+pub images_all : (a : Automaton) → IsValid a → (set : List ℕ) (at : ℕ) (old new : List (List ℕ)) → a.letters ≤ at → AddsImagesBefore a set at old new → AddsImages a set old new
+images_all a valid set at old new all before = record {
   begins = before.begins;
-  images = λ letter q leads.
-      let there = (of letter q).1 leads in
-      let here : letter_of edges there.0 ≡ letter = letter_at edges there.0 letter q there.1 there.2 in
-      let image = before.images there.0 (let less = there.1 in omega arith) in
-      (image.0, image.1, subst (λ l. IsImage a set l image.0) here image.2);
+  images = λ letter q leads. before.images letter (let within = letter_within a valid set letter q leads in omega arith) q leads;
   only = before.only;
 }
 

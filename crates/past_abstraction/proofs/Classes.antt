@@ -6,7 +6,7 @@ use Rattle.abstraction.specs.Bounds.{up_to}
 use Rattle.abstraction.specs.Merging.{AreClasses}
 use Rattle.abstraction.specs.Partitions.{IsNumbering}
 use Rattle.past_abstraction.specs.Pasts.{LeadsInto, is_related}
-use Rattle.past_abstraction.specs.WordSets.{AreInSame, AreBlocksOf, AreWordSets}
+use Rattle.past_abstraction.specs.private.WordSets.{AreInSame, AreBlocksOf, AreWordSets}
 
 module _ (a : Automaton) (sets : List (List ℕ)) (blocks classes : List ℕ) (bound words first : ℕ) (are : AreBlocksOf a sets blocks) (numbering : IsNumbering blocks classes)
     (has : AreWordSets a words first sets) (fewer : words ≤ bound) where

@@ -4,9 +4,9 @@ use Rattle.std.proofs.lemmas.Bool.{cases_lt}
 use Rattle.std.proofs.lemmas.List.{append-nil, get_or_default}
 use Rattle.std.proofs.lemmas.List.Elements.{Contains-append_left}
 use Rattle.word_automata.specs.Automaton.{Automaton, target}
-use Rattle.word_automata.proofs.Members.{Contains-none}
+use Rattle.word_automata.proofs.ForCallers.{Contains-none}
 use Rattle.past_abstraction.specs.Pasts.{LeadsTo, LeadsInto}
-use Rattle.past_abstraction.specs.WordSets.{IsImage, IsSetOf, AddsSet, HasImage, AddsImagesOf, AreWordSets}
+use Rattle.past_abstraction.specs.private.WordSets.{IsImage, IsSetOf, AddsSet, HasImage, AddsImagesOf, AreWordSets}
 use Rattle.past_abstraction.proofs.Adding.{same_place}
 
 -- the last letter of a word

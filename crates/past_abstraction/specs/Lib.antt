@@ -1,3 +1,3 @@
 pub mod PastLaws
 pub mod Pasts
-pub mod WordSets
+pub mod private

@@ -1,117 +1,68 @@
-//! The images of a set of states: for each letter on an edge out of the set the states to which it leads. The edges are gathered, sorted
-//! by letter where they are out of order, and cut where the letter changes. The images take time linear in the edges, up to sorting.
+//! The images of a set of states: for each letter on an edge out of the set the states to which it leads. The targets of the edges are
+//! put into a list for each letter, and each list is sorted. The images take time linear in the edges and the letters, up to sorting.
 
-ghost use Rattle.std.specs.Prelude.{◌≡◌, ◌↔◌, ◌<◌, ◌≤◌, ℕ, All, Contains, IsTrue, IfOk, length};
-ghost use Rattle.determinise.specs.private.Subsets.{order_key, HasOrderedLetters, IsRun};
-ghost use Rattle.past_abstraction.specs.WordSets.{AreEdgesOf, AreOrderedEdges, AreTargets};
+ghost use Rattle.std.specs.Prelude.{◌≡◌, ◌↔◌, ◌<◌, ◌≤◌, [], ℕ, All, Contains, IfOk, OnOk, length};
+ghost use Rattle.past_abstraction.specs.private.WordSets.{HasEmptyLists, PutsEdges, AreImages, HaveSameStates};
 
-use exploration::StateList;
+use crate::state_set::StateSet;
 use std::alloc::{AllocError, Global};
 use word_automata::Dfa;
 
-/// Room for so many edges of each state is made at once.
-const ROOM: usize = 4;
-
-/// Targets below this number are told apart by the order of edges.
-const TARGETS: u64 = 1 << 32;
-
 /// The states below the number.
-pub fn all_states(alloc: Global, count: usize) -> Result<StateList, AllocError>
+pub fn all_states(alloc: Global, count: usize) -> Result<StateSet, AllocError>
     ensures { IfOk result (λ set. (p : ℕ) → Contains set p ↔ p < count) }
 {
     let mut numbers = Vec::with_capacity(alloc, count)?;
     'states: for state in 0..count {
         numbers.push(state)?;
     }
-    Ok(StateList::from_vec(numbers))
+    Ok(StateSet::from_vec(numbers))
 }
 
-/// The edges out of states of the set, by letters that do not decrease.
-pub fn ordered_edges(alloc: Global, a: &Dfa, set: &[usize]) -> Result<Vec<(u32, usize)>, AllocError>
-    requires { All (λ state. state < length a.now.states) set.now }
-    ensures { IfOk result (λ edges. AreOrderedEdges a.now set.now edges.items) }
+/// A list without states for each letter.
+pub fn empty_lists(alloc: Global, letters: u32) -> Result<Vec<Vec<usize>>, AllocError>
+    ensures { IfOk result (λ lists. HasEmptyLists letters lists.items) }
 {
-    let mut edges = edges_out_of(alloc, a, set)?;
-    if are_ordered(&edges) {
-        return Ok(edges);
+    let mut lists = Vec::with_capacity(alloc, letters as usize)?;
+    'letters: for _ in 0..letters {
+        lists.push(Vec::new(alloc))?;
     }
-    edges.sort_unstable_by_key(|&(letter, to)| order_key(letter, to));
-    Ok(edges)
+    Ok(lists)
 }
 
-/// The edges out of states of the set, one state after another.
-fn edges_out_of(alloc: Global, a: &Dfa, set: &[usize]) -> Result<Vec<(u32, usize)>, AllocError>
-    requires { All (λ state. state < length a.now.states) set.now }
-    ensures { IfOk result (λ edges. AreEdgesOf a.now set.now edges.items) }
+/// Puts the targets of edges out of states of the set into the lists of their letters.
+pub fn put_images(a: &Dfa, set: &[usize], lists: &mut Vec<Vec<usize>>) -> Result<(), AllocError>
+    requires states { All (λ state. state < length a.now.states) set.now }
+    requires before { HasEmptyLists a.now.letters lists.old.items }
+    ensures count { OnOk result (length lists.new.items ≡ a.now.letters) }
+    ensures images { OnOk result (AreImages a.now set.now lists.new.items) }
 {
-    let mut edges = Vec::with_capacity(alloc, set.len().saturating_mul(ROOM))?;
     'states: for &state in set {
-        edges.extend_from_slice(a.edges_from(state))?;
+        put_edges(a.edges_from(state), lists)?;
     }
-    Ok(edges)
+    Ok(())
 }
 
-/// Whether the edges are in order, as those of one state are.
-fn are_ordered(edges: &[(u32, usize)]) -> bool
-    ensures { IsTrue result → HasOrderedLetters edges.now }
+/// Puts the targets of the edges into the lists of their letters.
+fn put_edges(edges: &[(u32, usize)], lists: &mut Vec<Vec<usize>>) -> Result<(), AllocError>
+    requires { All (λ edge. edge.0 < length lists.old.items) edges.now }
+    ensures { OnOk result (PutsEdges edges.now lists.old.items lists.new.items) }
 {
-    'edges: for at in 1..edges.len() {
-        let (before, from) = edges[at - 1];
-        let (letter, to) = edges[at];
-        if order_key(before, from) > order_key(letter, to) {
-            return false;
-        }
+    'edges: for &(letter, to) in edges {
+        let list: &mut Vec<usize> = &mut lists[letter as usize];
+        list.push(to)?;
     }
-    true
+    Ok(())
 }
 
-/// The letter above the last 32 bits of the target: one number, so that edges are compared at once.
-fn order_key(letter: u32, to: usize) -> u64
-    ensures { result ≡ order_key (letter, to) }
+/// The states of the list in their order, each once, and the list without them.
+pub fn take_states(alloc: Global, list: &mut Vec<usize>) -> Result<StateSet, AllocError>
+    ensures same { IfOk result (HaveSameStates list.old.items) }
+    ensures cleared { OnOk result (list.new.items ≡ []) }
 {
-    u64::from(letter) * TARGETS + to as u64 % TARGETS
-}
-
-/// The place after the last edge with the letter of the edge at the place.
-pub fn end_of_run(edges: &[(u32, usize)], at: usize) -> usize
-    requires within { at < length edges.now }
-    requires ordered { HasOrderedLetters edges.now }
-    ensures { IsRun edges.now at result }
-{
-    let mut end = at + 1;
-    'run: while end < edges.len() && edges[end].0 == edges[at].0 {
-        end += 1;
-    }
-    end
-}
-
-/// The targets of the edges from one place on and before another one, each once where equal ones stand side by side.
-pub fn targets(
-    alloc: Global,
-    edges: &[(u32, usize)],
-    at: usize,
-    end: usize,
-) -> Result<StateList, AllocError>
-    requires order { at ≤ end }
-    requires within { end ≤ length edges.now }
-    ensures { IfOk result (AreTargets edges.now at end) }
-{
-    let mut targets = Vec::with_capacity(alloc, end - at)?;
-    'edges: for place in at..end {
-        let (_, to) = edges[place];
-        if !ends_with(&targets, to) {
-            targets.push(to)?;
-        }
-    }
-    Ok(StateList::from_vec(targets))
-}
-
-/// Whether the state is the last of the list.
-fn ends_with(states: &[usize], state: usize) -> bool
-    ensures { IsTrue result → Contains states.now state }
-{
-    match states.last() {
-        Some(last) => *last == state,
-        None => false,
-    }
+    list.sort_unstable();
+    list.dedup();
+    let states = Vec::from_slice(alloc, list)?;
+    list.clear();
+    Ok(StateSet::from_vec(states))
 }

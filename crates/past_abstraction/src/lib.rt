@@ -4,6 +4,7 @@
 
 mod images;
 mod pasts;
+mod state_set;
 mod word_sets;
 
 pub use pasts::Pasts;

@@ -1,16 +1,16 @@
 //! Classes of states by the sets of states into which words lead. A round adds the images of the sets that the round before it added, and
 //! splits the classes by those that are new. The rounds end where one adds no set, or where one with many sets finds each state alone in
-//! its class. Each set is expanded once, in the time of the edges out of it up to sorting, and looked up by its hash.
+//! its class. Each set is expanded once, in the time of the edges out of it and the letters up to sorting, and looked up by its hash.
 
 ghost use Rattle.std.specs.Prelude.{◌≡◌, ◌<◌, ◌≤◌, ◌+◌, ℕ, All, IsTrue, IfOk, OnOk, length, slice_index, slice_index_or, []};
 ghost use Rattle.abstraction.specs.Merging.{AreClasses};
 ghost use Rattle.abstraction.specs.Bounds.{up_to};
 ghost use Rattle.past_abstraction.specs.Pasts.{is_related};
-ghost use Rattle.past_abstraction.specs.WordSets.{AreBlocksOf, AddsSet, AddsImages, AddsImagesOf, AreWordSets};
+ghost use Rattle.past_abstraction.specs.private.WordSets.{HasEmptyLists, AreBlocksOf, AddsSet, AddsStates, AddsImages, AddsImagesOf, AreWordSets};
 
-use crate::images::{all_states, end_of_run, ordered_edges, targets};
+use crate::images::{all_states, empty_lists, put_images, take_states};
+use crate::state_set::StateSet;
 use abstraction::Partition;
-use exploration::StateList;
 use indexmap::IndexSet;
 use std::alloc::{AllocError, Global};
 use word_automata::Dfa;
@@ -66,7 +66,7 @@ fn are_single(classes: &[usize]) -> bool
 fn add_images_from(
     alloc: Global,
     a: &Dfa,
-    sets: &mut IndexSet<StateList>,
+    sets: &mut IndexSet<StateSet>,
     blocks: &mut Partition,
     first: usize,
 ) -> Result<(), AllocError>
@@ -74,42 +74,65 @@ fn add_images_from(
     ensures blocks { OnOk result (AreBlocksOf a.now sets.new.keys blocks.new) }
     ensures images { OnOk result (AddsImagesOf a.now first (length sets.old.keys) sets.old.keys sets.new.keys) }
 {
+    let mut lists = empty_lists(alloc, a.letters())?;
     'sets: for number in first..sets.len() {
-        add_images(alloc, a, sets, blocks, number)?;
+        add_images(alloc, a, &mut lists, sets, blocks, number)?;
     }
     Ok(())
 }
 
-/// Adds the images of the set with this number.
+/// Adds the images of the set with this number. The lists, one for each letter, are empty before and after.
 fn add_images(
     alloc: Global,
     a: &Dfa,
-    sets: &mut IndexSet<StateList>,
+    lists: &mut Vec<Vec<usize>>,
+    sets: &mut IndexSet<StateSet>,
     blocks: &mut Partition,
     number: usize,
 ) -> Result<(), AllocError>
     requires within { number < length sets.old.keys }
+    requires lists { HasEmptyLists a.now.letters lists.old.items }
     requires before { AreBlocksOf a.now sets.old.keys blocks.old }
+    ensures lists { OnOk result (HasEmptyLists a.now.letters lists.new.items) }
     ensures blocks { OnOk result (AreBlocksOf a.now sets.new.keys blocks.new) }
     ensures images { OnOk result (AddsImages a.now (slice_index_or sets.old.keys number []) sets.old.keys sets.new.keys) }
 {
-    let edges = ordered_edges(alloc, a, sets.as_slice()[number].as_slice())?;
-    let mut at = 0;
-    'runs: while at < edges.len() {
-        let end = end_of_run(&edges, at);
-        let image = targets(alloc, &edges, at, end)?;
-        add_set(a, sets, blocks, image)?;
-        at = end;
+    put_images(a, sets.as_slice()[number].as_slice(), lists)?;
+    'letters: for letter in 0..lists.len() {
+        let list: &mut Vec<usize> = &mut lists[letter];
+        add_states(alloc, a, list, sets, blocks)?;
     }
+    Ok(())
+}
+
+/// Adds the states of the list as a set, if there are any, and empties the list.
+fn add_states(
+    alloc: Global,
+    a: &Dfa,
+    list: &mut Vec<usize>,
+    sets: &mut IndexSet<StateSet>,
+    blocks: &mut Partition,
+) -> Result<(), AllocError>
+    requires states { All (λ state. state < length a.now.states) list.old.items }
+    requires before { AreBlocksOf a.now sets.old.keys blocks.old }
+    ensures cleared { OnOk result (list.new.items ≡ []) }
+    ensures blocks { OnOk result (AreBlocksOf a.now sets.new.keys blocks.new) }
+    ensures set { OnOk result (AddsStates list.old.items sets.old.keys sets.new.keys) }
+{
+    if list.is_empty() {
+        return Ok(());
+    }
+    let set = take_states(alloc, list)?;
+    add_set(a, sets, blocks, set)?;
     Ok(())
 }
 
 /// Adds the set, unless it is there, and splits the blocks by it where it is new.
 fn add_set(
     a: &Dfa,
-    sets: &mut IndexSet<StateList>,
+    sets: &mut IndexSet<StateSet>,
     blocks: &mut Partition,
-    set: StateList,
+    set: StateSet,
 ) -> Result<(), AllocError>
     requires states { All (λ state. state < length a.now.states) set }
     requires before { AreBlocksOf a.now sets.old.keys blocks.old }

@@ -1,12 +1,11 @@
 -- Pairs that are added one after another.
-use Rattle.std.proofs.Common.{◌≡◌, ◌<◌, ◌+◌, ◌*◌, ℕ, false, List, Option, None, Some, Contains, IsTrue, length, take, get_or, sym, ap, subst, ◌∙◌, inl, inr, arith}
+use Rattle.std.proofs.Common.{◌≡◌, ◌<◌, ◌+◌, ◌*◌, ℕ, false, List, Option, None, Contains, IsTrue, length, take, get_or, sym, ap, subst, ◌∙◌, inl, inr, arith}
 use Rattle.std.proofs.lemmas.Bool.{cases_lt, false≢true}
-use Rattle.std.proofs.lemmas.Option.{same_Some}
 use Rattle.word_automata.specs.Path.{Node, edges_of, is_accepting}
 use Rattle.word_automata.specs.Automaton.{Automaton}
 use Rattle.predicate_abstraction.specs.private.Pairs.{Pairs, AddsPairs}
 use Rattle.predicate_abstraction.specs.private.SharedWords.{IsAcceptingIn, AreAccepting, IsSource, AreSources}
-use Rattle.abstraction.proofs.ListMembers.{take_cases, take_keeps, take_last}
+use Rattle.abstraction.proofs.ForCallers.{take_cases, take_keeps, take_last}
 use Rattle.predicate_abstraction.proofs.Marks.{adds_both, adds_same}
 
 -- two pairs with equal parts
@@ -76,34 +75,21 @@ module _ (edges : List (Option ℕ × ℕ)) (i : ℕ) (within : i < length edges
       ))
       old mid new before last
 
-  module _ (into_b : List (Node (Option ℕ))) (letters s : ℕ) where
-    pub predecessors_more : (letter : ℕ) (old mid new : Pairs) → (get_or edges i (None, 0)).0 ≡ Some letter → AddsPairs (AreSources (take i edges) into_b letters s) old mid
-        → AddsPairs (IsSource (get_or edges i (None, 0)).1 (edges_of into_b (s * letters + letter))) mid new → AddsPairs (AreSources (take (i + 1) edges) into_b letters s) old new
-    predecessors_more letter old mid new label before last =
-        let edge = get_or edges i (None, 0) in
-        adds_both (AreSources (take i edges) into_b letters s) (IsSource edge.1 (edges_of into_b (s * letters + letter))) (AreSources (take (i + 1) edges) into_b letters s)
-        (λ x is. elim (take_cases edges i (None, 0) (Some is.0, x.0) within is.1) [
-          | inl earlier ↦ inl (is.0, earlier, is.2, is.3)
-          | inr here ↦
-              let same : is.0 ≡ letter = same_Some is.0 letter (ap (λ (e : Option ℕ × ℕ). e.0) (sym here) ∙ label) in
-              inr (ap (λ (e : Option ℕ × ℕ). e.1) (sym here), is.2, subst (λ l. Contains (edges_of into_b (s * letters + l)) (is.2, x.1)) same is.3)
-        ])
-        (λ x is. (is.0, take_keeps edges i (None, 0) (Some is.0, x.0) within is.1, is.2, is.3))
-        (λ x is. (
-          letter,
-          subst (λ t. Contains (take (i + 1) edges) (Some letter, t)) (sym is.0) (subst (λ l. Contains (take (i + 1) edges) (l, edge.1)) label (take_last edges i (None, 0) within)),
-          is.1,
-          is.2,
-        ))
-        old mid new before last
-
-    pub predecessors_kept : (old new : Pairs) → (get_or edges i (None, 0)).0 ≡ None → AddsPairs (AreSources (take i edges) into_b letters s) old new
-        → AddsPairs (AreSources (take (i + 1) edges) into_b letters s) old new
-    predecessors_kept old new none before =
-        adds_same (AreSources (take i edges) into_b letters s) (AreSources (take (i + 1) edges) into_b letters s)
-        (λ x is. (is.0, take_keeps edges i (None, 0) (Some is.0, x.0) within is.1, is.2, is.3))
-        (λ x is. elim (take_cases edges i (None, 0) (Some is.0, x.0) within is.1) [
-          | inl earlier ↦ (is.0, earlier, is.2, is.3)
-          | inr here ↦ absurd (let e = ap (λ (e : Option ℕ × ℕ). e.0) here in cc)
-        ])
-        old new before
+-- one more edge into the first state
+module _ (moves : List (ℕ × ℕ)) (i : ℕ) (within : i < length moves) (into_b : List (Node (Option ℕ))) (letters s : ℕ) where
+  pub predecessors_more : (old mid new : Pairs) → AddsPairs (AreSources (take i moves) into_b letters s) old mid
+      → AddsPairs (IsSource (get_or moves i (0, 0)).1 (edges_of into_b (s * letters + (get_or moves i (0, 0)).0))) mid new
+      → AddsPairs (AreSources (take (i + 1) moves) into_b letters s) old new
+  predecessors_more old mid new before last =
+      let move = get_or moves i (0, 0) in
+      adds_both (AreSources (take i moves) into_b letters s) (IsSource move.1 (edges_of into_b (s * letters + move.0)))
+      (AreSources (take (i + 1) moves) into_b letters s)
+      (λ x is. elim (take_cases moves i (0, 0) (is.0, x.0) within is.1) [
+        | inl earlier ↦ inl (is.0, earlier, is.2, is.3)
+        | inr here ↦
+            let same : is.0 ≡ move.0 = ap (λ (e : ℕ × ℕ). e.0) (sym here) in
+            inr (ap (λ (e : ℕ × ℕ). e.1) (sym here), is.2, subst (λ l. Contains (edges_of into_b (s * letters + l)) (is.2, x.1)) same is.3)
+      ])
+      (λ x is. (is.0, take_keeps moves i (0, 0) (is.0, x.0) within is.1, is.2, is.3))
+      (λ x is. (move.0, subst (λ t. Contains (take (i + 1) moves) (move.0, t)) (sym is.0) (take_last moves i (0, 0) within), is.1, is.2))
+      old mid new before last

@@ -6,7 +6,7 @@ use Rattle.std.proofs.lemmas.List.Elements.{Contains-append_left, Contains-appen
 use Rattle.std.proofs.lemmas.Option.{slice_get-get_or, same_Some}
 use Rattle.word_automata.specs.Automaton.{Automaton}
 use Rattle.abstraction.specs.FirstStates.{AreFirsts}
-use Rattle.abstraction.proofs.Firsts.{first_within, first_same}
+use Rattle.abstraction.proofs.ForCallers.{first_within, first_same}
 use Rattle.abstraction.specs.Partitions.{AreNumbers}
 use Rattle.predicate_abstraction.specs.private.Splitting.{AreClassesBy, AreCommon}
 use Rattle.predicate_abstraction.proofs.Marks.{place-row, place-column}

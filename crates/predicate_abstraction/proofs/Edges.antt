@@ -3,9 +3,7 @@ use Rattle.std.proofs.Common.{◌≡◌, ◌<◌, ℕ, List, ◌∷◌, Some, Co
 use Rattle.std.proofs.lemmas.Bool.{cases_lt}
 use Rattle.word_automata.specs.Path.{edges_of}
 use Rattle.word_automata.specs.Automaton.{Automaton, target, accepts_from, IsValid}
-use Rattle.word_automata.proofs.Edges.{edges_of-past, found_edge, edge_found}
-use Rattle.word_automata.proofs.Targets.{ordered_edges}
-use Rattle.word_automata.proofs.Members.{Contains-none}
+use Rattle.word_automata.proofs.ForCallers.{edges_of-past, found_edge, edge_found, ordered_edges, Contains-none}
 use Rattle.predicate_abstraction.specs.PredicateLaws.{accepts_along as accepts_by_target, accepts_first as first_target}
 
 -- an edge leads where its letter does

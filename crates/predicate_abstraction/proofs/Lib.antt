@@ -1,10 +1,10 @@
+pub mod ForCallers
 pub mod Adding
 pub mod ClassPairs
 pub mod Edges
 pub mod Links
 pub mod Marks
 pub mod Parts
-pub mod Reverses
 pub mod Sharing
 pub mod SourceLists
 pub mod SignatureLaws

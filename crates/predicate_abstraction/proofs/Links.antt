@@ -4,7 +4,7 @@ use Rattle.std.specs.Prelude.{replicate}
 use Rattle.std.proofs.lemmas.Bool.{cases_eq, cases_lt}
 use Rattle.std.proofs.lemmas.List.{get_or_append_left, get_or_push, get_or_default, get_or-set_same, get_or-set_other, length-set, length-replicate, get_or-replicate}
 use Rattle.std.proofs.lemmas.List.Elements.{All-append, All-cons, All-nil, Contains-append_left, Contains-push, Contains-push_cases, Contains-get_or}
-use Rattle.word_automata.proofs.Members.{Contains-none}
+use Rattle.word_automata.proofs.ForCallers.{Contains-none}
 use Rattle.predicate_abstraction.specs.private.Pairs.{Pairs, IsLastLink, AreLinked, AreRowsOf}
 
 -- no pair

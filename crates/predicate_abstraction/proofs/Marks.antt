@@ -6,7 +6,7 @@ use Rattle.std.proofs.lemmas.Bool.{cases_eq, false≢true}
 use Rattle.std.proofs.lemmas.List.{get_or-set_same, get_or-set_other, length-set, length-replicate, get_or-replicate, append-nil, append_assoc}
 use Rattle.std.proofs.lemmas.List.Elements.{All-append, All-cons, All-nil, Contains-append_left, Contains-push, Contains-push_cases}
 use Rattle.std.specs.Prelude.{replicate}
-use Rattle.word_automata.proofs.Members.{Contains-none}
+use Rattle.word_automata.proofs.ForCallers.{Contains-none}
 use Rattle.predicate_abstraction.specs.private.Pairs.{Pairs, AreMarked, AddsPairs}
 
 -- the place of a pair is one of the places

@@ -1,5 +1,5 @@
 -- Classes that are split, by the states of predicate automata and by one predicate automaton after another.
-use Rattle.std.proofs.Common.{◌≡◌, ◌<◌, ◌+◌, ◌↔◌, ℕ, Some, List, [], ◌∷◌, ◌++◌, Contains, length, get_or, set, take, sym, ap, subst, ◌∙◌, inl, inr, arith}
+use Rattle.std.proofs.Common.{◌≡◌, ◌<◌, ◌+◌, ◌↔◌, ℕ, Some, List, [], ◌∷◌, ◌++◌, Contains, length, get_or, take, refl, sym, ap, subst, ◌∙◌, inl, inr, arith}
 use Rattle.std.specs.Prelude.{replicate}
 use Rattle.std.proofs.lemmas.Bool.{cases_lt}
 use Rattle.std.proofs.lemmas.Option.{slice_get-get_or, same_Some}
@@ -11,19 +11,13 @@ use Rattle.predicate_abstraction.specs.Predicates.{SharesWord, MeetSame}
 use Rattle.predicate_abstraction.specs.private.Pairs.{Pairs, AreRowsOf}
 use Rattle.predicate_abstraction.specs.private.SharedWords.{AreShared}
 use Rattle.abstraction.specs.Partitions.{AreNumbers, IsRefined, IsNumbering}
-use Rattle.abstraction.proofs.ListMembers.{take_cases}
+use Rattle.abstraction.proofs.ForCallers.{take_cases}
 use Rattle.predicate_abstraction.specs.private.Splitting.{AreClassesBy, IsSplitBefore}
 
--- states are in one block where they were in one class, and share words with the same states of b before i
-pub record HasSplit (a b : Automaton) (i : ℕ) (classes blocks : List ℕ) : Type 0 where
-  pub count : length blocks ≡ length a.states
-  pub apart : (p q : ℕ) → p < length a.states → q < length a.states
-      → (get_or blocks p 0 ≡ get_or blocks q 0) ↔ ((get_or classes p 0 ≡ get_or classes q 0) × ((s : ℕ) → s < i → SharesWord a p b s ↔ SharesWord a q b s))
-
 -- no column
-pub split_none : (a b : Automaton) (classes blocks : List ℕ) → blocks ≡ classes → AreNumbers (length a.states) classes → HasSplit a b 0 classes blocks
-split_none a b classes blocks same numbers = record {
-  count = ap length same ∙ numbers.count;
+pub split_none : (a b : Automaton) (old blocks : List ℕ) → blocks ≡ old → length old ≡ length a.states → IsSplitBefore a b 0 old blocks
+split_none a b old blocks same count = record {
+  count = ap length same ∙ count;
   apart = λ p q lp lq. (
     λ e. (sym (ap (λ xs. get_or xs p 0) same) ∙ e ∙ ap (λ xs. get_or xs q 0) same, λ s below. absurd (omega arith)),
     λ both. ap (λ xs. get_or xs p 0) same ∙ both.0 ∙ sym (ap (λ xs. get_or xs q 0) same),
@@ -31,8 +25,8 @@ split_none a b classes blocks same numbers = record {
 }
 
 -- one more column
-pub split_more : (a b : Automaton) (set : Pairs) → AreShared a b set → (classes blocks finer rows : List ℕ) (i : ℕ) → AreRowsOf set i rows → HasSplit a b i classes blocks
-    → IsRefined rows blocks finer → HasSplit a b (i + 1) classes finer
+pub split_more : (a b : Automaton) (set : Pairs) → AreShared a b set → (classes blocks finer rows : List ℕ) (i : ℕ) → AreRowsOf set i rows → IsSplitBefore a b i classes blocks
+    → IsRefined rows blocks finer → IsSplitBefore a b (i + 1) classes finer
 split_more a b set shared classes blocks finer rows i of before refined = record {
   count = refined.count ∙ before.count;
   apart = λ p q lp lq.
@@ -61,37 +55,56 @@ split_more a b set shared classes blocks finer rows i of before refined = record
     shares : (p : ℕ) → Contains rows p ↔ SharesWord a p b i
     shares p = (λ h. (shared.shared p i).0 ((of.same p).0 h), λ h. (of.same p).1 ((shared.shared p i).1 h))
 
--- the numbers of the blocks
-pub split_numbered : (a b : Automaton) (i : ℕ) (classes blocks finer : List ℕ) → HasSplit a b i classes blocks → IsNumbering blocks finer → IsSplitBefore a b i classes finer
-split_numbered a b i classes blocks finer split numbering = record {
-  numbers = subst (λ n. AreNumbers n finer) split.count numbering.numbers;
+-- states are in one block where they share words with the same states of each automaton
+pub record AreBlocksBy (predicates : List Automaton) (a : Automaton) (blocks : List ℕ) : Type 0 where
+  pub count : length blocks ≡ length a.states
+  pub apart : (p q : ℕ) → p < length a.states → q < length a.states → (get_or blocks p 0 ≡ get_or blocks q 0) ↔ MeetSame predicates a p q
+
+-- other numbers of the blocks
+pub blocks_by_numbers : (predicates : List Automaton) (a : Automaton) (blocks numbers : List ℕ) → AreBlocksBy predicates a blocks → IsNumbering blocks numbers → AreBlocksBy predicates a numbers
+blocks_by_numbers predicates a blocks numbers by numbering = record {
+  count = numbering.numbers.count ∙ by.count;
   apart = λ p q lp lq.
-      let count = split.count in
-      let now = split.apart p q lp lq in
+      let count = by.count in
+      let now = by.apart p q lp lq in
       let same = numbering.same p q (omega arith) (omega arith) in
-      (λ e. now.0 (same.0 e), λ both. same.1 (now.1 both));
+      (λ e. now.0 (same.0 e), λ meet. same.1 (now.1 meet));
+}
+
+pub classes_by_numbers : (predicates : List Automaton) (a : Automaton) (blocks classes : List ℕ) → AreBlocksBy predicates a blocks → IsNumbering blocks classes → AreClassesBy predicates a classes
+classes_by_numbers predicates a blocks classes by numbering = record {
+  numbers = subst (λ n. AreNumbers n classes) by.count numbering.numbers;
+  apart = (blocks_by_numbers predicates a blocks classes by numbering).apart;
 }
 
 -- no predicate automaton
-pub classes_by_none : (a : Automaton) (classes : List ℕ) (predicates : List Automaton) → classes ≡ replicate (length a.states) 0 → predicates ≡ [] → AreClassesBy predicates a classes
-classes_by_none a classes predicates is empty = record {
-  numbers = record { count = ap length is ∙ length-replicate (length a.states) 0; below = λ p there. (let e = zero_at p there in omega arith) };
+pub numbers_none : (n : ℕ) (zeros : List ℕ) → zeros ≡ replicate n 0 → AreNumbers (length zeros) zeros
+numbers_none n zeros is = record {
+  count = refl;
+  below = λ p there.
+      let size = ap length is ∙ length-replicate n 0 in
+      let zero = ap (λ xs. get_or xs p 0) is ∙ get_or-replicate n p 0 0 (omega arith) in omega arith;
+}
+
+pub blocks_by_none : (a : Automaton) (blocks : List ℕ) (predicates : List Automaton) → blocks ≡ replicate (length a.states) 0 → predicates ≡ [] → AreBlocksBy predicates a blocks
+blocks_by_none a blocks predicates is empty = record {
+  count = ap length is ∙ length-replicate (length a.states) 0;
   apart = λ p q lp lq. (
     λ e b there. absurd (none b there),
     λ same. zero_at p lp ∙ sym (zero_at q lq),
   );
 }
   where
-    zero_at : (p : ℕ) → p < length a.states → get_or classes p 0 ≡ 0
+    zero_at : (p : ℕ) → p < length a.states → get_or blocks p 0 ≡ 0
     zero_at p there = ap (λ xs. get_or xs p 0) is ∙ get_or-replicate (length a.states) p 0 0 there
 
     none : (b : Automaton) → Contains predicates b → ⊥
     none b there = let x = subst (λ ps. Contains ps b) empty there in (let l = x.1 in omega arith)
 
-pub classes_by_more : (a : Automaton) (predicates : List Automaton) (i : ℕ) (b : Automaton) (classes finer : List ℕ) → i < length predicates → b ≡ get_or predicates i b
-    → IsSplitBefore a b (length b.states) classes finer → AreClassesBy (take i predicates) a classes → AreClassesBy (take (i + 1) predicates) a finer
-classes_by_more a predicates i b classes finer within read split before = record {
-  numbers = split.numbers;
+pub blocks_by_more : (a : Automaton) (predicates : List Automaton) (i : ℕ) (b : Automaton) (blocks finer : List ℕ) → i < length predicates → b ≡ get_or predicates i b
+    → IsSplitBefore a b (length b.states) blocks finer → AreBlocksBy (take i predicates) a blocks → AreBlocksBy (take (i + 1) predicates) a finer
+blocks_by_more a predicates i b blocks finer within read split before = record {
+  count = split.count;
   apart = λ p q lp lq.
       let now = split.apart p q lp lq in
       let earlier = before.apart p q lp lq in (

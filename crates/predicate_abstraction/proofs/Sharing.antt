@@ -1,21 +1,20 @@
 -- The search for pairs of states that share a word, pair by pair.
-use Rattle.std.proofs.Common.{◌≡◌, ◌<◌, ◌≤◌, ◌+◌, ℕ, List, [], ◌∷◌, All, IfSome, Option, None, Some, Contains, IsTrue, length, get_or, sym, ap, subst, ◌∙◌, inl, inr, arith}
+use Rattle.std.proofs.Common.{◌≡◌, ◌<◌, ◌≤◌, ◌+◌, ◌⊎◌, ℕ, Vec, List, [], ◌∷◌, ◌++◌, All, None, Some, Contains, IsTrue, length, get_or, slice_get, sym, ap, subst, ◌∙◌, inl, inr, arith}
 use Rattle.std.proofs.lemmas.Bool.{cases_lt}
-use Rattle.std.proofs.lemmas.Option.{same_Some}
-use Rattle.std.proofs.lemmas.List.{get_or_append_left, get_or_default, length-append}
-use Rattle.std.proofs.lemmas.List.Elements.{All-nil, Contains-append_left, Contains-get_or}
+use Rattle.std.proofs.lemmas.List.{get_or_append_left, get_or_default, length-append, length_push}
+use Rattle.std.proofs.lemmas.List.Elements.{Contains-append_left, Contains-get_or}
+use Rattle.std.proofs.lemmas.Option.{slice_get-get_or, slice_get_within}
 use Rattle.word_automata.specs.Path.{edges_of}
-use Rattle.word_automata.specs.Automaton.{Automaton, accepts_from}
-use Rattle.word_automata.specs.Nondeterministic.{NondeterministicAutomaton, IsInRange}
-use Rattle.word_automata.proofs.Edges.{accepting_within}
-use Rattle.word_automata.proofs.Members.{Contains-none}
-use Rattle.word_automata.proofs.Rows.{All-edges_of}
+use Rattle.word_automata.specs.Automaton.{Automaton, accepts_from, IsValid}
+use Rattle.word_automata.specs.Nondeterministic.{NondeterministicAutomaton}
+use Rattle.word_automata.proofs.ForCallers.{accepting_within, Contains-none, All-from_contains}
+use Rattle.exploration.specs.Incoming.{Chains, AreIncoming, AddsMoves}
+use Rattle.exploration.proofs.ForCallers.{slice_get-push_cases}
 use Rattle.predicate_abstraction.specs.Predicates.{SharesWord}
 use Rattle.predicate_abstraction.specs.private.Pairs.{Pairs, AddsPairs}
-use Rattle.predicate_abstraction.specs.private.Reversal.{IsReverse}
 use Rattle.predicate_abstraction.specs.private.Sources.{AreSourcesByLetter}
-use Rattle.predicate_abstraction.specs.private.SharedWords.{AreShared, SharesWords, AreAccepting, AreSources}
-use Rattle.predicate_abstraction.proofs.Edges.{accepts_along, accepts_first}
+use Rattle.predicate_abstraction.specs.private.SharedWords.{AreShared, SharesWords, AreAccepting, AreSources, AreEdgesInto, AreEdgesByTarget}
+use Rattle.predicate_abstraction.proofs.Edges.{accepts_along, accepts_first, edge_within}
 use Rattle.predicate_abstraction.proofs.SourceLists.{letter_within}
 
 -- the pairs of accepting states
@@ -33,10 +32,66 @@ shares_accepting a b old new rows columns empty i all adds = record {
   led = λ k letter p s below. absurd (omega arith);
 }
 
+-- what is put into an empty list
+pub list_into : (a : Automaton) (chains : Chains) → AreIncoming a chains → (q : ℕ) (none moves : List (ℕ × ℕ)) → none ≡ []
+    → AddsMoves chains q none moves → AreEdgesInto a q moves
+list_into a chains incoming q none moves empty adds move = (
+  λ there. elim (adds.only move there) [
+    | inl before ↦ absurd (Contains-none move (subst (λ xs. Contains xs move) empty before))
+    | inr into ↦ incoming.sound q move into
+  ],
+  λ edge. adds.added move (incoming.complete move.1 move.0 q edge),
+)
+
+-- one more list
+pub lists_none : {A : Type 0} → (a : Automaton) → IsValid a → (lists : List (Vec (ℕ × ℕ) A)) → lists ≡ [] → AreEdgesByTarget a lists 0
+lists_none a valid lists none = record {
+  valid = valid;
+  count = ap length none;
+  each = λ q list is. absurd (let w = slice_get_within lists q list is in let e = ap length none in omega arith);
+}
+
+pub lists_more : {A : Type 0} → (a : Automaton) (lists : List (Vec (ℕ × ℕ) A)) (n : ℕ) (list : Vec (ℕ × ℕ) A)
+    → AreEdgesByTarget a lists n → AreEdgesInto a n list.items → AreEdgesByTarget a (lists ++ list ∷ []) (n + 1)
+lists_more {A} a lists n list before edges = record {
+  valid = before.valid;
+  count = length_push lists list ∙ ap (λ k. k + 1) before.count;
+  each = λ q other is. by q other (slice_get-push_cases lists list other q is);
+}
+  where
+    by : (q : ℕ) (other : Vec (ℕ × ℕ) A) → (slice_get lists q ≡ Some other) ⊎ ((q ≡ length lists) × (list ≡ other))
+        → AreEdgesInto a q other.items
+    by q other (inl old) = before.each q other old
+    by q other (inr (last, same)) =
+        subst (λ (v : Vec (ℕ × ℕ) A). AreEdgesInto a q v.items) same
+        (subst (λ x. AreEdgesInto a x list.items) (sym (last ∙ before.count)) edges)
+
+-- the list of a state
+pub list_at : {A : Type 0} → (a : Automaton) (lists : List (Vec (ℕ × ℕ) A)) (n : ℕ) → AreEdgesByTarget a lists n
+    → (p : ℕ) (list : Vec (ℕ × ℕ) A) (moves : List (ℕ × ℕ)) → p < n → list ≡ get_or lists p list → moves ≡ list.items
+    → AreEdgesInto a p moves
+list_at a lists n each p list moves within read same =
+    subst (AreEdgesInto a p) (sym same)
+    (each.each p list (slice_get-get_or lists p list (let c = each.count in omega arith) ∙ ap Some (sym read)))
+
+-- their sources are states, and their letters those of the automaton
+pub sources_within : (a : Automaton) (size : ℕ) → size ≡ length a.states → (q : ℕ) (moves : List (ℕ × ℕ)) → AreEdgesInto a q moves
+    → All (λ move. move.1 < size) moves
+sources_within a size same q moves are =
+    All-from_contains (λ (move : ℕ × ℕ). move.1 < size) moves
+    (λ move there. let l = edge_within a move.1 move.0 q ((are move).0 there) in omega arith)
+
+pub letters_within : (a : Automaton) → IsValid a → (letters : ℕ) → letters ≡ a.letters → (q : ℕ) (moves : List (ℕ × ℕ))
+    → AreEdgesInto a q moves → All (λ move. move.0 < letters) moves
+letters_within a valid letters same q moves are =
+    All-from_contains (λ (move : ℕ × ℕ). move.0 < letters) moves
+    (λ move there. let l = letter_within a valid move.1 move.0 q ((are move).0 there) in omega arith)
+
 -- one more pair
-module _ (a b : Automaton) (into_a into_b : NondeterministicAutomaton) (rev_a : IsReverse a into_a) (rev_b : AreSourcesByLetter b into_b) (same_letters : b.letters ≡ a.letters)
-    (old new : Pairs) (next : ℕ) (pair : ℕ × ℕ) (there : next < length old.pairs) (read : get_or old.pairs next (0, 0) ≡ pair)
-    (adds : AddsPairs (AreSources (edges_of into_a.states pair.0) into_b.states b.letters pair.1) old new) (before : SharesWords a b old next) where
+module _ (a b : Automaton) (valid : IsValid a) (into_b : NondeterministicAutomaton) (rev_b : AreSourcesByLetter b into_b)
+    (same_letters : b.letters ≡ a.letters) (old new : Pairs) (next : ℕ) (pair : ℕ × ℕ) (moves : List (ℕ × ℕ))
+    (are : AreEdgesInto a pair.0 moves) (there : next < length old.pairs) (read : get_or old.pairs next (0, 0) ≡ pair)
+    (adds : AddsPairs (AreSources moves into_b.states b.letters pair.1) old new) (before : SharesWords a b old next) where
   kept : (x : ℕ × ℕ) → Contains old.pairs x → Contains new.pairs x
   kept x contained = subst (λ xs. Contains xs x) (sym adds.begins.1) (Contains-append_left old.pairs adds.begins.0 x contained)
 
@@ -49,14 +104,12 @@ module _ (a b : Automaton) (into_a into_b : NondeterministicAutomaton) (rev_a : 
   word : SharesWord a pair.0 b pair.1
   word = before.sound pair.0 pair.1 (subst (Contains old.pairs) read (Contains-get_or old.pairs next (0, 0) there))
 
-  sources : (p s : ℕ) → AreSources (edges_of into_a.states pair.0) into_b.states b.letters pair.1 (p, s) → SharesWord a p b s
+  sources : (p s : ℕ) → AreSources moves into_b.states b.letters pair.1 (p, s) → SharesWord a p b s
   sources p s (letter, left, label, right) =
-      let x = rev_a.only pair.0 (Some letter) p left in
-      let same : x.0 ≡ letter = same_Some x.0 letter (sym x.1) in
-      let edge = subst (λ l. Contains (edges_of a.states p) (l, pair.0)) same x.2 in
-      let small = letter_within a rev_a.valid p letter pair.0 edge in (
+      let edge = (are (letter, p)).0 left in
+      let small = letter_within a valid p letter pair.0 edge in (
         letter ∷ word.0,
-        accepts_along a rev_a.valid p letter pair.0 word.0 edge word.1,
+        accepts_along a valid p letter pair.0 word.0 edge word.1,
         accepts_along b rev_b.valid s letter pair.1 word.0 (rev_b.only s letter pair.1 label (omega arith) right) word.2,
       )
 
@@ -76,7 +129,7 @@ module _ (a b : Automaton) (into_a into_b : NondeterministicAutomaton) (rev_a : 
           let e : get_or new.pairs k (0, 0) ≡ pair = ap (λ j. get_or new.pairs j (0, 0)) {x = k} {y = next} (omega arith) ∙ same next there ∙ read in
           adds.added (p, s) (
             letter,
-            rev_a.turned p letter pair.0 (subst (λ (x : ℕ × ℕ). Contains (edges_of a.states p) (letter, x.0)) e left),
+            (are (letter, p)).1 (subst (λ (x : ℕ × ℕ). Contains (edges_of a.states p) (letter, x.0)) e left),
             None,
             rev_b.turned s letter pair.1 (subst (λ (x : ℕ × ℕ). Contains (edges_of b.states s) (letter, x.1)) e right),
           )
@@ -102,17 +155,3 @@ module _ (a b : Automaton) (set : Pairs) (next : ℕ) (all : length set.pairs �
     columns = shares.columns;
     shared = λ p s. (shares.sound p s, λ word. found word.0 p s word.1 word.2);
   }
-
--- edges of the reversed automaton lead to states
-pub sources_within : (a : Automaton) (n : NondeterministicAutomaton) → IsInRange n → IsReverse a n → (size : ℕ) → size ≡ length a.states → (q : ℕ) → All (λ edge. edge.1 < size) (edges_of n.states q)
-sources_within a n range reverse size same q =
-    subst (λ k. All (λ (edge : Option ℕ × ℕ). edge.1 < k) (edges_of n.states q)) (reverse.same_size ∙ sym same)
-    (All-edges_of (All (λ (edge : Option ℕ × ℕ). edge.1 < length n.states)) n.states (All-nil (λ (edge : Option ℕ × ℕ). edge.1 < length n.states)) range.targets_in_range q)
-
--- and have letters of the automaton
-pub labels_within : (a : Automaton) (n : NondeterministicAutomaton) → IsInRange n → IsReverse a n → (letters : ℕ) → letters ≡ a.letters → (q : ℕ)
-    → All (λ edge. IfSome edge.0 (λ letter. letter < letters)) (edges_of n.states q)
-labels_within a n range reverse letters same q =
-    subst (λ k. All (λ (edge : Option ℕ × ℕ). IfSome edge.0 (λ letter. letter < k)) (edges_of n.states q)) (reverse.same_letters ∙ sym same)
-    (All-edges_of (All (λ (edge : Option ℕ × ℕ). IfSome edge.0 (λ letter. letter < n.letters))) n.states (All-nil (λ (edge : Option ℕ × ℕ). IfSome edge.0 (λ letter. letter < n.letters)))
-    range.letters_in_range q)

@@ -11,13 +11,11 @@ use Rattle.std.proofs.lemmas.List.Concat.{get_or-flat_map}
 use Rattle.std.proofs.lemmas.List.Folds.{list_any_at}
 use Rattle.std.proofs.lemmas.List.Sums.{sum_by-cons}
 use Rattle.std.proofs.lemmas.List.FromFn.{length-map-range_with_len, get_or-map-range_with_len}
-use Rattle.word_automata.proofs.Members.{Contains-here, Contains-there}
+use Rattle.word_automata.proofs.ForCallers.{Contains-here, Contains-there, accepting_within, leads_within}
 use Rattle.std.proofs.lemmas.Map.Steps.{length-le_from_distinct_below}
 use Rattle.word_automata.specs.Automaton.{Automaton, accepts_from, IsValid}
 use Rattle.abstraction.specs.BoundedWords.{words_up_to}
-use Rattle.abstraction.proofs.ListMembers.{distinct_more, some_passes}
-use Rattle.word_automata.proofs.Edges.{accepting_within, leads_within}
-use Rattle.abstraction.proofs.BoundedWordLemmas.{contains_accepted}
+use Rattle.abstraction.proofs.ForCallers.{distinct_more, some_passes, contains_accepted}
 use Rattle.predicate_abstraction.specs.Predicates.{SharesWord}
 use Rattle.predicate_abstraction.specs.Signatures.{shares_word, TestsSharedWords, RelatedBySignature}
 use Rattle.predicate_abstraction.specs.PredicateLaws.{accepts_first, accepts_along}

@@ -1,14 +1,13 @@
 -- Sources of edges by state and letter, edge by edge.
-use Rattle.std.proofs.Common.{◌≡◌, ◌<◌, ◌+◌, ◌*◌, ◌⊎◌, ℕ, Bool, true, false, eqb, if◌then◌else◌, List, [], ◌∷◌, ◌++◌, Option, None, Contains, All, length, take, get_or, sym, ap, subst, ◌∙◌, inl, inr, arith}
+use Rattle.std.proofs.Common.{◌≡◌, ◌<◌, ◌+◌, ◌*◌, ◌⊎◌, ℕ, zero, suc, Bool, true, false, eqb, if◌then◌else◌, List, [], ◌∷◌, ◌++◌, Option, None, Contains, All, length, take, get_or, refl, sym, ap, subst, ◌∙◌, inl, inr, arith}
 use Rattle.std.proofs.lemmas.Bool.{cases_lt, cases_Bool}
 use Rattle.std.proofs.lemmas.Bool.Decides.{nat_tests}
 use Rattle.std.proofs.lemmas.List.Elements.{Contains-append_left, Contains-push, Contains-push_cases, Contains-get_or, All-contains, All-nil}
-use Rattle.word_automata.specs.Path.{edges_of}
+use Rattle.word_automata.specs.Path.{Node, edges_of}
 use Rattle.word_automata.specs.Automaton.{Automaton, IsValid}
 use Rattle.word_automata.specs.Nondeterministic.{NondeterministicAutomaton, AddsMove}
-use Rattle.word_automata.proofs.Members.{Contains-none, All-from_contains}
-use Rattle.word_automata.proofs.Rows.{All-edges_of}
-use Rattle.abstraction.proofs.ListMembers.{take_cases}
+use Rattle.word_automata.proofs.ForCallers.{Contains-none, All-from_contains, All-edges_of}
+use Rattle.abstraction.proofs.ForCallers.{take_cases}
 use Rattle.predicate_abstraction.specs.private.Sources.{AreSourcesByLetter, HasSources}
 use Rattle.predicate_abstraction.proofs.Edges.{edge_within}
 use Rattle.predicate_abstraction.proofs.Marks.{place-row, place-column}
@@ -18,6 +17,13 @@ pub letter_within : (a : Automaton) → IsValid a → (p letter r : ℕ) → Con
 letter_within a valid p letter r there =
     All-contains (λ (e : ℕ × ℕ). e.0 < a.letters) (edges_of a.states p) (letter, r)
     (All-edges_of (All (λ (e : ℕ × ℕ). e.0 < a.letters)) a.states (All-nil (λ (e : ℕ × ℕ). e.0 < a.letters)) valid.letters_in_range p) there
+
+-- a state without edges has none, and the others keep theirs
+pub edges_of-bare : (states : List (Node (Option ℕ))) (b : Bool) (q : ℕ) → edges_of (states ++ record { accepting = b; edges = [] } ∷ []) q ≡ edges_of states q
+edges_of-bare [] b zero = refl
+edges_of-bare [] b (suc q) = refl
+edges_of-bare (s ∷ states) b zero = refl
+edges_of-bare (s ∷ states) b (suc q) = edges_of-bare states b q
 
 -- places alone
 pub sources_none : (b : Automaton) (n : NondeterministicAutomaton) → length n.states ≡ length b.states * b.letters → ((q : ℕ) → edges_of n.states q ≡ []) → HasSources b n 0 []

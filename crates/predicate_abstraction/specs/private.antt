@@ -1,6 +1,5 @@
 -- What only contracts of private functions cite.
 pub mod Pairs
-pub mod Reversal
 pub mod SharedWords
 pub mod Sources
 pub mod Splitting

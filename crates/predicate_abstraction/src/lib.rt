@@ -8,7 +8,6 @@ mod laws;
 mod pair_set;
 mod place;
 mod predicates;
-mod reversal;
 mod shared_words;
 mod shares;
 mod sources;

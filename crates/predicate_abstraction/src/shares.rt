@@ -2,13 +2,19 @@
 //! the automata of its share alone, and the classes of all shares are put together.
 
 ghost use Rattle.std.specs.Prelude.{◌≡◌, All, IfOk};
+ghost use Rattle.abstraction.specs.Partitions.{IsNumbering};
 ghost use Rattle.predicate_abstraction.specs.private.Splitting.{AreClassesBy};
 
 use crate::common_classes::common_classes;
+use crate::shared_words::edges_into;
 use crate::splitting::split_by_predicate;
+use abstraction::Partition;
 use minimise::Canon;
 use std::alloc::{AllocError, Global};
 use std::thread::{Threads, join};
+
+/// Blocks are numbered anew after so many states were moved into others, since each move may make a block that takes memory.
+const MOST_MOVES: usize = 32_768;
 
 /// So many pairs of a state and a predicate's state are worth a thread.
 const PAIRS_OF_A_SHARE: usize = 65_536;
@@ -73,9 +79,31 @@ fn classes_in_turn(alloc: Global, a: &Canon, predicates: &[Canon]) -> Result<Vec
     requires { All (λ m. m.letters ≡ a.now.letters) predicates.now }
     ensures { IfOk result (λ classes. AreClassesBy predicates.now a.now classes.items) }
 {
-    let mut classes = vec![in alloc; 0; a.size()]?;
+    let automaton = a.as_dfa();
+    let into = edges_into(alloc, automaton)?;
+    let mut partition = Partition::new(alloc, &vec![in alloc; 0; a.size()]?)?;
+    let mut moves = 0usize;
     'predicates: for predicate in predicates {
-        classes = split_by_predicate(alloc, a.as_dfa(), predicate.as_dfa(), &classes)?;
+        if moves > MOST_MOVES {
+            partition = renumbered(alloc, &partition)?;
+            moves = 0;
+        }
+        let pairs = split_by_predicate(
+            alloc,
+            &mut partition,
+            automaton,
+            &into,
+            predicate.as_dfa(),
+        )?;
+        moves = moves.saturating_add(pairs);
     }
-    Ok(classes)
+    partition.classes(alloc)
+}
+
+/// The same partition, whose blocks have numbers below that of the states.
+fn renumbered(alloc: Global, partition: &Partition) -> Result<Partition, AllocError>
+    ensures { IfOk result (λ made. IsNumbering partition.now made) }
+{
+    let classes = partition.classes(alloc)?;
+    Partition::new(alloc, &classes)
 }

@@ -1,7 +1,7 @@
 -- The search for pairs of states that share a word.
-use Rattle.std.specs.Prelude.{◌≡◌, ◌↔◌, ◌<◌, ◌≤◌, ◌+◌, ◌*◌, ℕ, List, Option, Some, Contains, IsTrue, length, slice_index_or}
+use Rattle.std.specs.Prelude.{◌≡◌, ◌↔◌, ◌<◌, ◌≤◌, ◌+◌, ◌*◌, ℕ, List, Vec, Option, Some, Contains, IsTrue, length, slice_get, slice_index_or}
 use Rattle.word_automata.specs.Path.{Node, edges_of, is_accepting}
-use Rattle.word_automata.specs.Automaton.{Automaton}
+use Rattle.word_automata.specs.Automaton.{Automaton, IsValid}
 use Rattle.predicate_abstraction.specs.Predicates.{SharesWord}
 use Rattle.predicate_abstraction.specs.private.Pairs.{Pairs}
 
@@ -34,6 +34,16 @@ abbrev pub IsSource : ℕ → List (Option ℕ × ℕ) → ℕ × ℕ → Type 0
 IsSource row edges pair = (pair.0 ≡ row) × (label : Option ℕ) × Contains edges (label, pair.1)
 
 -- a pair of sources of edges with the same letter, the second of which are kept at the place of the state s and the letter
-abbrev pub AreSources : List (Option ℕ × ℕ) → List (Node (Option ℕ)) → ℕ → ℕ → ℕ × ℕ → Type 0
+abbrev pub AreSources : List (ℕ × ℕ) → List (Node (Option ℕ)) → ℕ → ℕ → ℕ × ℕ → Type 0
 AreSources into_a into_b letters s pair =
-    (letter : ℕ) × Contains into_a (Some letter, pair.0) × (label : Option ℕ) × Contains (edges_of into_b (s * letters + letter)) (label, pair.1)
+    (letter : ℕ) × Contains into_a (letter, pair.0) × (label : Option ℕ) × Contains (edges_of into_b (s * letters + letter)) (label, pair.1)
+
+-- the moves are the letters and sources of the edges into the state
+abbrev pub AreEdgesInto : Automaton → ℕ → List (ℕ × ℕ) → Type 0
+AreEdgesInto a q moves = (move : ℕ × ℕ) → Contains moves move ↔ Contains (edges_of a.states move.1) (move.0, q)
+
+-- a is valid, and the lists are those of the edges into its first n states
+pub record AreEdgesByTarget {A : Type 0} (a : Automaton) (lists : List (Vec (ℕ × ℕ) A)) (n : ℕ) : Type 0 where
+  pub valid : IsValid a
+  pub count : length lists ≡ n
+  pub each : (q : ℕ) (list : Vec (ℕ × ℕ) A) → slice_get lists q ≡ Some list → AreEdgesInto a q list.items

@@ -1,13 +1,12 @@
-use Rattle.std.proofs.Common.{◌<◌, ◌≤◌, All, [], List, ℕ, length, get_or, sym, subst, ◌∙◌, arith}
+use Rattle.std.proofs.Common.{◌<◌, All, [], length, get_or, sym, subst, ◌∙◌, arith}
 use Rattle.std.proofs.lemmas.List.Elements.{Contains-get_or}
-use Rattle.determinise.specs.private.Subsets.{letter_of, IsRun}
-use Rattle.past_abstraction.specs.WordSets.{AreOrderedEdges, AreTargets}
-use Rattle.past_abstraction.proofs.Adding.{read_at, set_states, image_states, images_none, images_more, images_all}
-use Rattle.past_abstraction.proofs.ImageStates.{first_run, next_run, image_of_run}
+use Rattle.past_abstraction.specs.private.WordSets.{AreImages}
+use Rattle.past_abstraction.proofs.Adding.{read_at, set_states, images_none, images_more, images_all}
+use Rattle.past_abstraction.proofs.ImageStates.{first_images, no_images, is_image, image_of_states, images_from_next}
 use Rattle.past_abstraction.proofs.word_sets.add_images.Goals as goal
 
-pub ordered_edges-requires : goal.ordered_edges-requires
-ordered_edges-requires c =
+pub put_images-requires-clause-states : goal.put_images-requires-clause-states
+put_images-requires-clause-states c =
     let a = c.args.a.now in
     let old = c.args.sets.now.keys in
     let number = c.args.number in
@@ -15,62 +14,54 @@ ordered_edges-requires c =
     subst (All (λ p. p < length a.states)) (sym read)
     (set_states a old c.args.blocks.now (get_or old number []) c.requires.before (Contains-get_or old number [] c.requires.within))
 
-pub runs-init : goal.runs-init
-runs-init c =
+pub letters-init : goal.letters-init
+letters-init c =
     let a = c.args.a.now in
     let old = c.args.sets.now.keys in
     let number = c.args.number in
-    let edges = c.in_ok-edges.edges.items in
+    let lists = c.put_images.new.lists.items in
     let read = c.as_slice-2.ensures ∙ read_at old c.as_slice.result.now c.index-as_slice-number.result number c.as_slice.ensures.keys c.requires.within c.index-as_slice-number.is in
     record {
+      lists = first_images a (get_or old number []) lists c.in_ok-put_images.ensures.count (subst (λ set. AreImages a set lists) read c.in_ok-put_images.ensures.images);
       blocks = c.requires.before;
-      edges = subst (λ set. AreOrderedEdges a set edges) read c.in_ok-edges.ensures;
-      starts = first_run edges;
-      images = images_none a (get_or old number []) edges old;
+      images = images_none a (get_or old number []) old;
     }
 
-pub targets-requires-clause-order : goal.targets-requires-clause-order
-targets-requires-clause-order c = let some = c.end_of_run-end.ensures.some in omega arith
+pub add_states-requires-clause-states : goal.add_states-requires-clause-states
+add_states-requires-clause-states c =
+    let before = c.letters.invariant in
+    let within : c.letters.letter < length c.letters.lists.items =
+    (let e = c.len-letter-end.ensures in let n = before.lists.count in let m = c.in_ok-put_images.ensures.count in omega arith) in
+    image_of_states c.args.a.now (get_or c.args.sets.now.keys c.args.number []) c.letters.letter c.letters.lists.items c.index_mut-list.result.now within c.index_mut-list.ensures.value before.lists
+    before.blocks.valid
 
-pub targets-requires-clause-within : goal.targets-requires-clause-within
-targets-requires-clause-within c =
-    subst (λ (xs : List (ℕ × ℕ)). c.end_of_run-end.result ≤ length xs) (c.deref.ensures.value ∙ sym c.deref-in-runs.ensures.value) c.end_of_run-end.ensures.within
-
-pub add_set-requires-clause-states : goal.add_set-requires-clause-states
-add_set-requires-clause-states c =
-    let a = c.args.a.now in
-    let set = get_or c.args.sets.now.keys c.args.number [] in
-    let edges = c.in_ok-edges.edges.items in
-    let at = c.runs.at in
-    let end = c.end_of_run-end.result in
-    let before = c.runs.invariant in
-    let image = c.in_ok-image.image in
-    let run = subst (λ (xs : List (ℕ × ℕ)). IsRun xs at end) c.deref.ensures.value c.end_of_run-end.ensures in
-    let targets = subst (λ (xs : List (ℕ × ℕ)). AreTargets xs at end image) c.deref-in-runs.ensures.value c.in_ok-image.ensures in
-    image_states a before.blocks.valid set image (letter_of edges at) (image_of_run edges at end before.starts run a set image before.edges.are_edges targets)
-
-pub runs-preserved : goal.runs-preserved
-runs-preserved c =
+pub letters-preserved : goal.letters-preserved
+letters-preserved c =
     let a = c.args.a.now in
     let old = c.args.sets.now.keys in
     let set = get_or old c.args.number [] in
-    let edges = c.in_ok-edges.edges.items in
-    let at = c.runs.at in
-    let end = c.end_of_run-end.result in
-    let before = c.runs.invariant in
-    let image = c.in_ok-image.image in
-    let run = subst (λ (xs : List (ℕ × ℕ)). IsRun xs at end) c.deref.ensures.value c.end_of_run-end.ensures in
-    let targets = subst (λ (xs : List (ℕ × ℕ)). AreTargets xs at end image) c.deref-in-runs.ensures.value c.in_ok-image.ensures in
+    let letter = c.letters.letter in
+    let lists = c.letters.lists.items in
+    let list = c.index_mut-list.result.now in
+    let before = c.letters.invariant in
+    let within : letter < length lists =
+    (let e = c.len-letter-end.ensures in let n = before.lists.count in let m = c.in_ok-put_images.ensures.count in omega arith) in
+    let list_is = c.index_mut-list.ensures.value in
     record {
-      blocks = c.in_ok-add_set.ensures.blocks;
-      edges = before.edges;
-      starts = next_run edges at end before.starts run;
-      images = images_more a set image edges at end old c.runs.sets.keys c.add_set.new.sets.keys run
-          (image_of_run edges at end before.starts run a set image before.edges.are_edges targets) before.images c.in_ok-add_set.ensures.set;
+      lists = images_from_next a set letter lists list within list_is before.lists c.add_states.new.list c.in_ok-add_states.ensures.cleared;
+      blocks = c.in_ok-add_states.ensures.blocks;
+      images = images_more a set list.items letter old c.letters.sets.keys c.add_states.new.sets.keys (is_image a set letter lists list within list_is before.lists) before.images
+          c.in_ok-add_states.ensures.set;
     }
+
+pub returns-clause-lists : goal.returns-clause-lists
+returns-clause-lists c =
+    let before = c.letters.invariant in
+    no_images c.args.a.now (get_or c.args.sets.now.keys c.args.number []) c.letters.letter c.letters.lists.items
+    (let past = c.letters-test.false in let e = c.len-letter-end.ensures in let n = before.lists.count in let m = c.in_ok-put_images.ensures.count in omega arith) before.lists
 
 pub returns-clause-images : goal.returns-clause-images
 returns-clause-images c =
-    let before = c.runs.invariant in
-    images_all c.args.a.now (get_or c.args.sets.now.keys c.args.number []) c.in_ok-edges.edges.items c.runs.at c.args.sets.now.keys c.runs.sets.keys
-    before.edges.are_edges (let l = c.len.ensures in let past = c.runs-test.false in let ok = c.in_ok-edges.edges.ok.0 in omega arith) before.images
+    let before = c.letters.invariant in
+    images_all c.args.a.now before.blocks.valid (get_or c.args.sets.now.keys c.args.number []) c.letters.letter c.args.sets.now.keys c.letters.sets.keys
+    (let past = c.letters-test.false in let e = c.len-letter-end.ensures in let m = c.in_ok-put_images.ensures.count in omega arith) before.images

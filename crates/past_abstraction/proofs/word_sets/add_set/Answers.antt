@@ -1,6 +1,6 @@
 use Rattle.std.proofs.Common.{◌<◌, All, nat_eq, length, sym, subst, ◌∙◌}
 use Rattle.std.specs.Cmp.Lexicographic.{pointwise, bytes_decides, nat_list_eq_equiv}
-use Rattle.exploration.proofs.Steps.{inserted_new, inserted_kept}
+use Rattle.exploration.proofs.ForCallers.{inserted_new, inserted_kept}
 use Rattle.abstraction.specs.Partitions.{IsRefined}
 use Rattle.past_abstraction.proofs.Adding.{read_new, there_at, adds_known, adds_new, blocks_more}
 use Rattle.past_abstraction.proofs.word_sets.add_set.Goals as goal

@@ -1,11 +1,11 @@
 use Rattle.std.proofs.Common.{◌≡◌, ◌<◌, ◌↔◌, ◌+◌, ℕ, Contains, length, slice_index, sym, subst, arith}
 use Rattle.std.proofs.lemmas.Result.{IfOk-weaker}
-use Rattle.word_automata.proofs.Members.{All-from_contains}
+use Rattle.word_automata.proofs.ForCallers.{All-from_contains}
 use Rattle.abstraction.specs.Bounds.{up_to}
 use Rattle.abstraction.specs.Merging.{AreClasses}
 use Rattle.abstraction.specs.Partitions.{IsNumbering}
 use Rattle.past_abstraction.specs.Pasts.{is_related}
-use Rattle.past_abstraction.specs.WordSets.{AddsSet, AreWordSets}
+use Rattle.past_abstraction.specs.private.WordSets.{AddsSet, AreWordSets}
 use Rattle.past_abstraction.proofs.Classes.{classes_by_sets, classes_alone}
 use Rattle.past_abstraction.proofs.Rounds.{first_sets, next_sets, all_sets}
 use Rattle.past_abstraction.proofs.word_sets.classes_by_words.Goals as goal

@@ -1,4 +1,4 @@
-use Rattle.past_abstraction.specs.WordSets.{AreBlocksOf, AreWordSets}
+use Rattle.past_abstraction.specs.private.WordSets.{AreBlocksOf, AreWordSets}
 use Rattle.past_abstraction.proofs.word_sets.classes_by_words.Given as goal
 
 abbrev pub invariant-rounds : goal.invariant-rounds

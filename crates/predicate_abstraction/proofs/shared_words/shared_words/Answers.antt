@@ -1,29 +1,34 @@
-use Rattle.std.proofs.Common.{◌<◌, ℕ, List, Option, All, IfSome, sym, subst, arith}
+use Rattle.std.proofs.Common.{◌<◌, length, arith}
 use Rattle.std.proofs.lemmas.Option.{get_or_from_slice_get}
-use Rattle.predicate_abstraction.specs.private.Pairs.{AddsPairs}
-use Rattle.predicate_abstraction.specs.private.SharedWords.{AreSources}
-use Rattle.predicate_abstraction.proofs.Sharing.{shares_more, shares_all, sources_within, labels_within}
+use Rattle.predicate_abstraction.specs.private.SharedWords.{AreEdgesInto}
+use Rattle.predicate_abstraction.proofs.Sharing.{list_at, shares_more, shares_all, sources_within, letters_within}
+use Rattle.predicate_abstraction.proofs.shared_words.shared_words.Goals.{After-deref}
 use Rattle.predicate_abstraction.proofs.shared_words.shared_words.Goals as goal
+
+-- the edges are those into the first state of the pair
+edges_of_pair : (c : After-deref) → AreEdgesInto c.args.a.now c.pair-p.result.0 c.deref.result.now
+edges_of_pair c =
+    let within : c.pair-p.result.0 < length c.args.a.now.states = (let r = c.pair-p.ensures.row in let e = c.pairs.invariant.rows in omega arith) in
+    list_at c.args.a.now c.args.into_a.now (length c.args.a.now.states) c.requires.edges c.pair-p.result.0
+    c.index-into_a-p.result c.deref.result.now within c.index-into_a-p.is c.deref.ensures.value
 
 pub add_predecessors-requires-clause-rows : goal.add_predecessors-requires-clause-rows
 add_predecessors-requires-clause-rows c =
-    subst (λ (es : List (Option ℕ × ℕ)). All (λ edge. edge.1 < c.pairs.shared.rows) es) (sym c.edges_from.ensures.edges)
-    (sources_within c.args.a.now c.in_ok-into_a.into_a c.edges_from.ensures.in_range c.in_ok-into_a.ensures c.pairs.shared.rows c.pairs.invariant.rows c.pair-p.result.0)
+    sources_within c.args.a.now c.pairs.shared.rows c.pairs.invariant.rows c.pair-p.result.0 c.deref.result.now
+    (edges_of_pair (goal.at.add_predecessors-requires-clause-rows c).After-deref)
 
 pub add_predecessors-requires-clause-letters : goal.add_predecessors-requires-clause-letters
 add_predecessors-requires-clause-letters c =
-    subst (λ (es : List (Option ℕ × ℕ)). All (λ edge. IfSome edge.0 (λ letter. letter < c.args.b.now.letters)) es) (sym c.edges_from.ensures.edges)
-    (labels_within c.args.a.now c.in_ok-into_a.into_a c.edges_from.ensures.in_range c.in_ok-into_a.ensures c.args.b.now.letters c.requires c.pair-p.result.0)
+    letters_within c.args.a.now c.requires.edges.valid c.args.b.now.letters c.requires.letters c.pair-p.result.0 c.deref.result.now
+    (edges_of_pair (goal.at.add_predecessors-requires-clause-letters c).After-deref)
 
 pub pairs-preserved : goal.pairs-preserved
 pairs-preserved c =
     let old = c.pairs.shared in
-    let new = c.add_predecessors.new.shared in
-    shares_more c.args.a.now c.args.b.now c.in_ok-into_a.into_a c.in_ok-into_b.into_b c.in_ok-into_a.ensures c.in_ok-into_b.ensures c.requires old new c.pairs.next c.pair-p.result
+    shares_more c.args.a.now c.args.b.now c.requires.edges.valid c.in_ok-into_b.into_b c.in_ok-into_b.ensures c.requires.letters old
+    c.add_predecessors.new.shared c.pairs.next c.pair-p.result c.deref.result.now (edges_of_pair (goal.at.pairs-preserved c).After-deref)
     (let len = c.len.ensures in omega arith) (get_or_from_slice_get old.pairs c.pairs.next c.pair-p.result (0, 0) c.pair-p.ensures.pair)
-    (subst (λ (es : List (Option ℕ × ℕ)). AddsPairs (AreSources es c.in_ok-into_b.into_b.states c.args.b.now.letters c.pair-p.result.1) old new)
-    c.edges_from.ensures.edges c.in_ok-add_predecessors.ensures)
-    c.pairs.invariant
+    c.in_ok-add_predecessors.ensures c.pairs.invariant
 
 pub returns : goal.returns
 returns c = shares_all c.args.a.now c.args.b.now c.pairs.shared c.pairs.next (let len = c.len.ensures in omega arith) c.pairs.invariant
