@@ -1,2 +1,4 @@
+pub mod ForCallers
 pub mod Growth
 pub mod IndexLemmas
+pub mod KnownLemmas

@@ -1,4 +1,5 @@
-//! Laws of rounds, for every problem and every abstraction. They have no code: each is the contract of a function that does nothing.
+//! Laws of rounds, for every problem and every abstraction: the merged automata of a round grow, and signatures bound how many there are.
+//! They have no code: each is the contract of a function that does nothing.
 
 ghost use Rattle.fixpoint.specs.Laws.{MergedAutomataGrow, SignaturesBoundRounds};
 

@@ -4,8 +4,10 @@
 #![tactic(auto)]
 
 mod index;
+mod known;
 mod laws;
 mod rounds;
 
+pub use known::no_round;
 pub use laws::rounds_are_bounded;
-pub use rounds::round;
+pub use rounds::{round, round_after};

@@ -7,13 +7,13 @@ use Rattle.abstraction.specs.Merging.{Key}
 use Rattle.search_history.specs.Rounds.{Relation, Forward, spent_before_merging, stops, goes_on, IsRound, IsEndAt, GoesOnFrom}
 use Rattle.search_history.specs.Replays.{Backward, Level, levels, IsReplayFrom, IsReplayEndAt}
 use Rattle.search_history.specs.Replays.{stops as ends_back, goes_on as goes_back}
-use Rattle.search_history.specs.Histories.{Method, SearchRound, IsSearchRound, IsReplayed, History, ends}
+use Rattle.search_history.specs.Histories.{RefinableAbstraction, SearchRound, IsSearchRound, IsReplayed, History, ends}
 use Rattle.search_history.specs.Histories.{goes_on as goes_round}
 use Rattle.search_history.specs.declared.round.RoundEnd.{RoundEnd}
 use Rattle.search_history.specs.declared.round.RoundEnd.TheVariants.{Closed, MeetsBad, Spent}
 use Rattle.search_history.specs.declared.log.LogEnd.{LogEnd}
 use Rattle.search_history.specs.declared.log.LogEnd.TheVariants as log_end
-use Rattle.fixpoint.proofs.Growth.{merged_keeps}
+use Rattle.fixpoint.proofs.ForCallers.{merged_keeps}
 use Rattle.refinement.specs.Laws.{LeadsToBad}
 use Rattle.refinement.proofs.RoundLemmas.{closed-proof}
 use Rattle.refinement.proofs.DecisionLemmas.{closed-round}
@@ -70,7 +70,7 @@ module _ (t : Task) (budget larger : ℕ) (more : budget ≤ larger) where
   search-round-larger : (R : Relation) (s z : ℕ) (round : SearchRound) → round.end ≢ log_end.Spent → IsSearchRound t R budget s round z → IsSearchRound t R larger s round z
   search-round-larger R s z round is h = by-forward-end R s h.z z round h.forward_end is h.forward h.replayed
 
-  pub history-larger : (method : Method) (o : Option SearchRound) (last : SearchRound) {key : Key} {s z : ℕ} {rounds : List SearchRound} → last.end ≢ log_end.Spent
+  pub history-larger : (method : RefinableAbstraction) (o : Option SearchRound) (last : SearchRound) {key : Key} {s z : ℕ} {rounds : List SearchRound} → last.end ≢ log_end.Spent
       → last_or o rounds ≡ Some last → History t method budget key s rounds z → History t method larger key s rounds z
   history-larger method o last is at (ends {key} {s} {sum = z} {round} h not_refuted) =
       let same : round ≡ last = some-same round last at in
@@ -110,7 +110,7 @@ module _ (t : Task) (R : Relation) (own : (a : Automaton) (p : ℕ) → R a p p)
         closed-keeps m misses closed n w (holds w ((forward.is_first.language w).1 initial)) bad,
   )
 
-module _ (t : Task) (method : Method) (own : (key : Key) (a : Automaton) (p : ℕ) → method.related key a p p) (budget : ℕ) where
+module _ (t : Task) (method : RefinableAbstraction) (own : (key : Key) (a : Automaton) (p : ℕ) → method.related key a p p) (budget : ℕ) where
   pub history-bounded : (n : ℕ) (w : List ℕ) → t.is_initial w → LeadsToBad t n w → {key : Key} {s z : ℕ} {rounds : List SearchRound}
       → History t method budget key s rounds z → AllByRecursion (λ round. (length round.n ≤ n + 1) × (round.end ≢ log_end.Closed)) rounds
   history-bounded n w initial bad (ends {key} {s} {sum = z} {round} h last) = (round-bounded t (method.related key) (own key) budget n w initial bad s z round h, tt)

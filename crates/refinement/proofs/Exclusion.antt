@@ -11,7 +11,7 @@ use Rattle.abstraction.specs.Excluding.{Misses, MergedMisses, refined_by, Exclud
 use Rattle.search_history.specs.Rounds.{Relation, Forward, spent_before_merging, stops, goes_on, IsReachedBy, IsRound, IsEndAt, MeetsBadWords}
 use Rattle.search_history.specs.Replays.{Backward, Level, level_of, levels, IsReplayFrom, IsReplayEndAt, AreDisjoint}
 use Rattle.search_history.specs.Replays.{stops as ends_back, goes_on as goes_back}
-use Rattle.search_history.specs.Histories.{Method, SearchRound, IsSearchRound, IsReplayed, History, ends}
+use Rattle.search_history.specs.Histories.{RefinableAbstraction, SearchRound, IsSearchRound, IsReplayed, History, ends}
 use Rattle.search_history.specs.Histories.{goes_on as goes_round}
 use Rattle.search_history.specs.declared.round.RoundEnd.{RoundEnd}
 use Rattle.search_history.specs.declared.round.RoundEnd.TheVariants.{Closed, MeetsBad, Spent}
@@ -137,7 +137,7 @@ module _ (t : Task) (R : Relation) (budget : ℕ) (x : Automaton) (keeps_out : (
   round_keeps_out : (s z : ℕ) (round : SearchRound) → IsSearchRound t R budget s round z → StaysOut x round × IsNotRefutedAgain x round
   round_keeps_out s z round h = (forward_keeps_out h.forward.is_first.canonical h.forward.forward, by_end s h.z z round h.forward_end h.forward h.replayed)
 
-module _ (t : Task) (method : Method) (excludes : Excludes method.related method.next) (budget : ℕ) where
+module _ (t : Task) (method : RefinableAbstraction) (excludes : Excludes method.related method.next) (budget : ℕ) where
   kept_out : (key : Key) (x : Automaton) → IsCanonical x → (later : List Automaton) (now : Key) → now ≡ refined_by method.next (method.next key x) later
       → (a : Automaton) → IsCanonical a → Misses a x → MergedMisses (method.related now a) a x
   kept_out key x canonical later now is a canonical_a misses =

@@ -5,12 +5,12 @@ use Rattle.word_automata.specs.Automaton.{Automaton}
 use Rattle.safety_problem.specs.Task.{Task}
 use Rattle.abstraction.specs.Merging.{Key}
 use Rattle.abstraction.specs.Signatures.{AreSignatures, fact_count, width}
-use Rattle.search_history.specs.Histories.{Method, SearchRound, IsSearchRound, History, ends, goes_on}
+use Rattle.search_history.specs.Histories.{RefinableAbstraction, SearchRound, IsSearchRound, History, ends, goes_on}
 use Rattle.fixpoint.specs.Laws.{AreGrowing}
-use Rattle.fixpoint.proofs.Growth.{growing, bounded}
+use Rattle.fixpoint.proofs.ForCallers.{growing, bounded}
 use Rattle.refinement.specs.Bounds.{HoldOfRounds}
 
-module _ (t : Task) (method : Method) (own : (key : Key) (a : Automaton) (p : ℕ) → method.related key a p p)
+module _ (t : Task) (method : RefinableAbstraction) (own : (key : Key) (a : Automaton) (p : ℕ) → method.related key a p p)
     (tests : Key → ℕ) (signature : Key → Automaton → ℕ → List Bool)
     (are : (key : Key) → AreSignatures t.letters (method.related key) (tests key) (signature key)) (budget : ℕ) where
   abbrev IsBounded : Key → SearchRound → Type 0

@@ -1,3 +1,4 @@
+pub mod ForCallers
 pub mod LastLemmas
 pub mod RoundLemmas
 pub mod DecisionLemmas

@@ -2,11 +2,11 @@
 use Rattle.std.proofs.Common.{◌≡◌, ◌∙◌, ℕ, List, [], ◌∷◌, None, Some, refl, sym, subst, ap, reverse}
 use Rattle.std.specs.List.{last_or, zip}
 use Rattle.word_automata.specs.Automaton.{Automaton}
-use Rattle.exploration.proofs.Words.{IsLeastWord-unique}
+use Rattle.exploration.proofs.ForCallers.{IsLeastWord-unique}
 use Rattle.safety_problem.specs.Task.{Task}
 use Rattle.abstraction.specs.Merging.{Key}
 use Rattle.search_history.specs.Replays.{IsInBoth, LeadsThrough, arrives, stays, steps, IsLeastRunThrough}
-use Rattle.search_history.specs.Histories.{Method, SearchRound, log_of}
+use Rattle.search_history.specs.Histories.{RefinableAbstraction, SearchRound, log_of}
 use Rattle.search_history.specs.declared.log.LogEnd.TheVariants as log_end
 use Rattle.refinement.specs.declared.verdict.Verdict.{Verdict}
 use Rattle.refinement.specs.declared.verdict.Verdict.TheVariants.{Safe, Unsafe, Unknown}
@@ -47,7 +47,8 @@ by-cases t round (Unknown log) (Safe proof log') h k logs = cc (h, k.0)
 by-cases t round (Unsafe words log) (Unknown log') h k logs = cc (h.0, k)
 by-cases t round (Unknown log) (Unsafe words log') h k logs = cc (h, k.0)
 
-pub verdict-unique : (t : Task) (method : Method) (budget : ℕ) (key : Key) (v w : Verdict) → IsVerdict t method key budget v → IsVerdict t method key budget w → v ≡ w
+pub verdict-unique : (t : Task) (method : RefinableAbstraction) (budget : ℕ) (key : Key) (v w : Verdict)
+    → IsVerdict t method key budget v → IsVerdict t method key budget w → v ≡ w
 verdict-unique t method budget key v w h k =
     let same = history-unique t budget method h.history k.history in
     let last : h.last_round ≡ k.last_round = some-same h.last_round k.last_round (sym h.is_last ∙ ap (λ rounds. last_or None rounds) same.0 ∙ k.is_last) in

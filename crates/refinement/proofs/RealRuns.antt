@@ -9,7 +9,7 @@ use Rattle.search_history.specs.declared.round.RoundEnd.{RoundEnd}
 use Rattle.search_history.specs.declared.round.RoundEnd.TheVariants.{Closed, MeetsBad, Spent}
 use Rattle.search_history.specs.declared.log.LogEnd.TheVariants as log_end
 use Rattle.trace_replay.specs.Runs.{IsBadChain}
-use Rattle.trace_replay.proofs.Climbs.{real_run_is_bad_chain}
+use Rattle.trace_replay.proofs.ForCallers.{real_run_is_bad_chain}
 use Rattle.refinement.proofs.RoundLemmas.{round-pairs}
 
 module _ (t : Task) (R : Relation) (budget : ℕ) where

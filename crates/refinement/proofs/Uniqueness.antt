@@ -3,14 +3,14 @@
 use Rattle.std.proofs.Common.{◌≡◌, ◌+◌, ◌∙◌, ℕ, Bool, true, false, List, [], ◌∷◌, None, Some, IsTrue, arith, refl, sym, subst, ap, reverse, true≢false}
 use Rattle.std.specs.List.{last_or}
 use Rattle.word_automata.specs.Automaton.{Automaton, accepts}
-use Rattle.minimise.proofs.Unique.{is_unique}
+use Rattle.minimise.proofs.ForCallers.{is_unique}
 use Rattle.safety_problem.specs.Task.{Task, IsAutomatonOf}
 use Rattle.abstraction.specs.Merging.{Key, IsMerged}
 use Rattle.search_history.specs.Counting.{size}
 use Rattle.search_history.specs.Rounds.{Relation, Forward, spent_before_merging, stops, goes_on, IsRound, IsEndAt, GoesOnFrom, IsReachedBy}
 use Rattle.search_history.specs.Replays.{Backward, Level, levels, IsReplayFrom, IsReplayEndAt, GoesBackFrom, IsSuspected, IsTracedBack}
 use Rattle.search_history.specs.Replays.{stops as ends_back, goes_on as goes_back}
-use Rattle.search_history.specs.Histories.{Method, SearchRound, IsSearchRound, IsReplayed, History, ends}
+use Rattle.search_history.specs.Histories.{RefinableAbstraction, SearchRound, IsSearchRound, IsReplayed, History, ends}
 use Rattle.search_history.specs.Histories.{goes_on as goes_round}
 use Rattle.search_history.specs.declared.round.RoundEnd.{RoundEnd}
 use Rattle.search_history.specs.declared.round.RoundEnd.TheVariants.{Closed, MeetsBad, Spent}
@@ -171,7 +171,7 @@ module _ (t : Task) (budget : ℕ) where
       ((λ i. record { n = forward.0 i; m = forward.1 i; x = back.0 i; end = back.1 i }), back.2)
 
   -- whole histories
-  pub history-unique : (method : Method) {key : Key} {s z z' : ℕ} {rounds rounds' : List SearchRound}
+  pub history-unique : (method : RefinableAbstraction) {key : Key} {s z z' : ℕ} {rounds rounds' : List SearchRound}
       → History t method budget key s rounds z → History t method budget key s rounds' z' → (rounds ≡ rounds') × (z ≡ z')
   history-unique method (ends {key} {s} {sum = z} {round} h last) (ends {sum = z'} {round = round'} k last') =
       let same = search-round-unique (method.related key) s z z' round round' h k in ((λ i. same.0 i ∷ []), same.1)

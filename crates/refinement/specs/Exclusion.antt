@@ -7,7 +7,7 @@ use Rattle.safety_problem.specs.Task.{Task}
 use Rattle.abstraction.specs.Merging.{Key}
 use Rattle.abstraction.specs.Excluding.{Misses}
 use Rattle.search_history.specs.Replays.{levels}
-use Rattle.search_history.specs.Histories.{Method, SearchRound, History}
+use Rattle.search_history.specs.Histories.{RefinableAbstraction, SearchRound, History}
 use Rattle.search_history.specs.declared.log.LogEnd.TheVariants.{Refuted}
 
 -- the round refutes the set
@@ -29,5 +29,5 @@ AreRefutedOnce (round ∷ rounds) =
     ((x : Automaton) → IsRefutedBy round x → AllByRecursion (λ later. StaysOut x later × IsNotRefutedAgain x later) rounds) × AreRefutedOnce rounds
 
 -- the rounds of each history
-abbrev pub RefutesOnce : Task → Method → Type 0
+abbrev pub RefutesOnce : Task → RefinableAbstraction → Type 0
 RefutesOnce t method = (budget : ℕ) (key : Key) (s z : ℕ) (rounds : List SearchRound) → History t method budget key s rounds z → AreRefutedOnce rounds

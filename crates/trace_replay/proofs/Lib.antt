@@ -1,3 +1,4 @@
+pub mod ForCallers
 mod Spelling
 mod Levels
 mod RunLemmas

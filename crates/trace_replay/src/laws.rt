@@ -1,4 +1,5 @@
-//! Laws of replays. They have no code: each is the contract of a function that does nothing.
+//! A law of replays: what a replay finds real is a run from an initial word to a bad one. It has no code: it is the contract of a function
+//! that does nothing.
 
 ghost use Rattle.trace_replay.specs.Runs.{RealRunIsBadChain};
 
