@@ -3,7 +3,7 @@ use Rattle.std.proofs.Common.{◌≡◌, ◌<◌, ◌+◌, ◌∙◌, ℕ, List,
 use Rattle.std.proofs.lemmas.List.{take_more, take_all}
 use Rattle.std.proofs.lemmas.Option.{slice_get-get_or}
 use Rattle.property_batch.specs.PropertyVerdicts.{AreVerdicts, IsPropertyVerdict}
-use Rattle.property_batch.proofs.VerdictLists.{by-number}
+use Rattle.property_batch.proofs.ForCallers.{by-number}
 use Rattle.std.specs.List.{flat_map}
 use Rattle.refinement.specs.Verdicts.{log_in}
 use Rattle.refinement.specs.declared.verdict.Verdict.{Verdict}
@@ -22,8 +22,8 @@ use Rattle.command_replies.specs.Reply.{on_out, refusal_reply}
 use Rattle.armc_commands.specs.SearchReply.{Part, PartAnswer, IsAnswerTo, HoldsOfParts, IsSearchReply, reply_of_answers, report_of, status_of, texts_of, titled}
 use Rattle.armc_commands.specs.SearchPromise.{SearchPromise}
 use Rattle.armc_commands.specs.Commands.CheckAll.{SaysProperties, RefusesProperties, ChecksAll, IsCheckAllReply, CheckAllPromise, property_part, property_parts}
-use Rattle.armc_commands.specs.PartTexts.{IsToldPart, AreTold}
-use Rattle.command_replies.proofs.Refused.{refusal_once, refused_or_faultless}
+use Rattle.armc_commands.specs.private.PartTexts.{IsToldPart, AreTold}
+use Rattle.command_replies.proofs.ForCallers.{refusal_once, refused_or_faultless}
 
 -- ---- the texts of the parts
 

@@ -6,7 +6,7 @@ use Rattle.std.specs.Prelude.{◌&&◌, IfSome, codes}
 use Rattle.std.specs.Str.{bytes_eq}
 use Rattle.std.proofs.lemmas.Bool.{and_parts, leb-true}
 use Rattle.chain_protocol.specs.Chain.{chain_text}
-use Rattle.chain_protocol.proofs.ChainSaid.{text_says_chain}
+use Rattle.chain_protocol.proofs.ForCallers.{text_says_chain}
 use Rattle.command_words.specs.declared.Limits.{Limits}
 use Rattle.command_words.specs.declared.Query.{Query}
 use Rattle.command_words.specs.declared.Query.TheVariants.{Check, Back, Deadlock, Past}
@@ -25,7 +25,7 @@ use Rattle.command_replies.specs.Refusal.{IsRefusalOf}
 use Rattle.armc_commands.specs.SearchReply.{is_unsafe, is_unknown, status_of}
 use Rattle.armc_commands.specs.Outcome.{RefusesProtocol, CarriesOut, RepliesToCommand}
 use Rattle.armc_commands.specs.ReplyLaws.{GenerateIsNeverRefused}
-use Rattle.command_replies.proofs.Refused.{refused_or_faultless}
+use Rattle.command_replies.proofs.ForCallers.{refused_or_faultless}
 
 -- where the command is `gen`, its number is that of a chain
 abbrev HasChain : Command → Type 0

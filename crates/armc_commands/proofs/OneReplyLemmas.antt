@@ -11,10 +11,10 @@ use Rattle.command_replies.specs.declared.reply.Reply.{Reply}
 use Rattle.command_replies.specs.declared.failure.Failure.{Failure}
 use Rattle.command_replies.specs.declared.failure.Failure.TheVariants.{ReadFault, TooLong, Memory}
 use Rattle.armc_commands.specs.Origin.{Told, Origin, named, given, generated, IsTextFrom}
-use Rattle.armc_commands.specs.Reads.{IsToldOrigin}
+use Rattle.armc_commands.specs.private.LibraryReads.{IsToldOrigin}
 use Rattle.command_replies.specs.Reading.{IsFaultless}
 use Rattle.armc_commands.proofs.QuietReads.{first_told, second_told}
-use Rattle.command_replies.proofs.Refused.{refusal_once, refused_or_faultless}
+use Rattle.command_replies.proofs.ForCallers.{refusal_once, refused_or_faultless}
 use Rattle.command_replies.specs.Refusal.{IsRefusalOf}
 use Rattle.command_replies.specs.Reply.{refusal_reply}
 use Rattle.armc_commands.specs.Commands.{protocol_origin, second_origin, CommandReply}

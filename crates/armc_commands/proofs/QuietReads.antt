@@ -4,7 +4,7 @@ use Rattle.std.specs.Prelude.{IsSome}
 use Rattle.protocol_syntax.specs.declared.protocol.Protocol.{Protocol}
 use Rattle.command_words.specs.Words.{Command, command_of}
 use Rattle.armc_commands.specs.Origin.{Told, Origin, named, given, generated}
-use Rattle.armc_commands.specs.Reads.{IsToldOrigin}
+use Rattle.armc_commands.specs.private.LibraryReads.{IsToldOrigin}
 use Rattle.armc_commands.specs.Commands.{protocol_origin, second_origin}
 use Rattle.armc_commands.specs.Outcome.{HasProtocol, TellsTexts}
 

@@ -17,7 +17,7 @@ use Rattle.protocol_search.specs.Verdicts.{end_of}
 use Rattle.protocol_search.specs.declared.first.FirstAbstraction.{FirstAbstraction}
 use Rattle.protocol_search.specs.declared.search.Analysis.{Analysis}
 use Rattle.protocol_search.specs.declared.search.Analysis.TheVariants.{Forward}
-use Rattle.search_report.specs.declared.method.Method.{Method}
+use Rattle.search_report.specs.declared.method.ReportedMethod.{ReportedMethod}
 use Rattle.command_replies.specs.declared.status.Status.{Status}
 use Rattle.command_replies.specs.declared.status.Status.TheVariants as status
 use Rattle.command_replies.specs.declared.reply.Reply.{Reply}
@@ -133,7 +133,7 @@ certificate-unsafe s (Unknown log) text h e = absurd (cc e)
 
 pub certificate-promised : ((told : Telling) (parts : List Part) (reply : Reply) → IsSearchReply told parts reply → SearchPromise told parts reply)
     → (s : SystemData) (analysis : Analysis) → ((v : Verdict) (text : List ℕ) → TextShows analysis s v text → CertificateShows s v text)
-    → (report : Option Method) (first : FirstAbstraction) (budget : ℕ) (reply : Reply)
+    → (report : Option ReportedMethod) (first : FirstAbstraction) (budget : ℕ) (reply : Reply)
     → IsSearchReply (Certificate report) (part-of s analysis first budget ∷ []) reply
     → CertificatePromise s (Certificate report) (part-of s analysis first budget ∷ []) reply
 certificate-promised keep s analysis certifies report first budget reply h =

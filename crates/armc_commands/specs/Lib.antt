@@ -3,9 +3,8 @@ pub mod Summary
 pub mod SearchReply
 pub mod SearchPromise
 pub mod Commands
-pub mod PartTexts
 pub mod Outcome
-pub mod Reads
 pub mod Answer
 pub mod OneReply
 pub mod ReplyLaws
+pub mod private

@@ -55,11 +55,11 @@ fn answer<O: Sink, E: Sink>(
 /// with the protocol in its canonical layout. `steps FILE CONFIGURATION` answers `Done` with a line for each successor of the
 /// configuration, by rule and then by word. `verify FILE CERT` answers `Done` where the certificate proves the protocol or is a bad run of
 /// it, and else `NotValid` with the first part of a proof or a run that fails. `migrate FILE CERT` answers `Done` with the newest text of
-/// the certificate. `checkall FILE PROPS` searches each property of a text as `check` does, and answers with a title and the text of `check`
-/// for each: `Unsafe` where one has a bad run, else `Unknown` where one is unknown, and else `Done`. `ReadFault` comes where a read failed
-/// or a text is longer than its limit, `ProtocolRefused` where the text of the protocol has a fault, and `CertificateRefused` where that of
-/// the certificate, the configuration or the properties has one, each with the place of the first one. `Usage` comes for words that mean no
-/// command, `WriteFault` where a sink failed, and `Memory` where memory runs out.
+/// the certificate. `checkall FILE PROPS` searches each property of a text as `check` does, and answers with a title and the text of
+/// `check` for each: `Unsafe` where one has a bad run, else `Unknown` where one is unknown, and else `Done`. `ReadFault` comes where a read
+/// failed or a text is longer than its limit, `ProtocolRefused` where the text of the protocol has a fault, and `CertificateRefused` where
+/// that of the certificate, the configuration or the properties has one, each with the place of the first one. `Usage` comes for words that
+/// mean no command, `WriteFault` where a sink failed, and `Memory` where memory runs out.
 pub fn run<L: Library, O: Sink, E: Sink, G: Gate, R: Threads + Sync>(
     alloc: Global,
     runtime: &R,

@@ -1,5 +1,5 @@
-//! Each command in a line of each function: where its two texts come from, its reply, and what a reply promises.
-//! Where a text comes from is found in constant time; a reply costs what its command costs.
+//! Each command as one case of each function: where its two texts come from, its reply, and what a reply promises. Where a text comes from
+//! is found in constant time; a reply costs what its command costs.
 
 ghost use Rattle.std.specs.Prelude.{◌≡◌, ℕ, List, IfOk};
 ghost use Rattle.protocol_syntax.specs.declared.protocol.Protocol.{Protocol as ProtocolData};

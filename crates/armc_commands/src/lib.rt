@@ -1,5 +1,5 @@
-//! The commands of the program. A call reads the texts that its words name, in their order; makes one reply, of a status and two texts;
-//! and puts the texts, each at once. It costs what the command costs: a layout, a list of successors, a judgement.
+//! The commands of the program. A call reads the texts that its words name, in their order; makes one reply, of a status and two texts; and
+//! puts the texts, each at once. It costs what the command costs: a layout, a list of successors, a judgement, a search.
 #![tactic(auto)]
 
 mod call;

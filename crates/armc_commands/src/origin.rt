@@ -3,7 +3,7 @@
 
 ghost use Rattle.std.specs.Prelude.{◌≡◌, ◌≤◌, ◌⊎◌, IsTrue};
 ghost use Rattle.armc_commands.specs.Origin.{IsReadable, origin_of};
-ghost use Rattle.armc_commands.specs.Reads.{GivesText, IsToldOrigin, failure_of_read};
+ghost use Rattle.armc_commands.specs.private.LibraryReads.{GivesText, IsToldOrigin, failure_of_read};
 
 use armc_io::{Library, ReadFail};
 use chain_protocol::generate;

@@ -6,7 +6,7 @@ ghost use Rattle.armc_io.specs.Library.{LibraryState};
 ghost use Rattle.protocol_model.specs.Numbering.{system_of};
 ghost use Rattle.command_words.specs.Words.{command_of as command_of_words, IsInRange, said};
 ghost use Rattle.armc_commands.specs.Commands.{second_origin as second_origin_of};
-ghost use Rattle.armc_commands.specs.Reads.{IsEarlier, IsToldOrigin};
+ghost use Rattle.armc_commands.specs.private.LibraryReads.{IsEarlier, IsToldOrigin};
 ghost use Rattle.armc_commands.specs.Outcome.{HasProtocol, IsOutcome, IsReliableFor};
 
 use crate::commands::{command_reply, protocol_origin, second_origin};

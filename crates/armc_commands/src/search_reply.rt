@@ -18,7 +18,7 @@ use protocol_search::{
 };
 use refinement::Verdict;
 use search_history::Log;
-use search_report::{Method, report};
+use search_report::{ReportedMethod, report};
 use sequence::Sequence;
 use std::alloc::{AllocError, Global};
 use std::thread::Threads;
@@ -27,7 +27,7 @@ use std::thread::Threads;
 #[derive(Clone, Copy, Debug, Drop)]
 pub enum Telling {
     /// By its certificate, and by a report that names this method where one is asked for.
-    Certificate(Option<Method>),
+    Certificate(Option<ReportedMethod>),
     /// By a summary, with the number of the chain that is searched.
     Summary(u32),
 }

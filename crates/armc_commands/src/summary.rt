@@ -1,5 +1,5 @@
 //! The summary of a search of the chain of some number: a line for the number, the verdict, the rounds and the counted states each, and two
-//! for the size of a proof. It costs what its bytes cost, and a walk over the edges of the proof.
+//! for the size of a proof. It costs what its bytes cost.
 
 ghost use Rattle.std.specs.Prelude.{◌≡◌, ◌++◌, IfOk, OnOk, codes, string_bytes};
 ghost use Rattle.command_replies.specs.Line.{line};

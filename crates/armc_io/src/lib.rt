@@ -1,5 +1,5 @@
-//! The outside of the checker: texts that are read by name, sinks that take bytes, and a gate that is asked on the way.
-//! Each is a trait with two ends, one in memory and one of the operating system.
+//! The outside of the checker: texts that are read by name, sinks that take bytes, and a gate that is asked on the way. Libraries and sinks
+//! have two ends each, one in memory and one of the operating system; the one gate here is always open.
 #![tactic(auto)]
 
 mod file_library;

@@ -1,5 +1,5 @@
 //! What the program asks of the outside: a library of texts that are read by name, a sink that takes bytes, and a gate that is entered
-//! before the image of each rule. Each says what it tells of its contents, and counts its faults.
+//! before the image of each rule. The library and the sink say what they tell of their contents, and count their faults.
 
 ghost use Rattle.std.specs.Prelude.{◌≡◌, ℕ, ◌^◌, ◌<◌, ◌≤◌, IsTrue, IsSome};
 ghost use Rattle.armc_io.specs.Library.{LibraryState, ReadAnswers};

@@ -11,13 +11,12 @@ use Rattle.indexmap.specs.IndexSet.{insert_key}
 use Rattle.word_automata.specs.Path.{Node}
 use Rattle.transducers.specs.declared.Label.{Label}
 use Rattle.transducers.specs.Combination.{exchange}
-use Rattle.sequence.proofs.Places.{slice_get-append_left, slice_get-push_last}
-use Rattle.transducers.proofs.ListLemmas.{slice_get-within}
-use Rattle.transducers.proofs.CopyLemmas.{nothing_in_nil}
+use Rattle.sequence.proofs.ForCallers.{slice_get-append_left, slice_get-push_last}
+use Rattle.transducers.proofs.ForCallers.{slice_get-within, nothing_in_nil}
 use Rattle.array_moves.specs.declared.guard_table.ControlState.{ControlState}
 use Rattle.array_moves.specs.declared.guard_table.GuardTable.{GuardTable}
-use Rattle.array_moves.specs.ControlStates.{first_control, after_letter, after_move, can_end, is_final, Numbers, IsLetterEdge, IsMoveEdge}
-use Rattle.array_moves.specs.ControlStates.{LetterEdges, ControlEdges, IsStateOf, AreStates, HasFirst, IsMachine}
+use Rattle.array_moves.specs.private.ControlStates.{first_control, after_letter, after_move, can_end, is_final, Numbers, IsLetterEdge, IsMoveEdge}
+use Rattle.array_moves.specs.private.ControlStates.{LetterEdges, ControlEdges, IsStateOf, AreStates, HasFirst, IsMachine}
 
 -- the test whether two truth values are equal
 pub beq_decides : (x y : Bool) → (beq x y ≡ true → x ≡ y) × (x ≡ y → beq x y ≡ true)

@@ -6,13 +6,13 @@ use Rattle.word_automata.specs.Path.{Node, edges_of, is_accepting}
 use Rattle.transducers.specs.declared.Label.{Label}
 use Rattle.transducers.specs.Transducer.{IsEdge, IsValid, Relates}
 use Rattle.transducers.specs.Combination.{exchange, copy_edges}
-use Rattle.transducers.proofs.CopyLemmas.{IsEdge-copies, exchange_from_copy, copy_from_edge, Contains-single, nothing_in_nil}
+use Rattle.transducers.proofs.ForCallers.{IsEdge-copies, exchange_from_copy, copy_from_edge, Contains-single, nothing_in_nil}
 use Rattle.protocol_syntax.specs.declared.protocol.Move.TheVariants.{Pair, Ring, Two}
 use Rattle.protocol_model.specs.System.{Move, AllBelow, IsValidMove}
 use Rattle.protocol_model.specs.Moves.{IsMove, IsPairMove, IsRingMove, IsTwoMove, ChangesTwo}
 use Rattle.protocol_model.specs.Raised.{IsRaisedMove}
-use Rattle.protocol_model.proofs.Below.{AllBelow-left, AllBelow-right}
-use Rattle.array_moves.specs.Fixed.{exchange_edge, pair_states, ring_states, two_states, fixed_states, ChangesTwoPositions}
+use Rattle.protocol_model.proofs.ForCallers.{AllBelow-left, AllBelow-right}
+use Rattle.array_moves.specs.private.Fixed.{exchange_edge, pair_states, ring_states, two_states, fixed_states, ChangesTwoPositions}
 use Rattle.array_moves.proofs.LetterLemmas.{nothing_below_zero, same_exchange, HasLetters, Changes}
 use Rattle.array_moves.proofs.LetterLemmas.{Relates-raised, Leaves, leave, stay, enter}
 

@@ -5,13 +5,13 @@ use Rattle.std.specs.List.{list_all, list_any}
 use Rattle.std.proofs.lemmas.List.Folds.{list_all-append, list_any-append}
 use Rattle.std.proofs.lemmas.Option.{same_Some, none-some}
 use Rattle.std.proofs.lemmas.Bool.{and_parts, and_from, or_cases, or_left, or_right}
-use Rattle.transducers.proofs.ListLemmas.{slice_get-cases}
+use Rattle.transducers.proofs.ForCallers.{slice_get-cases}
 use Rattle.protocol_syntax.specs.declared.protocol.Region.{Region}
 use Rattle.protocol_syntax.specs.declared.protocol.Region.TheVariants.{Left, Right, Others}
 use Rattle.protocol_model.specs.System.{Guard}
 use Rattle.protocol_model.specs.Moves.{is_in, region_letters, guard_holds}
-use Rattle.array_moves.specs.Flags.{flag, four_flags, no_flags, union_of, covers_one, covers, permits, meets, meets_at, effect_of}
-use Rattle.array_moves.specs.Flags.{asks_at, widened}
+use Rattle.array_moves.specs.private.Flags.{flag, four_flags, no_flags, union_of, covers_one, covers, permits, meets, meets_at, effect_of}
+use Rattle.array_moves.specs.private.Flags.{asks_at, widened}
 
 -- a test of all elements, by their places
 pub all_at : {X : Type 0} (p : X → Bool) (xs : List X) (k : ℕ) (x : X) → list_all p xs ≡ true → slice_get xs k ≡ Some x → p x ≡ true

@@ -6,8 +6,8 @@ use Rattle.word_automata.specs.Path.{Node, edges_of, is_accepting}
 use Rattle.transducers.specs.declared.Label.{Label}
 use Rattle.transducers.specs.Transducer.{Transducer, Relates, RelatesFrom}
 use Rattle.transducers.specs.Combination.{exchange, copy_edges}
-use Rattle.transducers.proofs.ExchangeLemmas.{Exchanges, HasExchanges, RelatesFrom-exchanges, exchanges_from_RelatesFrom}
-use Rattle.transducers.proofs.CopyLemmas.{copy_from_edge, copy_edge_from_letter, Contains-single}
+use Rattle.transducers.proofs.ForCallers.{Exchanges, HasExchanges, RelatesFrom-exchanges, exchanges_from_RelatesFrom, copy_from_edge}
+use Rattle.transducers.proofs.ForCallers.{copy_edge_from_letter, Contains-single}
 use Rattle.protocol_model.specs.System.{AllBelow}
 use Rattle.protocol_model.specs.Words.{raised}
 use Rattle.protocol_model.specs.Raised.{IsRaisedMove}

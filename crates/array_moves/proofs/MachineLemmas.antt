@@ -10,20 +10,19 @@ use Rattle.word_automata.specs.Path.{Node}
 use Rattle.transducers.specs.declared.Label.{Label}
 use Rattle.transducers.specs.Transducer.{IsEdge, IsValid, Relates}
 use Rattle.transducers.specs.Combination.{exchange}
-use Rattle.transducers.proofs.ListLemmas.{slice_get-within, slice_get-map_cases, Contains-from_place}
-use Rattle.transducers.proofs.PathLemmas.{edges_of-at, is_accepting-at, node_from_edge}
-use Rattle.transducers.proofs.CopyLemmas.{nothing_in_nil}
+use Rattle.transducers.proofs.ForCallers.{slice_get-within, slice_get-map_cases, Contains-from_place, edges_of-at, is_accepting-at}
+use Rattle.transducers.proofs.ForCallers.{node_from_edge, nothing_in_nil}
 use Rattle.protocol_syntax.specs.declared.protocol.Move.TheVariants.{At}
 use Rattle.protocol_model.specs.System.{Guard, AllBelow, IsValidMove}
 use Rattle.protocol_model.specs.Moves.{table_value, IsAtMove}
 use Rattle.array_moves.specs.declared.guard_table.ControlState.{ControlState}
 use Rattle.array_moves.specs.declared.guard_table.GuardTable.{GuardTable}
 use Rattle.protocol_model.specs.Raised.{IsRaisedMove}
-use Rattle.protocol_model.proofs.Below.{AllBelow-left, AllBelow-right}
-use Rattle.array_moves.specs.Flags.{no_flags, union_of, covers, effect_of}
-use Rattle.array_moves.specs.ControlStates.{IsGuardTable, first_control, can_end, HasRoom, starts_of, IsLetterEdge, IsMoveEdge, IsStateOf, IsMachine}
+use Rattle.protocol_model.proofs.ForCallers.{AllBelow-left, AllBelow-right}
+use Rattle.array_moves.specs.private.Flags.{no_flags, union_of, covers, effect_of}
+use Rattle.array_moves.specs.private.ControlStates.{IsGuardTable, first_control, can_end, HasRoom, starts_of, IsLetterEdge, IsMoveEdge, IsStateOf, IsMachine}
 use Rattle.array_moves.proofs.LetterLemmas.{same_exchange, Changes, HasLetters, Relates-raised}
-use Rattle.array_moves.proofs.RunLemmas.{slice_get-range, Reads, guarded_from_Reads, Reads_from_guarded, table_value_in_range, image_is}
+use Rattle.array_moves.proofs.RunLemmas.{slice_get-range, ReadsLetters, guarded_from_ReadsLetters, ReadsLetters_from_guarded, table_value_in_range, image_is}
 use Rattle.array_moves.proofs.RunLemmas.{effect_from_after, after_from_effect, control_from_move, move_from_end, can_end-behind}
 use Rattle.array_moves.proofs.RunLemmas.{can_end-first}
 
@@ -61,8 +60,8 @@ record Crosses (f t : ℕ) (guards : List Guard) (table : List (ℕ × ℕ)) (co
   last : List Bool
   was : old ≡ before ++ f ∷ after
   becomes : new ≡ map (table_value table) before ++ t ∷ map (table_value table) after
-  first : Reads guards count false met before middle
-  second : Reads guards count true middle after last
+  first : ReadsLetters guards count false met before middle
+  second : ReadsLetters guards count true middle after last
   covered : covers last guard_table.required ≡ true
 
 module _ (f t : ℕ) (guards : List Guard) (table : List (ℕ × ℕ)) (offset count : ℕ) (guard_table : GuardTable) (controls : List ControlState)
@@ -77,7 +76,7 @@ module _ (f t : ℕ) (guards : List Guard) (table : List (ℕ × ℕ)) (offset c
 
   after_there : (s t' : List ℕ) (k : ℕ) (met : List Bool) → slice_get controls k ≡ Some (record { moved = true; met = met })
       → Changes offset states k s t'
-      → (last : List Bool) × Reads guards count true met s last × (t' ≡ map (table_value table) s) × (covers last guard_table.required ≡ true)
+      → (last : List Bool) × ReadsLetters guards count true met s last × (t' ≡ map (table_value table) s) × (covers last guard_table.required ≡ true)
   after_there [] [] k met at h =
       let state = state_at k (record { moved = true; met = met }) at in
       (met, refl, refl, sym state.2.accepts ∙ sym (is_accepting-at states k state.0 state.1) ∙ h)
@@ -145,7 +144,7 @@ module _ (f t : ℕ) (guards : List Guard) (table : List (ℕ × ℕ)) (offset c
       ]
 
   pub after_back : (s : List ℕ) (k : ℕ) (met last : List Bool) → slice_get controls k ≡ Some (record { moved = true; met = met })
-      → Reads guards count true met s last → covers last guard_table.required ≡ true
+      → ReadsLetters guards count true met s last → covers last guard_table.required ≡ true
       → Changes offset states k s (map (table_value table) s)
   after_back [] k met last at h covered =
       let state = state_at k (record { moved = true; met = met }) at in
@@ -163,12 +162,12 @@ module _ (f t : ℕ) (guards : List Guard) (table : List (ℕ × ℕ)) (offset c
       )
 
   pub before_back : (before after : List ℕ) (k : ℕ) (met middle last : List Bool)
-      → slice_get controls k ≡ Some (record { moved = false; met = met }) → Reads guards count false met before middle
-      → Reads guards count true middle after last → covers last guard_table.required ≡ true
+      → slice_get controls k ≡ Some (record { moved = false; met = met }) → ReadsLetters guards count false met before middle
+      → ReadsLetters guards count true middle after last → covers last guard_table.required ≡ true
       → Changes offset states k (before ++ f ∷ after) (map (table_value table) before ++ t ∷ map (table_value table) after)
   before_back [] after k met middle last at h second covered =
       let state = state_at k (record { moved = false; met = met }) at in
-      let reads : Reads guards count true met after last = subst (λ m. Reads guards count true m after last) (sym h) second in
+      let reads : ReadsLetters guards count true met after last = subst (λ m. ReadsLetters guards count true m after last) (sym h) second in
       let edge = state.2.move (record { moved = true; met = met })
       (move_from_end f t guards table count guard_table is_guard_table met
       (can_end-behind f t guards table count guard_table is_guard_table met last after reads covered)) in
@@ -202,18 +201,18 @@ module _ (f t : ℕ) (guards : List Guard) (table : List (ℕ × ℕ)) (offset c
           after = p.after;
           was = p.was;
           becomes = p.becomes;
-          guarded = guarded_from_Reads guards count limit p.before p.after p.middle p.last p.first p.second
+          guarded = guarded_from_ReadsLetters guards count limit p.before p.after p.middle p.last p.first p.second
               (ap (covers p.last) (sym is_guard_table.required_is) ∙ p.covered);
         }
 
     -- what can be read of the lists of a move
     move_reads : (s t' : List ℕ) → AllBelow count s → (m : IsAtMove f t guards table s t')
-        → (middle last : List Bool) × Reads guards count false no_flags m.before middle × Reads guards count true middle m.after last
+        → (middle last : List Bool) × ReadsLetters guards count false no_flags m.before middle × ReadsLetters guards count true middle m.after last
         × (covers last guard_table.required ≡ true)
     move_reads s t' below m =
         let whole : AllBelow count (m.before ++ f ∷ m.after) = subst (AllBelow count) m.was below in
         let rest : AllBelow count (f ∷ m.after) = AllBelow-right count m.before (f ∷ m.after) whole in
-        let reads = Reads_from_guarded guards count limit m.before m.after (AllBelow-left count m.before (f ∷ m.after) whole) rest.1
+        let reads = ReadsLetters_from_guarded guards count limit m.before m.after (AllBelow-left count m.before (f ∷ m.after) whole) rest.1
         m.guarded in
         (reads.0, reads.1, reads.2, reads.3, ap (covers reads.1) is_guard_table.required_is ∙ reads.4)
 

@@ -5,14 +5,14 @@ use Rattle.std.specs.List.{list_all, list_any, range_with_len, AllByRecursion}
 use Rattle.std.proofs.lemmas.List.FromFn.{length-range_with_len, get_or-range_with_len}
 use Rattle.std.proofs.lemmas.Option.{same_Some, none-some, slice_get_within, slice_get-get_or, get_or_from_slice_get}
 use Rattle.std.proofs.lemmas.Bool.{and_from, or_cases, or_left, or_right}
-use Rattle.transducers.proofs.ListLemmas.{slice_get-map_image}
+use Rattle.transducers.proofs.ForCallers.{slice_get-map_image}
 use Rattle.protocol_model.specs.System.{Guard, AllBelow}
 use Rattle.protocol_model.specs.Moves.{table_value, guard_holds}
 use Rattle.array_moves.specs.declared.guard_table.ControlState.{ControlState}
 use Rattle.array_moves.specs.declared.guard_table.GuardTable.{GuardTable}
-use Rattle.array_moves.specs.Flags.{flag, four_flags, no_flags, union_of, covers, permits, meets, meets_at, effect_of, asks_at}
-use Rattle.array_moves.specs.Flags.{required_of, reach_of}
-use Rattle.array_moves.specs.ControlStates.{IsGuardTable, first_control, listed, with_effect, after_letter, can_end, after_move}
+use Rattle.array_moves.specs.private.Flags.{flag, four_flags, no_flags, union_of, covers, permits, meets, meets_at, effect_of, asks_at}
+use Rattle.array_moves.specs.private.Flags.{required_of, reach_of}
+use Rattle.array_moves.specs.private.ControlStates.{IsGuardTable, first_control, listed, with_effect, after_letter, can_end, after_move}
 use Rattle.array_moves.proofs.GuardLemmas.{all_at, all_from_each, IsSatisfied}
 use Rattle.array_moves.proofs.GuardLemmas.{satisfied_from_holds, holds_from_satisfied, flag-four, flag-none, flag_from_covers}
 use Rattle.array_moves.proofs.GuardLemmas.{covers_from_flags, permitted_from_effect, effect_from_permitted, meets_at-there, asks_at-there}
@@ -27,10 +27,10 @@ or_regrouped true b c = refl
 or_regrouped false b c = refl
 
 -- the letters of a list are allowed on that side of the moving position, and change the flags to others
-abbrev pub Reads : List Guard → ℕ → Bool → List Bool → List ℕ → List Bool → Type 0
-Reads guards count behind met [] last = met ≡ last
-Reads guards count behind met (x ∷ s) last = (e : List Bool) × (x < count) × (effect_of guards behind x ≡ Some e)
-    × Reads guards count behind (union_of met e) s last
+abbrev pub ReadsLetters : List Guard → ℕ → Bool → List Bool → List ℕ → List Bool → Type 0
+ReadsLetters guards count behind met [] last = met ≡ last
+ReadsLetters guards count behind met (x ∷ s) last = (e : List Bool) × (x < count) × (effect_of guards behind x ≡ Some e)
+    × ReadsLetters guards count behind (union_of met e) s last
 
 -- a number is at its place in the range
 pub slice_get-range : (count x : ℕ) → x < count → slice_get (range_with_len 0 count) x ≡ Some x
@@ -40,35 +40,35 @@ slice_get-range count x h =
 
 module _ (guards : List Guard) (count : ℕ) (behind : Bool) where
   -- the flags after a list, one by one
-  pub flag-Reads : (s : List ℕ) (met last : List Bool) (k : ℕ) → k < 4 → Reads guards count behind met s last
+  pub flag-ReadsLetters : (s : List ℕ) (met last : List Bool) (k : ℕ) → k < 4 → ReadsLetters guards count behind met s last
       → flag last k ≡ (flag met k || list_any (λ x. meets_at guards behind x k) s)
-  flag-Reads [] met last k lt h = ap (λ f. flag f k) (sym h) ∙ or_with_false (flag met k)
-  flag-Reads (x ∷ s) met last k lt h =
+  flag-ReadsLetters [] met last k lt h = ap (λ f. flag f k) (sym h) ∙ or_with_false (flag met k)
+  flag-ReadsLetters (x ∷ s) met last k lt h =
       let e = permitted_from_effect guards behind x h.0 h.2 in
       let one : flag h.0 k ≡ meets_at guards behind x k = ap (λ f. flag f k) e.1 ∙ flag-four (meets_at guards behind x) k lt in
-      flag-Reads s (union_of met h.0) last k lt h.3
+      flag-ReadsLetters s (union_of met h.0) last k lt h.3
       ∙ ap (λ b. b || list_any (λ x. meets_at guards behind x k) s) (flag-four (λ j. flag met j || flag h.0 j) k lt
       ∙ ap (λ b. flag met k || b) one)
       ∙ or_regrouped (flag met k) (meets_at guards behind x k) (list_any (λ x. meets_at guards behind x k) s)
 
   -- every guard permits the letters that were read
-  pub permits-Reads : (s : List ℕ) (met last : List Bool) (k : ℕ) (guard : Guard) → slice_get guards k ≡ Some guard
-      → Reads guards count behind met s last → list_all (permits guard behind) s ≡ true
-  permits-Reads [] met last k guard at h = refl
-  permits-Reads (x ∷ s) met last k guard at h =
+  pub permits-ReadsLetters : (s : List ℕ) (met last : List Bool) (k : ℕ) (guard : Guard) → slice_get guards k ≡ Some guard
+      → ReadsLetters guards count behind met s last → list_all (permits guard behind) s ≡ true
+  permits-ReadsLetters [] met last k guard at h = refl
+  permits-ReadsLetters (x ∷ s) met last k guard at h =
       and_from (permits guard behind x) (list_all (permits guard behind) s)
       (all_at (λ g. permits g behind x) guards k guard (permitted_from_effect guards behind x h.0 h.2).0 at)
-      (permits-Reads s (union_of met h.0) last k guard at h.3)
+      (permits-ReadsLetters s (union_of met h.0) last k guard at h.3)
 
   -- letters that every guard permits can be read
-  pub Reads-permitted : (s : List ℕ) (met : List Bool) → AllBelow count s
+  pub ReadsLetters-permitted : (s : List ℕ) (met : List Bool) → AllBelow count s
       → ((k : ℕ) (guard : Guard) → slice_get guards k ≡ Some guard → list_all (permits guard behind) s ≡ true)
-      → (last : List Bool) × Reads guards count behind met s last
-  Reads-permitted [] met below each = (met, refl)
-  Reads-permitted (x ∷ s) met below each =
+      → (last : List Bool) × ReadsLetters guards count behind met s last
+  ReadsLetters-permitted [] met below each = (met, refl)
+  ReadsLetters-permitted (x ∷ s) met below each =
       let here = all_from_each (λ g. permits g behind x) guards
       (λ k g at. (split (permits g behind x) (list_all (permits g behind) s) (each k g at)).0) in
-      let rest = Reads-permitted s (union_of met (four_flags (meets_at guards behind x))) below.1
+      let rest = ReadsLetters-permitted s (union_of met (four_flags (meets_at guards behind x))) below.1
       (λ k g at. (split (permits g behind x) (list_all (permits g behind) s) (each k g at)).1) in
       (rest.0, (four_flags (meets_at guards behind x), below.0, effect_from_permitted guards behind x here, rest.1))
     where
@@ -77,11 +77,11 @@ module _ (guards : List Guard) (count : ℕ) (behind : Bool) where
       split false b h = absurd (true≢false (sym h))
 
   -- a flag that reading sets was set before, or may be set on this side
-  pub reach-Reads : (s : List ℕ) (met last : List Bool) (k : ℕ) → k < 4 → Reads guards count behind met s last → flag last k ≡ true
+  pub reach-ReadsLetters : (s : List ℕ) (met last : List Bool) (k : ℕ) → k < 4 → ReadsLetters guards count behind met s last → flag last k ≡ true
       → (flag met k ≡ true) ⊎ (flag (reach_of (map (effect_of guards behind) (range_with_len 0 count))) k ≡ true)
-  reach-Reads [] met last k lt h set = inl (ap (λ f. flag f k) h ∙ set)
-  reach-Reads (x ∷ s) met last k lt h set =
-      elim (reach-Reads s (union_of met h.0) last k lt h.3 set) [
+  reach-ReadsLetters [] met last k lt h set = inl (ap (λ f. flag f k) h ∙ set)
+  reach-ReadsLetters (x ∷ s) met last k lt h set =
+      elim (reach-ReadsLetters s (union_of met h.0) last k lt h.3 set) [
         | inl now ↦ (elim (or_cases (flag met k) (flag h.0 k) (sym (flag-four (λ j. flag met j || flag h.0 j) k lt) ∙ now)) [
           | inl before ↦ inl before
           | inr new ↦ inr (flag-reach (map (effect_of guards behind) (range_with_len 0 count)) no_flags h.0 x k lt
@@ -101,37 +101,37 @@ module _ (guards : List Guard) (count : ℕ) (limit : length guards ≤ 4) (befo
   met_on_side behind s k guard at = λ i. list_any (λ x. meets_at-there guards behind x k guard at i) s
 
   flags_of_both : (middle last : List Bool) (k : ℕ) (guard : Guard) → k < 4 → slice_get guards k ≡ Some guard
-      → Reads guards count false no_flags before middle → Reads guards count true middle after last
+      → ReadsLetters guards count false no_flags before middle → ReadsLetters guards count true middle after last
       → flag last k ≡ (list_any (meets guard false) before || list_any (meets guard true) after)
   flags_of_both middle last k guard lt at first second =
-      flag-Reads guards count true after middle last k lt second
-      ∙ (λ i. (flag-Reads guards count false before no_flags middle k lt first
+      flag-ReadsLetters guards count true after middle last k lt second
+      ∙ (λ i. (flag-ReadsLetters guards count false before no_flags middle k lt first
       ∙ ap (λ b. b || list_any (λ x. meets_at guards false x k) before) (flag-none k)) i || met_on_side true after k guard at i)
       ∙ ap (λ b. b || list_any (meets guard true) after) (met_on_side false before k guard at)
 
-  pub guarded_from_Reads : (middle last : List Bool) → Reads guards count false no_flags before middle
-      → Reads guards count true middle after last → covers last (required_of guards) ≡ true
+  pub guarded_from_ReadsLetters : (middle last : List Bool) → ReadsLetters guards count false no_flags before middle
+      → ReadsLetters guards count true middle after last → covers last (required_of guards) ≡ true
       → list_all (guard_holds before after) guards ≡ true
-  guarded_from_Reads middle last first second covered =
+  guarded_from_ReadsLetters middle last first second covered =
       all_from_each (guard_holds before after) guards (λ k guard at.
       let lt : k < 4 = omega (arith, slice_get_within guards k guard at) in
       holds_from_satisfied guard.all guard.region guard.letters before after (record {
-        permitted_before = permits-Reads guards count false before no_flags middle k guard at first;
-        permitted_after = permits-Reads guards count true after middle last k guard at second;
+        permitted_before = permits-ReadsLetters guards count false before no_flags middle k guard at first;
+        permitted_after = permits-ReadsLetters guards count true after middle last k guard at second;
         met = λ asks. sym (flags_of_both middle last k guard lt at first second)
             ∙ flag_from_covers last (required_of guards) covered k lt (flag-four (asks_at guards) k lt ∙ asks_at-there guards k guard at
             ∙ asks);
       }))
 
-  pub Reads_from_guarded : AllBelow count before → AllBelow count after → list_all (guard_holds before after) guards ≡ true
-      → (middle last : List Bool) × Reads guards count false no_flags before middle × Reads guards count true middle after last
+  pub ReadsLetters_from_guarded : AllBelow count before → AllBelow count after → list_all (guard_holds before after) guards ≡ true
+      → (middle last : List Bool) × ReadsLetters guards count false no_flags before middle × ReadsLetters guards count true middle after last
       × (covers last (required_of guards) ≡ true)
-  Reads_from_guarded before_below after_below holds =
+  ReadsLetters_from_guarded before_below after_below holds =
       let each : (k : ℕ) (guard : Guard) → slice_get guards k ≡ Some guard → IsSatisfied guard before after =
       λ k guard at. satisfied_from_holds guard.all guard.region guard.letters before after
       (all_at (guard_holds before after) guards k guard holds at) in
-      let first = Reads-permitted guards count false before no_flags before_below (λ k guard at. (each k guard at).permitted_before) in
-      let second = Reads-permitted guards count true after first.0 after_below (λ k guard at. (each k guard at).permitted_after) in (
+      let first = ReadsLetters-permitted guards count false before no_flags before_below (λ k guard at. (each k guard at).permitted_before) in
+      let second = ReadsLetters-permitted guards count true after first.0 after_below (λ k guard at. (each k guard at).permitted_after) in (
         first.0,
         second.0,
         first.1,
@@ -195,25 +195,25 @@ module _ (f t : ℕ) (guards : List Guard) (table : List (ℕ × ℕ)) (count : 
     move_from_end met h = ap (λ b. if b then Some (let p : ControlState = record { moved = true; met = met } in p) else None) h
 
     -- a control state from which a list can be read to the end can end
-    pub can_end-behind : (met last : List Bool) (s : List ℕ) → Reads guards count true met s last → covers last guard_table.required ≡ true
+    pub can_end-behind : (met last : List Bool) (s : List ℕ) → ReadsLetters guards count true met s last → covers last guard_table.required ≡ true
         → can_end guard_table (record { moved = true; met = met }) ≡ true
     can_end-behind met last s reads covered =
         covers_from_flags (union_of met guard_table.reach_behind) guard_table.required (λ k lt set.
         flag-four (λ j. flag met j || flag guard_table.reach_behind j) k lt
-        ∙ elim (reach-Reads guards count true s met last k lt reads (flag_from_covers last guard_table.required covered k lt set)) [
+        ∙ elim (reach-ReadsLetters guards count true s met last k lt reads (flag_from_covers last guard_table.required covered k lt set)) [
           | inl before ↦ or_left (flag met k) (flag guard_table.reach_behind k) before
           | inr reach ↦ or_right (flag met k) (flag guard_table.reach_behind k) (ap (λ r. flag r k) is_guard_table.reach_behind_is ∙ reach)
         ])
 
-    pub can_end-first : (middle last : List Bool) (s s' : List ℕ) → Reads guards count false no_flags s middle
-        → Reads guards count true middle s' last → covers last guard_table.required ≡ true → can_end guard_table first_control ≡ true
+    pub can_end-first : (middle last : List Bool) (s s' : List ℕ) → ReadsLetters guards count false no_flags s middle
+        → ReadsLetters guards count true middle s' last → covers last guard_table.required ≡ true → can_end guard_table first_control ≡ true
     can_end-first middle last s s' first second covered =
         covers_from_flags (union_of (union_of no_flags guard_table.reach_before) guard_table.reach_behind) guard_table.required (λ k lt set.
         flag-four (λ j. flag (union_of no_flags guard_table.reach_before) j || flag guard_table.reach_behind j) k lt
-        ∙ elim (reach-Reads guards count true s' middle last k lt second (flag_from_covers last guard_table.required covered k lt set)) [
+        ∙ elim (reach-ReadsLetters guards count true s' middle last k lt second (flag_from_covers last guard_table.required covered k lt set)) [
           | inl earlier ↦ or_left (flag (union_of no_flags guard_table.reach_before) k) (flag guard_table.reach_behind k)
               (flag-four (λ j. flag no_flags j || flag guard_table.reach_before j) k lt
-              ∙ elim (reach-Reads guards count false s no_flags middle k lt first earlier) [
+              ∙ elim (reach-ReadsLetters guards count false s no_flags middle k lt first earlier) [
                 | inl none ↦ absurd (true≢false (sym none ∙ flag-none k))
                 | inr reach ↦ or_right (flag no_flags k) (flag guard_table.reach_before k) (ap (λ r. flag r k) is_guard_table.reach_before_is ∙ reach)
               ])

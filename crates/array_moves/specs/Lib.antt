@@ -1,3 +1,1 @@
-pub mod Fixed
-pub mod Flags
-pub mod ControlStates
+pub mod private

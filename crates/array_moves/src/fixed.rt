@@ -6,7 +6,7 @@ ghost use Rattle.protocol_model.specs.System.{AllBelow, IsValidMove};
 ghost use Rattle.protocol_model.specs.Moves.{IsMove};
 ghost use Rattle.transducers.specs.Transducer.{Relates};
 ghost use Rattle.protocol_model.specs.Raised.{IsRaisedMove};
-ghost use Rattle.array_moves.specs.Fixed.{exchange_edge, copying_node, pair_states, ring_states, two_states, fixed_states, ChangesTwoPositions};
+ghost use Rattle.array_moves.specs.private.Fixed.{exchange_edge, copying_node, pair_states, ring_states, two_states, fixed_states, ChangesTwoPositions};
 
 use protocol_model::{Move, SectionLetters};
 use std::alloc::{AllocError, Global};

@@ -4,9 +4,9 @@
 ghost use Rattle.std.specs.Prelude.{◌≡◌, ◌<◌, ◌^◌, Bool, List, ℕ, IsTrue, IfOk, map, length};
 ghost use Rattle.std.specs.List.{list_all, range_with_len};
 ghost use Rattle.protocol_model.specs.Moves.{table_value};
-ghost use Rattle.array_moves.specs.Flags.{four_flags, union_of, covers_one, covers, has_side, permits};
-ghost use Rattle.array_moves.specs.Flags.{meets, meets_at, effect_of, asks_at, required_of, widened, reach_of};
-ghost use Rattle.array_moves.specs.ControlStates.{IsGuardTable, after_letter, after_move, can_end, is_final};
+ghost use Rattle.array_moves.specs.private.Flags.{four_flags, union_of, covers_one, covers, has_side, permits};
+ghost use Rattle.array_moves.specs.private.Flags.{meets, meets_at, effect_of, asks_at, required_of, widened, reach_of};
+ghost use Rattle.array_moves.specs.private.ControlStates.{IsGuardTable, after_letter, after_move, can_end, is_final};
 
 use protocol_model::{Guard, table_value};
 use protocol_syntax::Region;

@@ -9,7 +9,7 @@ ghost use Rattle.protocol_model.specs.Moves.{IsAtMove};
 ghost use Rattle.transducers.specs.Transducer.{Relates};
 ghost use Rattle.protocol_model.specs.Raised.{IsRaisedMove};
 ghost use Rattle.array_moves.specs.declared.guard_table.ControlState.{ControlState};
-ghost use Rattle.array_moves.specs.ControlStates.{HasRoom, HasFirst, Numbers, LetterEdges, ControlEdges, IsMachine, starts_of};
+ghost use Rattle.array_moves.specs.private.ControlStates.{HasRoom, HasFirst, Numbers, LetterEdges, ControlEdges, IsMachine, starts_of};
 
 use crate::guard_table::{ControlState, GuardTable, guard_table_of};
 use indexmap::IndexSet;

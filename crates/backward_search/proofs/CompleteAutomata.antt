@@ -3,11 +3,11 @@ use Rattle.std.proofs.Common.{◌≡◌, ◌<◌, ◌≤◌, ◌&&◌, ℕ, zero
 use Rattle.std.proofs.lemmas.Bool.Decides.{nat_tests}
 use Rattle.word_automata.specs.Path.{Node, is_accepting}
 use Rattle.word_automata.specs.Automaton.{Automaton, target, find_target, accepts, accepts_from, IsValid}
-use Rattle.word_automata.proofs.Targets.{target_within}
-use Rattle.exploration.proofs.Successors.{look_up-edges}
+use Rattle.word_automata.proofs.ForCallers.{target_within}
+use Rattle.exploration.proofs.ForCallers.{look_up-edges}
 use Rattle.boolean_operations.specs.Complements.{are_letters}
-use Rattle.boolean_operations.proofs.Letters.{valued, look_up-valued, look_up-valued_above}
-use Rattle.minimise.proofs.Edges.{next_state, accepts_from-next}
+use Rattle.boolean_operations.proofs.ForCallers.{valued, look_up-valued, look_up-valued_above}
+use Rattle.minimise.proofs.ForCallers.{next_state, accepts_from-next}
 
 -- so many nodes, by their numbers
 abbrev nodes : (ℕ → Node ℕ) → ℕ → List (Node ℕ)

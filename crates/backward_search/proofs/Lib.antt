@@ -1,3 +1,4 @@
+pub mod ForCallers
 pub mod CompleteAutomata
 pub mod Refusals
 pub mod TurnedRuns

@@ -6,7 +6,7 @@ use Rattle.std.proofs.lemmas.List.Elements.{All-nil, All-cons, All-head, All-tai
 use Rattle.word_automata.specs.Automaton.{Automaton, target, accepts, accepts_from, IsValid}
 use Rattle.boolean_operations.specs.Complements.{are_letters}
 use Rattle.minimise.specs.Canonical.{CanonicalIsLeast, CanonicalIsUnique, SameLanguage}
-use Rattle.abstraction.proofs.BoundedWordLemmas.{leads_by_letter}
+use Rattle.abstraction.proofs.ForCallers.{leads_by_letter}
 use Rattle.safety_problem.specs.Task.{IsWordOver}
 use Rattle.backward_search.specs.BackwardVerdicts.{IsRefusedBy, IsComplementOf}
 use Rattle.backward_search.proofs.CompleteAutomata.{complete, length-complete, accepts-complete}

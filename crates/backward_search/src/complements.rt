@@ -1,4 +1,5 @@
-//! Complements of canonical automata, in time and memory for each letter at each state.
+//! Complements of canonical automata, made canonical: where an edge is missing it leads to one more state, and the states that accepted do
+//! not (Rabin and Scott, 1959). They take time and memory for each letter at each state, and a minimisation.
 
 ghost use Rattle.std.specs.Prelude.{IfOk};
 ghost use Rattle.backward_search.specs.BackwardVerdicts.{IsComplementOf};

@@ -6,8 +6,8 @@ use Rattle.word_automata.specs.Automaton.{Automaton, target}
 use Rattle.word_automata.specs.Building.{AddsEdge}
 use Rattle.certificate.specs.declared.lines.Line.{Line}
 use Rattle.certificate.specs.declared.lines.Line.TheVariants.{Edge}
-use Rattle.certificate.specs.Reading.{AddsAll, HasSecond}
-use Rattle.certificate.specs.NextLine.{edges_by}
+use Rattle.certificate.specs.private.Reading.{AddsAll, HasSecond}
+use Rattle.certificate.specs.private.NextLine.{edges_by}
 use Rattle.certificate.proofs.ReadingLemmas.{AddsAll-more, AddsAll-edge, HasSecond-after}
 
 -- what follows from two facts on a success

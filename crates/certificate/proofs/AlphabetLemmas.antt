@@ -20,9 +20,8 @@ use Rattle.protocol_model.specs.Words.{automata_letters}
 use Rattle.certificate.specs.Bytes.{Lacks}
 use Rattle.certificate.specs.SafeText.{letter_text}
 use Rattle.certificate.specs.Faults.{IsLetterField}
-use Rattle.certificate.specs.Alphabet.{section_texts, letter_texts, lists_of, get_by_bytes, IsAlphabetOf}
-use Rattle.sequence.proofs.Cuts.{cut_unique, Lacks-append}
-use Rattle.sequence.proofs.Places.{slice_get-append_left, slice_get-append_right}
+use Rattle.certificate.specs.private.Alphabet.{section_texts, letter_texts, lists_of, get_by_bytes, IsAlphabetOf}
+use Rattle.sequence.proofs.ForCallers.{cut_unique, Lacks-append, slice_get-append_left, slice_get-append_right}
 
 -- the texts of the first section's letters come first
 letter_texts-cons : (section : Section) (sections : List Section)

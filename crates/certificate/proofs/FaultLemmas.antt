@@ -15,9 +15,9 @@ use Rattle.certificate.specs.declared.lines.LineFault.{LineFault}
 use Rattle.certificate.specs.declared.lines.LineFault.TheVariants.{BadLine, UnknownName}
 use Rattle.certificate.specs.Bytes.{IsCutAt}
 use Rattle.certificate.specs.SafeText.{line_text, letters_of, IsInRange}
-use Rattle.certificate.specs.Reading.{capped_value, IsLineOf, HasRead}
+use Rattle.certificate.specs.private.Reading.{capped_value, IsLineOf, HasRead}
 use Rattle.certificate.specs.LineLayout.{lines_text}
-use Rattle.certificate.specs.NextLine.{HasLineFault, IsLocated}
+use Rattle.certificate.specs.private.NextLine.{HasLineFault, IsLocated}
 use Rattle.certificate.proofs.VersionLemmas.{capped-in_range, values-capped}
 use Rattle.certificate.specs.Faults.{Says, IsSecondAfter, FaultInLater, FaultInBody}
 

@@ -10,7 +10,7 @@ use Rattle.certificate.specs.declared.safe.Certificate.{Certificate}
 use Rattle.certificate.specs.declared.safe.Certificate.TheVariants.{Automaton as AutomatonProof, BadRun}
 use Rattle.certificate.specs.declared.version.Version.{Version}
 use Rattle.certificate.specs.SafeText.{MeansAutomaton, IsAutomatonOf, title, letters_of, AreLettersOf, all_said}
-use Rattle.certificate.specs.Reading.{GoesOn, body_text}
+use Rattle.certificate.specs.private.Reading.{GoesOn, body_text}
 use Rattle.certificate.specs.LineLayout.{opening_text}
 use Rattle.certificate.specs.RunText.{MeansRun}
 use Rattle.certificate.specs.RunFaults.{FaultInRun}

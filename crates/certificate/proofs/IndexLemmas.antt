@@ -7,8 +7,8 @@ use Rattle.std.specs.Cmp.Lexicographic.{bytes_decides}
 use Rattle.std.proofs.lemmas.Cmp.{nat_list_eq_equiv}
 use Rattle.std.proofs.lemmas.Bool.{cases_Bool, cond-true, cond-false, true≢false}
 use Rattle.std.proofs.lemmas.Option.{IfSome_then}
-use Rattle.certificate.specs.Alphabet.{get_by_bytes, IsIndexOf}
-use Rattle.sequence.proofs.Places.{slice_get-append_left, slice_get-push_last, slice_get-push_cases}
+use Rattle.certificate.specs.private.Alphabet.{get_by_bytes, IsIndexOf}
+use Rattle.sequence.proofs.ForCallers.{slice_get-append_left, slice_get-push_last, slice_get-push_cases}
 
 apart : (bs cs ks : List ℕ) → bytes_eq bs cs ≡ false → bytes_eq bs ks ≡ true → bytes_eq cs ks ≡ false
 apart bs cs ks n y = nat_list_eq_equiv.symm cs ks ∙ sym (nat_list_eq_equiv.congr bs ks cs y) ∙ n

@@ -12,11 +12,11 @@ use Rattle.certificate.specs.declared.version.Version.TheVariants.{One}
 use Rattle.certificate.specs.Bytes.{Lacks, IsCutAt}
 use Rattle.certificate.specs.Numbers.{IsNumber}
 use Rattle.certificate.specs.SafeText.{letter_text, NamesLetters}
-use Rattle.certificate.specs.Reading.{IsThreeFields}
+use Rattle.certificate.specs.private.Reading.{IsThreeFields}
 use Rattle.certificate.specs.LineLayout.{IsEdgeLine, IsEdgesLine}
 use Rattle.certificate.specs.Faults.{IsLetterField, IsLetterLine, HasNoLayout}
-use Rattle.certificate.specs.NextLine.{IsLetterFault, HasLineFault}
-use Rattle.sequence.proofs.Cuts.{Lacks-append, cut_unique, no_cut}
+use Rattle.certificate.specs.private.NextLine.{IsLetterFault, HasLineFault}
+use Rattle.sequence.proofs.ForCallers.{Lacks-append, cut_unique, no_cut}
 use Rattle.certificate.proofs.NumberLemmas.{IsNumber-Lacks}
 use Rattle.certificate.proofs.AlphabetLemmas.{word_lacks}
 use Rattle.certificate.proofs.LineLemmas.{edge_text, edge_cancel, final_cancel, final_is_no_edge, three_unique}

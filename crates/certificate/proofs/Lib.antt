@@ -1,6 +1,7 @@
 mod AddingLemmas
 mod AlphabetLemmas
 mod FaultLemmas
+pub mod ForCallers
 mod HasFaultLemmas
 mod IndexLemmas
 mod LayoutLemmas

@@ -10,11 +10,11 @@ use Rattle.certificate.specs.declared.version.Version.{Version}
 use Rattle.certificate.specs.declared.version.Version.TheVariants.{One}
 use Rattle.certificate.specs.Bytes.{Lacks}
 use Rattle.certificate.specs.Numbers.{IsNumber}
-use Rattle.certificate.specs.Reading.{beyond, capped_value}
+use Rattle.certificate.specs.private.Reading.{beyond, capped_value}
 use Rattle.certificate.specs.SafeText.{letter_text, line_text, letters_of, HasIndices, IsInRange}
 use Rattle.certificate.specs.LineLayout.{AreNumbers, IsEdgesLine}
-use Rattle.certificate.specs.Reading.{IsLineOf, IsNoLine, IsThreeFields}
-use Rattle.sequence.proofs.Cuts.{cut_unique, Lacks-append}
+use Rattle.certificate.specs.private.Reading.{IsLineOf, IsNoLine, IsThreeFields}
+use Rattle.sequence.proofs.ForCallers.{cut_unique, Lacks-append}
 use Rattle.certificate.proofs.NumberLemmas.{IsNumber-Lacks, small_decimal-IsNumber, capped_value-decimal, decimal-Lacks}
 use Rattle.certificate.proofs.NumberLemmas.{decimal-capped_value}
 use Rattle.certificate.proofs.VersionLemmas.{not_both_forms, numbers_unique, numbers_lack, capped_decimals, decimals-capped, joined_decimals, decimals_are}

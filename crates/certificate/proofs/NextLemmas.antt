@@ -8,11 +8,11 @@ use Rattle.certificate.specs.declared.lines.Line.{Line}
 use Rattle.certificate.specs.declared.lines.Line.TheVariants.{Final, Edge, Edges}
 use Rattle.certificate.specs.declared.version.Version.{Version}
 use Rattle.certificate.specs.Bytes.{IsCutAt}
-use Rattle.certificate.specs.Reading.{beyond, capped_value}
+use Rattle.certificate.specs.private.Reading.{beyond, capped_value}
 use Rattle.certificate.specs.SafeText.{line_text, letters_of, IsInRange, AreNoTwoEdges, said_by, all_said}
-use Rattle.certificate.specs.Reading.{IsLineOf, IsNoLine, AddsAll, HasSecond, HasLines, HasRead, GoesOn, body_text}
+use Rattle.certificate.specs.private.Reading.{IsLineOf, IsNoLine, AddsAll, HasSecond, HasLines, HasRead, GoesOn, body_text}
 use Rattle.certificate.specs.LineLayout.{lines_text}
-use Rattle.certificate.specs.NextLine.{TakesLine, IsOfVersion}
+use Rattle.certificate.specs.private.NextLine.{TakesLine, IsOfVersion}
 use Rattle.certificate.proofs.VersionLemmas.{all_said-push, AllByRecursion-push}
 use Rattle.certificate.proofs.LineLemmas.{line_unique, line_spelled, heads_differ}
 use Rattle.certificate.proofs.ReadingLemmas.{BeginsWithLine, ends, continues, GoesOn-begins, IsInRange-weaken, second_edge_ends}

@@ -11,7 +11,7 @@ use Rattle.std.proofs.lemmas.Bool.{cases_eq}
 use Rattle.std.proofs.lemmas.Bool.Decides.{nat_tests}
 use Rattle.certificate.specs.Bytes.{Lacks}
 use Rattle.certificate.specs.Numbers.{IsNumber}
-use Rattle.certificate.specs.Reading.{beyond, capped_value}
+use Rattle.certificate.specs.private.Reading.{beyond, capped_value}
 
 -- each byte of digits is a digit
 pub AllDigits-at : (ds : List ℕ) (i : ℕ) → AllDigits 10 ds → i < length ds → digit_value (get_or ds i 0) < 10

@@ -13,7 +13,7 @@ use Rattle.certificate.specs.Bytes.{Lacks}
 use Rattle.certificate.specs.SafeText.{letter_text, letter_line, title, letters_of, AreLettersOf}
 use Rattle.certificate.specs.LineLayout.{letters_text, before_states, opening_text}
 use Rattle.certificate.specs.Faults.{IsOtherVersion, IsFirstLineFault, IsOpeningFault, IsLetterLine, FaultInFirst, FaultInOpening}
-use Rattle.sequence.proofs.Cuts.{cut_unique, no_cut, Lacks-append}
+use Rattle.sequence.proofs.ForCallers.{cut_unique, no_cut, Lacks-append}
 use Rattle.certificate.proofs.NumberLemmas.{IsNumber-Lacks, decimal-IsNumber, small_decimal-IsNumber}
 use Rattle.certificate.proofs.AlphabetLemmas.{letter_text-no_line_feed, letter_text-laid_out, system_letter_text-injective}
 use Rattle.certificate.proofs.LineLemmas.{heads_differ}

@@ -13,12 +13,12 @@ use Rattle.certificate.specs.declared.lines.Line.{Line}
 use Rattle.certificate.specs.declared.lines.Line.TheVariants.{Final, Edge, Edges}
 use Rattle.certificate.specs.declared.version.Version.{Version}
 use Rattle.certificate.specs.Bytes.{Lacks, IsCutAt}
-use Rattle.certificate.specs.Reading.{beyond}
+use Rattle.certificate.specs.private.Reading.{beyond}
 use Rattle.certificate.specs.SafeText.{letter_text, line_text, letters_of, IsInRange, HaveNoTwoEdges}
-use Rattle.certificate.specs.Reading.{GoesOn, body_text}
+use Rattle.certificate.specs.private.Reading.{GoesOn, body_text}
 use Rattle.certificate.specs.LineLayout.{IsEdgeLine, lines_text}
 use Rattle.certificate.specs.Faults.{Says, IsSecondAfter, HasNoLayout, NamesNoLetter, IsLaterLineFault, FaultInLater, FaultInBody}
-use Rattle.sequence.proofs.Cuts.{cut_unique, no_cut}
+use Rattle.sequence.proofs.ForCallers.{cut_unique, no_cut}
 use Rattle.certificate.proofs.NumberLemmas.{IsNumber-Lacks, decimal-IsNumber, small_decimal-IsNumber}
 use Rattle.certificate.proofs.VersionLemmas.{not_both_forms, decimal_values, HaveNoTwoEdges-front}
 use Rattle.certificate.proofs.AlphabetLemmas.{letter_text-no_space, letter_text-laid_out, system_letter_text-injective}

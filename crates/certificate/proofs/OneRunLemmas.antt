@@ -13,8 +13,8 @@ use Rattle.configuration_words.specs.Texts.{configuration_text}
 use Rattle.certificate.specs.RunText.{rule_name, start_line, step_line, unsafe_text, IsStepOf, MeansRun}
 use Rattle.certificate.specs.RunLayout.{IsStartLayout, IsStepLayout}
 use Rattle.certificate.specs.RunFaults.{IsStartFault, IsStepFault, FaultInStart, FaultInNextStep, FaultInSteps, FaultInRun, steps_text}
-use Rattle.certificate.specs.NextStep.{IsRunText}
-use Rattle.sequence.proofs.Cuts.{cut_unique, no_cut}
+use Rattle.certificate.specs.private.NextStep.{IsRunText}
+use Rattle.sequence.proofs.ForCallers.{cut_unique, no_cut}
 use Rattle.certificate.proofs.LineLemmas.{heads_differ}
 use Rattle.certificate.proofs.RunLineLemmas.{start_layout, start_lacks, same_start, step_layout, step_lacks, same_step}
 

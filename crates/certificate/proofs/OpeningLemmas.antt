@@ -7,13 +7,13 @@ use Rattle.certificate.specs.declared.version.Version.{Version}
 use Rattle.certificate.specs.declared.version.Version.TheVariants.{One, Two}
 use Rattle.certificate.specs.SafeText.{title, letters_of}
 use Rattle.certificate.specs.Bytes.{Lacks, IsCutAt}
-use Rattle.certificate.specs.Reading.{beyond, capped_value}
+use Rattle.certificate.specs.private.Reading.{beyond, capped_value}
 use Rattle.certificate.specs.LineLayout.{letters_text, before_states, opening_text}
 use Rattle.certificate.specs.declared.fault.CertFault.{CertFault}
 use Rattle.certificate.specs.declared.fault.CertFault.TheVariants.{BadLine, UnknownName, TooMany, TwoLetters}
 use Rattle.certificate.specs.Faults.{IsOtherVersion, IsLetterLine, IsOpeningFault, FaultInOpening}
-use Rattle.certificate.specs.NextLine.{HasNoLetterLine}
-use Rattle.sequence.proofs.Cuts.{cut_unique, Lacks-append}
+use Rattle.certificate.specs.private.NextLine.{HasNoLetterLine}
+use Rattle.sequence.proofs.ForCallers.{cut_unique, Lacks-append}
 use Rattle.certificate.proofs.NumberLemmas.{IsNumber-Lacks, decimal-Lacks}
 
 -- the fields of another version's line are those that it is cut into

@@ -15,11 +15,11 @@ use Rattle.certificate.specs.declared.lines.Line.{Line}
 use Rattle.certificate.specs.declared.lines.Line.TheVariants.{Final, Edge, Edges}
 use Rattle.certificate.specs.declared.version.Version.{Version}
 use Rattle.certificate.specs.Bytes.{Lacks, IsCutAt}
-use Rattle.certificate.specs.Reading.{beyond}
+use Rattle.certificate.specs.private.Reading.{beyond}
 use Rattle.certificate.specs.SafeText.{line_text, letters_of, IsInRange, AreNoTwoEdges, HaveNoTwoEdges, IsAutomatonOf, said_by, all_said}
-use Rattle.certificate.specs.Reading.{HasLines, AddsAll, HasSecond, body_text, GoesOn}
+use Rattle.certificate.specs.private.Reading.{HasLines, AddsAll, HasSecond, body_text, GoesOn}
 use Rattle.certificate.specs.LineLayout.{lines_text}
-use Rattle.sequence.proofs.Cuts.{cut_unique, no_cut}
+use Rattle.sequence.proofs.ForCallers.{cut_unique, no_cut}
 use Rattle.certificate.proofs.VersionLemmas.{all_said-push, HaveNoTwoEdges-front}
 use Rattle.certificate.proofs.LineLemmas.{line_text-no_line_feed}
 

@@ -12,8 +12,8 @@ use Rattle.protocol_model.specs.Names.{is_word, IsName}
 use Rattle.protocol_model.specs.Patterns.{has_any_length}
 use Rattle.certificate.specs.Bytes.{Lacks, IsCutAt}
 use Rattle.certificate.specs.RunLayout.{IsNameOfAnyLength, NamedPart, names_text, named_part_text, IsPartFor, ArePartsFor, IsLaidOut}
-use Rattle.certificate.specs.LayoutParts.{AreNames, IsListText, IsPartText}
-use Rattle.sequence.proofs.Cuts.{cut_unique, no_cut, Lacks-append}
+use Rattle.certificate.specs.private.LayoutParts.{AreNames, IsListText, IsPartText}
+use Rattle.sequence.proofs.ForCallers.{cut_unique, no_cut, Lacks-append}
 
 -- words lack each byte that is no word's
 word_bytes_lack : (byte : ℕ) → is_word_byte byte ≡ false → (name : List ℕ) → list_all is_word_byte name ≡ true → Lacks byte name

@@ -4,7 +4,7 @@ use Rattle.std.proofs.lemmas.List.{append_assoc, append_cancel_left}
 use Rattle.protocol_model.specs.System.{SystemData}
 use Rattle.certificate.specs.Bytes.{Lacks, IsCutAt}
 use Rattle.certificate.specs.RunLayout.{IsNameOfAnyLength, IsLaidOut, IsStartLayout, IsStepLayout}
-use Rattle.sequence.proofs.Cuts.{cut_unique, no_cut}
+use Rattle.sequence.proofs.ForCallers.{cut_unique, no_cut}
 use Rattle.certificate.proofs.RunLayoutLemmas.{name_lacks}
 
 pub start_layout_cut : (s : SystemData) (line text : List ℕ) → line ≡ codes "start " ++ text → IsStartLayout s line → IsLaidOut s.sections text

@@ -9,7 +9,7 @@ use Rattle.std.proofs.lemmas.List.{append_assoc, append-nil, append_cancel_left,
 use Rattle.std.proofs.lemmas.List.Quantifiers.{position-Some}
 use Rattle.std.proofs.lemmas.Slice.Eq.{bytes_eq-Decides}
 use Rattle.std.proofs.Math.Bool.{or-true}
-use Rattle.protocol_model.proofs.Lists.{position_is}
+use Rattle.protocol_model.proofs.ForCallers.{position_is}
 use Rattle.forms.specs.Symbol.{keyword_of}
 use Rattle.protocol_model.specs.declared.system.Section.{Section}
 use Rattle.protocol_model.specs.declared.system.Rule.{Rule}
@@ -18,13 +18,12 @@ use Rattle.protocol_model.specs.Names.{IsName}
 use Rattle.protocol_model.specs.System.{SystemData, IsValid, IsValidSection, IsValidRule, letter_count}
 use Rattle.protocol_model.specs.Patterns.{has_any_length, fits, list_fits, lists_fit}
 use Rattle.configuration_words.specs.Texts.{configuration_text, letter_name, list_text, part_text, part_texts}
-use Rattle.configuration_words.proofs.LetterLemmas.{letter_is_name, same_letter}
-use Rattle.configuration_words.proofs.WordLemmas.{fitting_letters}
+use Rattle.configuration_words.proofs.ForCallers.{letter_is_name, same_letter, fitting_letters}
 use Rattle.certificate.specs.Bytes.{Lacks, IsCutAt}
-use Rattle.certificate.specs.NextStep.{rule_index}
+use Rattle.certificate.specs.private.NextStep.{rule_index}
 use Rattle.certificate.specs.RunText.{rule_name, start_line, step_line, IsStepOf}
 use Rattle.certificate.specs.RunLayout.{is_name_of_any_length, IsNameOfAnyLength, NamedPart, names_text, named_part_text, IsPartFor, ArePartsFor, IsLaidOut, IsStartLayout, IsStepLayout}
-use Rattle.sequence.proofs.Cuts.{cut_unique, no_cut, Lacks-append}
+use Rattle.sequence.proofs.ForCallers.{cut_unique, no_cut, Lacks-append}
 use Rattle.certificate.proofs.RunLayoutLemmas.{name_lacks, name_of_any_length, later_names, later_parts, part_lacks, laid_out_lacks}
 
 -- the names of the letters of a list

@@ -8,7 +8,7 @@ use Rattle.protocol_model.specs.System.{SystemData}
 use Rattle.certificate.specs.declared.lines.Line.{Line}
 use Rattle.certificate.specs.declared.version.Version.{Version}
 use Rattle.certificate.specs.SafeText.{title, letter_line, letters_of, line_text, safe_text, AreLettersOf, MeansAutomaton}
-use Rattle.certificate.specs.Reading.{body_text, GoesOn}
+use Rattle.certificate.specs.private.Reading.{body_text, GoesOn}
 use Rattle.certificate.specs.LineLayout.{letters_text, opening_text}
 use Rattle.certificate.proofs.OpeningLemmas.{opening_before}
 

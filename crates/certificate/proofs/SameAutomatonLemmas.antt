@@ -6,7 +6,7 @@ use Rattle.std.proofs.lemmas.List.Elements.{All-head, All-tail, All-weaker}
 use Rattle.std.proofs.lemmas.Option.{none-some, same_Some}
 use Rattle.word_automata.specs.Path.{Node, edges_of, is_accepting}
 use Rattle.word_automata.specs.Automaton.{Automaton, target, find_target, HasIncreasingLetters}
-use Rattle.word_automata.proofs.Targets.{ordered_edges}
+use Rattle.word_automata.proofs.ForCallers.{ordered_edges}
 use Rattle.certificate.specs.declared.lines.Line.{Line}
 use Rattle.certificate.specs.SafeText.{IsAutomatonOf}
 

@@ -20,10 +20,10 @@ use Rattle.certificate.specs.declared.version.Version.{Version}
 use Rattle.certificate.specs.declared.version.Version.TheVariants.{One, Two}
 use Rattle.certificate.specs.Bytes.{Lacks, IsCutAt}
 use Rattle.certificate.specs.Numbers.{IsNumber}
-use Rattle.certificate.specs.Reading.{beyond, capped_value}
+use Rattle.certificate.specs.private.Reading.{beyond, capped_value}
 use Rattle.certificate.specs.LineLayout.{AreNumbers, letters_text}
 use Rattle.certificate.specs.SafeText.{letter_line, NamesLetters, HasIndices, AreLettersOf, AreNoTwoEdges, HaveNoTwoEdges, said_by, all_said}
-use Rattle.sequence.proofs.Cuts.{cut_unique, no_cut, Lacks-append}
+use Rattle.sequence.proofs.ForCallers.{cut_unique, no_cut, Lacks-append}
 use Rattle.certificate.proofs.NumberLemmas.{IsNumber-Lacks, decimal-IsNumber, small_decimal-IsNumber, capped_value-decimal, decimal-capped_value}
 
 -- no version names letters in edges and has indices

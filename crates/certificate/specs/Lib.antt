@@ -1,15 +1,11 @@
-pub mod Alphabet
 pub mod Bytes
 pub mod Faults
-pub mod LayoutParts
 pub mod LineLayout
 pub mod Meaning
-pub mod NextLine
-pub mod NextStep
 pub mod Numbers
 pub mod OneReading
-pub mod Reading
 pub mod RunFaults
 pub mod RunLayout
 pub mod RunText
 pub mod SafeText
+pub mod private

@@ -5,7 +5,7 @@ ghost use Rattle.std.specs.Prelude.{◌≡◌, ◌++◌, ◌+◌, ◌^◌, ◌<�
 ghost use Rattle.protocol_model.specs.System.{IsValid};
 ghost use Rattle.protocol_model.specs.Words.{automata_letters};
 ghost use Rattle.certificate.specs.SafeText.{letter_text};
-ghost use Rattle.certificate.specs.Alphabet.{section_texts, letter_texts, lists_of, IsIndexOf};
+ghost use Rattle.certificate.specs.private.Alphabet.{section_texts, letter_texts, lists_of, IsIndexOf};
 
 use protocol_model::{Section, System};
 use std::alloc::{AllocError, Global};
@@ -23,7 +23,7 @@ pub struct Alphabet<'a> {
 
 impl<'a> Model for Alphabet<'a> {
     ghost use Rattle.protocol_model.specs.System.{SystemData};
-    ghost use Rattle.certificate.specs.Alphabet.{IsAlphabetOf};
+    ghost use Rattle.certificate.specs.private.Alphabet.{IsAlphabetOf};
 
     ghost Value = { SystemData };
 

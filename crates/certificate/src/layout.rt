@@ -3,7 +3,7 @@
 
 ghost use Rattle.std.specs.Prelude.{◌≡◌, ◌↔◌, ◌||◌, IsTrue};
 ghost use Rattle.certificate.specs.RunLayout.{is_name_of_any_length, IsLaidOut, IsStartLayout, IsStepLayout};
-ghost use Rattle.certificate.specs.LayoutParts.{AreNames, IsListText, IsPartText};
+ghost use Rattle.certificate.specs.private.LayoutParts.{AreNames, IsListText, IsPartText};
 
 use crate::bytes::{after_prefix, cut_at};
 use protocol_lexer::are_word_bytes;

@@ -7,7 +7,7 @@ ghost use Rattle.protocol_model.specs.System.{IsValid};
 ghost use Rattle.certificate.specs.declared.fault.CertFault.TheVariants.{Memory};
 ghost use Rattle.certificate.specs.SafeText.{AreLettersOf};
 ghost use Rattle.certificate.specs.LineLayout.{letters_text};
-ghost use Rattle.certificate.specs.NextLine.{HasNoLetterLine, FaultInLetters, IsNextLetter};
+ghost use Rattle.certificate.specs.private.NextLine.{HasNoLetterLine, FaultInLetters, IsNextLetter};
 
 use crate::alphabet::Alphabet;
 use crate::bytes::{after_prefix, cut_at};

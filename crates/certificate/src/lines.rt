@@ -10,8 +10,8 @@ ghost use Rattle.certificate.specs.declared.version.Version.{Version};
 ghost use Rattle.certificate.specs.declared.version.Version.TheVariants.{One};
 ghost use Rattle.certificate.specs.Bytes.{Lacks};
 ghost use Rattle.certificate.specs.SafeText.{AreLettersOf, letters_of};
-ghost use Rattle.certificate.specs.NextLine.{HasLineFault, IsLetterFault, IsReadingOf, IsEdgesReading, AreValuesOf};
-ghost use Rattle.certificate.specs.Reading.{IsLineOf, IsNoLine, IsThreeFields};
+ghost use Rattle.certificate.specs.private.NextLine.{HasLineFault, IsLetterFault, IsReadingOf, IsEdgesReading, AreValuesOf};
+ghost use Rattle.certificate.specs.private.Reading.{IsLineOf, IsNoLine, IsThreeFields};
 
 use crate::alphabet::Alphabet;
 use crate::bytes::{after_prefix, cut_at};

@@ -3,7 +3,7 @@
 
 ghost use Rattle.std.specs.Prelude.{◌≡◌, MatchOption};
 ghost use Rattle.certificate.specs.Numbers.{IsNumber};
-ghost use Rattle.certificate.specs.Reading.{capped_value};
+ghost use Rattle.certificate.specs.private.Reading.{capped_value};
 
 /// A number that is past every limit. A larger one is read as this one.
 pub const BEYOND: usize = 10_000_000;

@@ -4,7 +4,7 @@
 ghost use Rattle.std.specs.Prelude.{◌≡◌, ◌≢◌, ◌↔◌, ◌++◌, ◌∷◌, ◌≤◌, ℕ, List, IfOk, IfErr, IsOkAnd, IsTrue, OnErr, MatchOption, codes, decimal};
 ghost use Rattle.protocol_model.specs.System.{SystemData};
 ghost use Rattle.certificate.specs.declared.version.Version.TheVariants.{One};
-ghost use Rattle.certificate.specs.NextLine.{IsNotUnsafe, IsNotSecond};
+ghost use Rattle.certificate.specs.private.NextLine.{IsNotUnsafe, IsNotSecond};
 ghost use Rattle.certificate.specs.Faults.{FaultInFirst, FaultInOpening, IsFirstLineFault, IsOtherVersion, IsKind};
 
 use crate::bytes::{after_prefix, cut_at};

@@ -1,5 +1,6 @@
-//! The text of a certificate that is a run: its lines are read one after the other, in one pass over the bytes. A line is that of
-//! the configuration that is read from it and printed again as it stands there; the layout of a line is looked at only where this fails.
+//! The text of a certificate that is a run: its lines are read one after the other, in one pass over the bytes. A line is that of the
+//! configuration that is read from it and printed again as it stands there; the layout of a line is looked at only where this fails. The
+//! name of a rule is compared with those of the rules up to it.
 
 ghost use Rattle.std.specs.Prelude.{◌≡◌, ◌≢◌, ◌+◌, ◌++◌, ◌∷◌, ◌^◌, ◌<◌, [], IfOk, IfErr, IfSome, IsTrue, codes, length, position};
 ghost use Rattle.std.specs.Str.{bytes_eq};
@@ -11,7 +12,7 @@ ghost use Rattle.protocol_model.specs.declared.system.Configuration.{Configurati
 ghost use Rattle.certificate.specs.declared.fault.CertFault.TheVariants.{Memory};
 ghost use Rattle.certificate.specs.RunText.{rule_name, start_line, step_line, IsRunOf, IsStepOf};
 ghost use Rattle.certificate.specs.RunFaults.{FaultInRun, FaultInStart, FaultInSteps, IsStartFault, IsStepFault, NamesNoStart, NamesNoStep, steps_text};
-ghost use Rattle.certificate.specs.NextStep.{rule_index, IsConfigurationAt, IsNextStep, IsRuleAt, IsRunText, IsStartAt, IsStepAt};
+ghost use Rattle.certificate.specs.private.NextStep.{rule_index, IsConfigurationAt, IsNextStep, IsRuleAt, IsRunText, IsStartAt, IsStepAt};
 
 use crate::bytes::{after_prefix, cut_at};
 use crate::fault::CertFault;

@@ -8,10 +8,10 @@ ghost use Rattle.protocol_model.specs.Words.{automata_letters};
 ghost use Rattle.certificate.specs.declared.fault.CertFault.TheVariants.{Memory};
 ghost use Rattle.certificate.specs.declared.safe.Certificate.{Certificate};
 ghost use Rattle.certificate.specs.SafeText.{MeansAutomaton, IsInRange, AreLettersOf, letters_of, said_by};
-ghost use Rattle.certificate.specs.Reading.{GoesOn, HasLines, AddsAll, HasSecond};
+ghost use Rattle.certificate.specs.private.Reading.{GoesOn, HasLines, AddsAll, HasSecond};
 ghost use Rattle.certificate.specs.Faults.{HasFault, FaultInBody};
 ghost use Rattle.certificate.specs.Meaning.{IsCertificateOf};
-ghost use Rattle.certificate.specs.NextLine.{IsNotUnsafe, IsNotSecond, IsNext, IsLocated, IsOfVersion, AreEdgesInRange, edges_by};
+ghost use Rattle.certificate.specs.private.NextLine.{IsNotUnsafe, IsNotSecond, IsNext, IsLocated, IsOfVersion, AreEdgesInRange, edges_by};
 ghost use Rattle.certificate.specs.OneReading.{MeaningIsDetermined, FaultIsDetermined, FaultExcludesMeaning};
 
 use crate::alphabet::Alphabet;

@@ -9,8 +9,8 @@ use Rattle.protocol_model.specs.Patterns.{fits}
 use Rattle.protocol_model.specs.Words.{word_of}
 use Rattle.boolean_operations.specs.LeastWords.{AcceptsNothing, IsLeastAccepted}
 use Rattle.certificate_checker.specs.Answers.{IsLeastConfiguration}
-use Rattle.certificate_checker.specs.Parts.{AcceptsConfigurations, IsAcceptedWord}
-use Rattle.configuration_words.proofs.WordFacts.{word_of-injective}
+use Rattle.certificate_checker.specs.private.Parts.{AcceptsConfigurations, IsAcceptedWord}
+use Rattle.configuration_words.proofs.ForCallers.{word_of-injective}
 
 module _ (s : SystemData) where
   -- properties of the same configurations have the same least ones

@@ -1,3 +1,4 @@
+pub mod ForCallers
 pub mod Soundness
 pub mod SameLanguage
 pub mod Least

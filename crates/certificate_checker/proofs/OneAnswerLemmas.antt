@@ -1,14 +1,14 @@
 -- A certificate has one answer.
 use Rattle.std.proofs.Common.{◌≡◌, ℕ, IsTrue, refl, sym, ap, subst, ◌∙◌, inl, inr}
 use Rattle.std.proofs.lemmas.Bool.{both_ways, cases_order}
-use Rattle.exploration.proofs.Words.{is_before-total}
+use Rattle.exploration.proofs.ForCallers.{is_before-total}
 use Rattle.word_automata.specs.Automaton.{Automaton}
 use Rattle.protocol_model.specs.declared.system.Configuration.{Configuration}
 use Rattle.protocol_model.specs.declared.system.Run.{Run}
 use Rattle.protocol_model.specs.System.{SystemData}
 use Rattle.protocol_model.specs.Patterns.{fits}
 use Rattle.protocol_model.specs.Words.{word_of}
-use Rattle.protocol_model.proofs.Fitting.{initial_fits, bad_fits}
+use Rattle.protocol_model.proofs.ForCallers.{initial_fits, bad_fits}
 use Rattle.protocol_steps.specs.OneAnswer.{RunAnswerIsDetermined}
 use Rattle.protocol_steps.specs.declared.runs.RunAnswer.{RunAnswer}
 use Rattle.protocol_steps.specs.declared.runs.RunAnswer.TheVariants as run_answer
@@ -16,10 +16,10 @@ use Rattle.protocol_steps.specs.Answers.{IsRunAnswer}
 use Rattle.certificate.specs.declared.safe.Certificate.{Certificate}
 use Rattle.certificate.specs.declared.safe.Certificate.TheVariants.{Automaton as AutomatonProof, BadRun}
 use Rattle.certificate_checker.specs.Proof.{Proves}
-use Rattle.certificate_checker.specs.Answers.{IsAnswer, IsAutomatonAnswer, IsAnswerToRun, IsLeastConfiguration, IsLeastExit, IsMissing, IsHeld, IsLeft, IsAcceptedBefore, HasNone}
+use Rattle.certificate_checker.specs.Answers.{IsAnswer, IsAutomatonAnswer, IsAnswerToRun, IsLeastConfiguration, IsLeastExit, IsMissing, IsHeld, IsExit, IsAcceptedBefore, HasNone}
 use Rattle.certificate_checker.specs.declared.answer.Answer.{Answer}
 use Rattle.certificate_checker.specs.declared.answer.Answer.TheVariants.{Valid, InitialMissing, BadHeld, Leaves, NotInitial, NotStep, NotBad}
-use Rattle.configuration_words.proofs.WordFacts.{word_of-injective}
+use Rattle.configuration_words.proofs.ForCallers.{word_of-injective}
 
 -- a property of configurations that fit has one least configuration at most
 least_once : (s : SystemData) (P : Configuration → Type 0) → ((c : Configuration) → P c → IsTrue (fits s c)) → (c d : Configuration)
@@ -39,7 +39,7 @@ module _ (s : SystemData) (m : Automaton) where
   proves_none_held : Proves s m → HasNone (IsHeld s m)
   proves_none_held proves c held = proves.no_bad c held.0 held.1
 
-  proves_none_left : Proves s m → (r : ℕ) (d : Configuration) → IsLeft s m r d → ⊥
+  proves_none_left : Proves s m → (r : ℕ) (d : Configuration) → IsExit s m r d → ⊥
   proves_none_left proves r d left = both_ways _ left.0 (proves.closed r left.1.0 d left.1.1.0 left.1.1.1)
 
   missing_once : (c d : Configuration) → IsLeastConfiguration s (IsMissing s m) c → IsLeastConfiguration s (IsMissing s m) d → c ≡ d
@@ -59,7 +59,7 @@ module _ (s : SystemData) (m : Automaton) where
 
   after_once : (r : ℕ) (c d e f : Configuration) → IsLeastExit s m r c d → IsLeastExit s m r e f → d ≡ f
   after_once r c d e f one other =
-      least_once s (IsLeft s m r) (λ x left. left.1.1.1.fits_after) d f one.after other.after
+      least_once s (IsExit s m r) (λ x left. left.1.1.1.fits_after) d f one.after other.after
 
   before_once : (r : ℕ) (c d e : Configuration) → IsLeastExit s m r c d → IsLeastExit s m r e d → c ≡ e
   before_once r c d e one other =

@@ -9,16 +9,16 @@ use Rattle.protocol_model.specs.declared.system.Configuration.{Configuration}
 use Rattle.protocol_model.specs.System.{SystemData}
 use Rattle.protocol_model.specs.Patterns.{fits, is_initial, is_bad}
 use Rattle.protocol_model.specs.Steps.{IsStep}
-use Rattle.protocol_model.proofs.Fitting.{initial_fits, bad_fits}
+use Rattle.protocol_model.proofs.ForCallers.{initial_fits, bad_fits}
 use Rattle.protocol_model.specs.Words.{word_of, IsInitialWord, IsBadWord}
 use Rattle.step_compiler.specs.Rules.{IsRuleStep}
 use Rattle.image_preimage.specs.Images.{IsImage, IsPreimage}
 use Rattle.boolean_operations.specs.LeastWords.{AcceptsNothing}
 use Rattle.boolean_operations.specs.Inclusion.{IsOutside, IsIncluded}
 use Rattle.certificate_checker.specs.Proof.{Proves}
-use Rattle.certificate_checker.specs.Answers.{IsLeastConfiguration, IsMissing, IsHeld, IsLeft, IsAcceptedBefore, HasNone}
-use Rattle.certificate_checker.specs.Parts.{AcceptsConfigurations, IsAcceptedWord, IsBefore}
-use Rattle.configuration_words.proofs.WordFacts.{word_of-injective}
+use Rattle.certificate_checker.specs.Answers.{IsLeastConfiguration, IsMissing, IsHeld, IsExit, IsAcceptedBefore, HasNone}
+use Rattle.certificate_checker.specs.private.Parts.{AcceptsConfigurations, IsAcceptedWord, IsBefore}
+use Rattle.configuration_words.proofs.ForCallers.{word_of-injective}
 use Rattle.certificate_checker.proofs.Least.{least-same, chosen-configurations, chosen-to, chosen-from, chosen-none}
 
 module _ (s : SystemData) (m : Automaton) where
@@ -57,7 +57,7 @@ module _ (s : SystemData) (m : Automaton) where
   module _ (r : ℕ) (t : Transducer) (compiled : (u w : List ℕ) → Relates t u w ↔ IsRuleStep s r u w) where
     -- the words outside the automaton to which the rule leads are those of the configurations that are left
     module _ (n : NondeterministicAutomaton) (image : (w : List ℕ) → Accepts n w ↔ IsImage t m w) where
-      left-outside : (d : Configuration) → IsLeft s m r d → IsOutside n m (word_of s d)
+      left-outside : (d : Configuration) → IsExit s m r d → IsOutside n m (word_of s d)
       left-outside d left = (
         (image (word_of s d)).1 (
           word_of s left.1.0,
@@ -68,7 +68,7 @@ module _ (s : SystemData) (m : Automaton) where
         left.0,
       )
 
-      pub outside-left : (w : List ℕ) → IsOutside n m w → (d : Configuration) × IsTrue (fits s d) × (w ≡ word_of s d) × IsLeft s m r d
+      pub outside-left : (w : List ℕ) → IsOutside n m w → (d : Configuration) × IsTrue (fits s d) × (w ≡ word_of s d) × IsExit s m r d
       outside-left w outside =
           let found = (image w).0 outside.0 in
           let step : IsRuleStep s r found.0 w = (compiled found.0 w).0 found.2 in (
@@ -81,17 +81,17 @@ module _ (s : SystemData) (m : Automaton) where
             ),
           )
 
-      pub none-left : IsIncluded n m → HasNone (IsLeft s m r)
+      pub none-left : IsIncluded n m → HasNone (IsExit s m r)
       none-left included d left =
           let outside = left-outside d left in
           both_ways (accepts m (word_of s d)) outside.1 (included (word_of s d) outside.0)
 
       pub least-left : (w : List ℕ) (d : Configuration) → IsLeastWord (IsOutside n m) w → IsTrue (fits s d) → w ≡ word_of s d
-          → IsLeastConfiguration s (IsLeft s m r) d
+          → IsLeastConfiguration s (IsExit s m r) d
       least-left w d least fit e =
           let found = outside-left w least.0 in
           let same : found.0 ≡ d = word_of-injective s found.0 d found.1 fit (sym found.2 ∙ e) in (
-            subst (λ (x : Configuration). IsLeft s m r x) same found.3,
+            subst (λ (x : Configuration). IsExit s m r x) same found.3,
             λ c left before. least.1 (word_of s c) (left-outside c left) (subst (λ (x : List ℕ). IsTrue (is_before (word_of s c) x)) (sym e) before),
           )
 
@@ -142,11 +142,11 @@ module _ (s : SystemData) (m : Automaton) where
         → IsLeastConfiguration s (IsAcceptedBefore s m r d) c
     least-before c least = least-same s (IsBefore s m r word) (IsAcceptedBefore s m r d) c before-to before-from least
 
-    pub some-before : IsLeft s m r d → HasNone (IsBefore s m r word) → ⊥
+    pub some-before : IsExit s m r d → HasNone (IsBefore s m r word) → ⊥
     some-before left none = none left.1.0 (before-from left.1.0 left.1.1)
 
   -- an automaton that fails in no part proves the system
-  pub proves : HasNone (IsMissing s m) → HasNone (IsHeld s m) → ((r : ℕ) → HasNone (IsLeft s m r)) → Proves s m
+  pub proves : HasNone (IsMissing s m) → HasNone (IsHeld s m) → ((r : ℕ) → HasNone (IsExit s m r)) → Proves s m
   proves missing held left = record { initial = initial; closed = closed; no_bad = λ c bad accepted. held c (bad, accepted) }
     where
       initial-by : (c : Configuration) (b : Bool) → accepts m (word_of s c) ≡ b → IsTrue (is_initial s c) → accepts m (word_of s c) ≡ true

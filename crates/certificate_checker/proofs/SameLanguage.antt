@@ -6,7 +6,7 @@ use Rattle.protocol_model.specs.declared.system.Configuration.{Configuration}
 use Rattle.protocol_model.specs.System.{SystemData}
 use Rattle.protocol_model.specs.Words.{word_of}
 use Rattle.certificate_checker.specs.Proof.{Proves}
-use Rattle.certificate_checker.specs.Answers.{IsAutomatonAnswer, IsLeastConfiguration, IsLeastExit, IsMissing, IsHeld, IsLeft, IsAcceptedBefore, HasNone, IsAccepted, IsRefused}
+use Rattle.certificate_checker.specs.Answers.{IsAutomatonAnswer, IsLeastConfiguration, IsLeastExit, IsMissing, IsHeld, IsExit, IsAcceptedBefore, HasNone, IsAccepted, IsRefused}
 use Rattle.certificate_checker.specs.declared.answer.Answer.{Answer}
 use Rattle.certificate_checker.specs.declared.answer.Answer.TheVariants.{Valid, InitialMissing, BadHeld, Leaves, NotInitial, NotStep, NotBad}
 
@@ -37,14 +37,14 @@ module _ (s : SystemData) (m n : Automaton) (same : SameLanguage m n) where
   before_alike : (r : ℕ) (d c : Configuration) → IsAcceptedBefore s n r d c → IsAcceptedBefore s m r d c
   before_alike r d c h = (accepted_alike c h.0, h.1)
 
-  left_alike : (r : ℕ) (d : Configuration) → IsLeft s n r d → IsLeft s m r d
+  left_alike : (r : ℕ) (d : Configuration) → IsExit s n r d → IsExit s m r d
   left_alike r d h = (refused_alike d h.0, (h.1.0, before_alike r d h.1.0 h.1.1))
 
 module _ (s : SystemData) (m n : Automaton) (same : SameLanguage m n) where
   exit_alike : (r : ℕ) (c d : Configuration) → IsLeastExit s n r c d → IsLeastExit s m r c d
   exit_alike r c d h = record {
     earlier_rules = λ q e less left. h.earlier_rules q e less (left_alike s n m (reversed m n same) q e left);
-    after = least_alike s (IsLeft s n r) (IsLeft s m r) (left_alike s m n same r) (left_alike s n m (reversed m n same) r) d h.after;
+    after = least_alike s (IsExit s n r) (IsExit s m r) (left_alike s m n same r) (left_alike s n m (reversed m n same) r) d h.after;
     before = least_alike s (IsAcceptedBefore s n r d) (IsAcceptedBefore s m r d) (before_alike s m n same r d)
         (before_alike s n m (reversed m n same) r d) c h.before;
   }

@@ -5,11 +5,11 @@ use Rattle.std.proofs.lemmas.Bool.{eq-eqb, eqb-true, false≢true, cases_Bool}
 use Rattle.std.proofs.lemmas.List.{drop_all}
 use Rattle.std.proofs.lemmas.List.Elements.{All-nil, All-cons}
 use Rattle.std.proofs.lemmas.Option.{slice_get_within, get_or_from_slice_get}
-use Rattle.exploration.specs.System.{System, accepts_by, accepts_by_from, IsSuccessors}
-use Rattle.transducers.proofs.ListLemmas.{slice_get-cases, slice_get-within}
+use Rattle.exploration.specs.DeterministicSystem.{DeterministicSystem, accepts_by, accepts_by_from, IsSuccessors}
+use Rattle.transducers.proofs.ForCallers.{slice_get-cases, slice_get-within}
 use Rattle.certificate_checker.specs.SingleWord.{step_along, single_word}
 
-module _ {S : Type 0} (t : System S) where
+module _ {S : Type 0} (t : DeterministicSystem S) where
   accepts_by-none : (s : S) (a : ℕ) (w : List ℕ) → t.step s a ≡ None → accepts_by_from t s (a ∷ w) ≡ false
   accepts_by-none s a w e = rw (e, accepts_by_from) refl
 
@@ -17,7 +17,7 @@ module _ {S : Type 0} (t : System S) where
   accepts_by-some s r a w e = rw (e, accepts_by_from) refl
 
 module _ (letters : ℕ) (word : List ℕ) where
-  abbrev its : System ℕ
+  abbrev its : DeterministicSystem ℕ
   its = single_word letters word
 
   step-past : (n a : ℕ) → slice_get word n ≡ None → step_along word n a ≡ None

@@ -41,14 +41,14 @@ abbrev pub IsAcceptedBefore : SystemData → Automaton → ℕ → Configuration
 IsAcceptedBefore s m r d c = IsAccepted s m c × IsStep s r c d
 
 -- a refused configuration to which the rule leads from an accepted one
-abbrev pub IsLeft : SystemData → Automaton → ℕ → Configuration → Type 0
-IsLeft s m r d = IsRefused s m d × ((c : Configuration) × IsAcceptedBefore s m r d c)
+abbrev pub IsExit : SystemData → Automaton → ℕ → Configuration → Type 0
+IsExit s m r d = IsRefused s m d × ((c : Configuration) × IsAcceptedBefore s m r d c)
 
 -- the rule is the least that leads from an accepted configuration to a refused one; of the refused ones d is the least, and of the
 -- accepted ones from which the rule leads to d, c is the least
 pub record IsLeastExit (s : SystemData) (m : Automaton) (r : ℕ) (c d : Configuration) : Type 0 where
-  pub earlier_rules : (q : ℕ) (e : Configuration) → q < r → IsLeft s m q e → ⊥
-  pub after : IsLeastConfiguration s (IsLeft s m r) d
+  pub earlier_rules : (q : ℕ) (e : Configuration) → q < r → IsExit s m q e → ⊥
+  pub after : IsLeastConfiguration s (IsExit s m r) d
   pub before : IsLeastConfiguration s (IsAcceptedBefore s m r d) c
 
 -- no configuration has the property

@@ -1,5 +1,5 @@
 pub mod Proof
 pub mod Answers
 pub mod SingleWord
-pub mod Parts
 pub mod OneAnswer
+pub mod private

@@ -1,7 +1,7 @@
 //! The judgement of a certificate. For an automaton the parts of a proof by an inductive invariant are tested one after the other: the
-//! words that speak against a part are those of an intersection or of the image under one rule, and the least of them is shown. The
-//! automaton is made canonical first. Each rule is compiled, judged and dropped before the next. A run is checked step by step, in one
-//! pass and without memory.
+//! words that speak against a part are those of a difference, of an intersection or of the image under one rule, and the least of them is
+//! shown. The automaton is made canonical first. Each rule is compiled, judged and dropped before the next. A run is checked step by step,
+//! in one pass and without memory.
 
 ghost use Rattle.std.specs.Prelude.{◌≡◌, ◌↔◌, ◌<◌, ℕ, List, All, IfOk, IsOk, MatchOption, length};
 ghost use Rattle.transducers.specs.Transducer.{Relates};
@@ -9,8 +9,8 @@ ghost use Rattle.protocol_model.specs.Words.{automata_letters};
 ghost use Rattle.step_compiler.specs.Rules.{IsRuleStep};
 ghost use Rattle.boolean_operations.specs.LeastWords.{AcceptsNothing};
 ghost use Rattle.certificate_checker.specs.Answers.{IsAnswer, IsAutomatonAnswer, IsAnswerToRun, HasLetters, IsLeastConfiguration};
-ghost use Rattle.certificate_checker.specs.Answers.{IsMissing, IsHeld, IsLeft, IsAcceptedBefore, IsLeastExit, HasNone};
-ghost use Rattle.certificate_checker.specs.Parts.{AcceptsConfigurations, IsAcceptedWord, IsBefore, IsLeastExitBy};
+ghost use Rattle.certificate_checker.specs.Answers.{IsMissing, IsHeld, IsExit, IsAcceptedBefore, IsLeastExit, HasNone};
+ghost use Rattle.certificate_checker.specs.private.Parts.{AcceptsConfigurations, IsAcceptedWord, IsBefore, IsLeastExitBy};
 
 use crate::answer::Answer;
 use crate::single_word::single_word;
@@ -152,7 +152,7 @@ fn least_held(
 /// compiled at a time, and none after the first that does.
 fn least_exit(alloc: Global, system: &System, automaton: &Dfa) -> Result<Option<Exit>, AllocError>
     requires { automaton.now.letters ≡ automata_letters system.now }
-    ensures { IfOk result (λ found. MatchOption found ((r : ℕ) → HasNone (IsLeft system.now automaton.now r))
+    ensures { IfOk result (λ found. MatchOption found ((r : ℕ) → HasNone (IsExit system.now automaton.now r))
         (λ exit. IsLeastExit system.now automaton.now exit.rule exit.before exit.after)) }
 {
     'rules: for rule in 0..rule_count(system) {
@@ -186,7 +186,7 @@ fn exit_by(
     requires automaton { automaton.now.letters ≡ automata_letters system.now }
     requires step { step.now.letters ≡ automata_letters system.now }
     requires compiled { (u w : List ℕ) → Relates step.now u w ↔ IsRuleStep system.now rule u w }
-    ensures { IfOk result (λ found. MatchOption found (HasNone (IsLeft system.now automaton.now rule))
+    ensures { IfOk result (λ found. MatchOption found (HasNone (IsExit system.now automaton.now rule))
         (λ exit. IsLeastExitBy system.now automaton.now rule exit.0 exit.1)) }
 {
     let reached = image_automaton(alloc, step, automaton)?;

@@ -10,10 +10,10 @@ use Rattle.certificate.specs.declared.version.Version.TheVariants.{Two}
 use Rattle.certificate.specs.SafeText.{line_text}
 use Rattle.certificate.specs.LineLayout.{lines_text, letters_text, states_line, opening_text}
 use Rattle.certificate_writing.specs.Writing.{final_states}
-use Rattle.certificate_writing.specs.WritingParts.{final_text}
+use Rattle.certificate_writing.specs.private.WritingParts.{final_text}
 use Rattle.certificate_writing.specs.IndexedWriting.{used_letters, indices_between, line_between, indexed_edges_from, indexed_edges, indexed_lines, indexed_text}
-use Rattle.certificate_writing.specs.IndexedWritingParts.{AreIndicesOf, has_target, text_between, indices_on, text_from}
-use Rattle.certificate.proofs.SafeTextLemmas.{safe_text-is}
+use Rattle.certificate_writing.specs.private.IndexedWritingParts.{AreIndicesOf, has_target, text_between, indices_on, text_from}
+use Rattle.certificate.proofs.ForCallers.{safe_text-is}
 use Rattle.certificate_writing.proofs.WritingLemmas.{body_text-is}
 use Rattle.certificate_writing.proofs.LetterIndexLemmas.{indices_between-is}
 

@@ -11,10 +11,8 @@ use Rattle.std.proofs.lemmas.List.Kept.{AllPairs-cons, AllPairs-filter}
 use Rattle.std.proofs.lemmas.Option.{same_Some}
 use Rattle.word_automata.specs.Path.{edges_of}
 use Rattle.word_automata.specs.Automaton.{Automaton, target, IsValid}
-use Rattle.word_automata.proofs.Edges.{found_edge, leads_within}
-use Rattle.word_automata.proofs.Members.{Contains-here, Contains-there, Contains-none, Contains-map, Contains-map_cases, All-from_contains}
-use Rattle.word_automata.proofs.Rows.{All-edges_of}
-use Rattle.word_automata.proofs.Targets.{target_within}
+use Rattle.word_automata.proofs.ForCallers.{found_edge, leads_within, Contains-here, Contains-there, Contains-none, Contains-map}
+use Rattle.word_automata.proofs.ForCallers.{Contains-map_cases, All-from_contains, All-edges_of, target_within}
 use Rattle.protocol_model.specs.System.{SystemData}
 use Rattle.protocol_model.specs.Words.{automata_letters}
 use Rattle.certificate.specs.declared.lines.Line.{Line}
@@ -25,7 +23,7 @@ use Rattle.certificate.specs.SafeText.{IsInRange, AreNoTwoEdges, IsAutomatonOf, 
 use Rattle.certificate_writing.specs.Writing.{final_states}
 use Rattle.certificate_writing.specs.IndexedWriting.{labels_edge, used_letters, leads_to, indices_between, line_between, indexed_edges_from, indexed_edges}
 use Rattle.certificate_writing.specs.IndexedWriting.{indexed_lines, indexed_text}
-use Rattle.certificate.proofs.VersionLemmas.{all_said-append}
+use Rattle.certificate.proofs.ForCallers.{all_said-append}
 use Rattle.certificate_writing.proofs.WrittenLemmas.{AllByRecursion-append, finals_in_range, final_pairs, automaton_of_lines}
 use Rattle.certificate_writing.proofs.LetterIndexLemmas.{leads_is, leads_at, leads_labels}
 use Rattle.certificate_writing.proofs.IndexedLineLemmas.{flat_map_nested}

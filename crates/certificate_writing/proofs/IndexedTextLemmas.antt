@@ -9,7 +9,7 @@ use Rattle.std.proofs.lemmas.Bool.{cases_eq, cases_order, cond-true, cond-false,
 use Rattle.std.proofs.lemmas.List.{append_assoc}
 use Rattle.std.proofs.lemmas.List.Elements.{All-head, All-tail, filter_agree}
 use Rattle.std.proofs.lemmas.List.Sorted.{All-permutation}
-use Rattle.certificate_writing.specs.IndexedWritingParts.{AreByTarget, has_target, line_start, sorted_text, text_between, indices_on}
+use Rattle.certificate_writing.specs.private.IndexedWritingParts.{AreByTarget, has_target, line_start, sorted_text, text_between, indices_on}
 
 -- the targets do not fall
 abbrev Rise : List (ℕ × ℕ) → Type 0

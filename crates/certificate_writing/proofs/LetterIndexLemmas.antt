@@ -7,12 +7,10 @@ use Rattle.std.proofs.lemmas.List.Elements.{All-head, All-tail, All-cons, All-ni
 use Rattle.std.proofs.lemmas.List.Folds.{list_any_at}
 use Rattle.word_automata.specs.Path.{Node, edges_of}
 use Rattle.word_automata.specs.Automaton.{Automaton, find_target, target, HasIncreasingLetters, IsValid}
-use Rattle.word_automata.proofs.Edges.{found_edge, leads_within}
-use Rattle.word_automata.proofs.Rows.{All-edges_of}
-use Rattle.word_automata.proofs.Targets.{ordered_edges}
+use Rattle.word_automata.proofs.ForCallers.{found_edge, leads_within, All-edges_of, ordered_edges}
 use Rattle.certificate_writing.specs.IndexedWriting.{has_letter, labels_edge, used_letters, leads_to, indices_between}
-use Rattle.certificate_writing.specs.IndexedWritingParts.{AreIndicesOf, has_target, indices_on}
-use Rattle.certificate.proofs.SameAutomatonLemmas.{first_target, later_target, below_target}
+use Rattle.certificate_writing.specs.private.IndexedWritingParts.{AreIndicesOf, has_target, indices_on}
+use Rattle.certificate.proofs.ForCallers.{first_target, later_target, below_target}
 
 -- where a letter leads
 pub leads_is : (o : Option ℕ) (q : ℕ) → leads_to o q ≡ true → o ≡ Some q

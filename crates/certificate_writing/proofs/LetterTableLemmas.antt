@@ -6,7 +6,7 @@ use Rattle.std.proofs.lemmas.List.{append-nil}
 use Rattle.std.proofs.lemmas.List.Elements.{filter-append}
 use Rattle.std.proofs.lemmas.List.Folds.{list_any_more}
 use Rattle.word_automata.specs.Path.{Node, edges_of}
-use Rattle.protocol_model.proofs.Lists.{range_with_len_push}
+use Rattle.protocol_model.proofs.ForCallers.{range_with_len_push}
 use Rattle.certificate_writing.specs.IndexedWriting.{has_letter}
 use Rattle.certificate_writing.proofs.LetterIndexLemmas.{edges_at}
 

@@ -9,11 +9,11 @@ use Rattle.protocol_model.specs.System.{SystemData}
 use Rattle.certificate.specs.declared.lines.Line.{Line}
 use Rattle.certificate.specs.declared.lines.Line.TheVariants.{Final}
 use Rattle.certificate.specs.SafeText.{line_text}
-use Rattle.certificate.specs.Reading.{body_text}
+use Rattle.certificate.specs.private.Reading.{body_text}
 use Rattle.certificate.specs.LineLayout.{lines_text}
 use Rattle.certificate_writing.specs.Writing.{final_states, lines_from, edge_lines, written_lines, automaton_text}
-use Rattle.certificate_writing.specs.WritingParts.{final_text}
-use Rattle.certificate.proofs.ReadingLemmas.{body_text-append}
+use Rattle.certificate_writing.specs.private.WritingParts.{final_text}
+use Rattle.certificate.proofs.ForCallers.{body_text-append}
 
 -- the states from one on: the first of them and the others
 final_states-at : (q : ℕ) (nodes : List (Node ℕ)) (i : ℕ) → i < length nodes

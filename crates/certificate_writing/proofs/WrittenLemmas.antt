@@ -8,8 +8,8 @@ use Rattle.std.proofs.lemmas.List.Elements.{Contains-append_left, Contains-appen
 use Rattle.std.proofs.lemmas.List.Kept.{AllPairs-cons}
 use Rattle.word_automata.specs.Path.{Node, edges_of, is_accepting}
 use Rattle.word_automata.specs.Automaton.{Automaton, find_target, target, HasIncreasingLetters, IsValid}
-use Rattle.word_automata.proofs.Members.{Contains-here, Contains-there, Contains-cases, Contains-none, Contains-map, Contains-map_cases}
-use Rattle.word_automata.proofs.Edges.{found_edge, edge_found}
+use Rattle.word_automata.proofs.ForCallers.{Contains-here, Contains-there, Contains-cases, Contains-none, Contains-map, Contains-map_cases}
+use Rattle.word_automata.proofs.ForCallers.{found_edge, edge_found}
 use Rattle.protocol_model.specs.System.{SystemData}
 use Rattle.protocol_model.specs.Words.{automata_letters}
 use Rattle.certificate.specs.declared.lines.Line.{Line}

@@ -1,4 +1,3 @@
 pub mod IndexedWriting
-pub mod IndexedWritingParts
 pub mod Writing
-pub mod WritingParts
+pub mod private

@@ -1,6 +1,5 @@
-//! The text of version 2 of an automaton.
-//! The edges of each state are sorted by target, and those to the same state stay in the order of their letters, so that the indices of
-//! a line increase. Time is linear in the text and the letters, up to this sorting.
+//! The text of version 2 of an automaton. The edges of each state are sorted by target, and those to the same state stay in the order of
+//! their letters, so that the indices of a line increase. Time is linear in the states, the letters and the text, up to this sorting.
 
 ghost use Rattle.std.specs.Prelude.{◌≡◌, ◌<◌, ◌≤◌, ◌++◌, ◌∷◌, [], All, IfOk, OnOk, None, length, flat_map};
 ghost use Rattle.std.specs.Prelude.{codes, decimal};
@@ -9,7 +8,7 @@ ghost use Rattle.protocol_model.specs.Words.{automata_letters};
 ghost use Rattle.certificate.specs.SafeText.{letter_line, MeansAutomaton};
 ghost use Rattle.certificate.specs.LineLayout.{letters_text, states_line};
 ghost use Rattle.certificate_writing.specs.IndexedWriting.{indexed_text};
-ghost use Rattle.certificate_writing.specs.IndexedWritingParts.{AreByTarget, before_index, line_start, sorted_text, text_from};
+ghost use Rattle.certificate_writing.specs.private.IndexedWritingParts.{AreByTarget, before_index, line_start, sorted_text, text_from};
 
 use crate::letter_table::{indices_of, used_letters};
 use crate::writing::{push_final_states, push_number};

@@ -4,7 +4,7 @@
 ghost use Rattle.std.specs.Prelude.{◌≡◌, ◌≢◌, ◌<◌, ◌||◌, ℕ, false, All, AllPairs, IfOk, length, map, slice_index_or};
 ghost use Rattle.std.specs.List.{range_with_len};
 ghost use Rattle.certificate_writing.specs.IndexedWriting.{has_letter, labels_edge, used_letters};
-ghost use Rattle.certificate_writing.specs.IndexedWritingParts.{AreIndicesOf};
+ghost use Rattle.certificate_writing.specs.private.IndexedWritingParts.{AreIndicesOf};
 
 use std::alloc::{AllocError, Global};
 use word_automata::Dfa;

@@ -1,5 +1,5 @@
-//! The texts of certificates: automata in either version, and runs.
-//! A text is written in one pass, and one of version 2 in two: the letters that label an edge come first.
+//! The texts of certificates: automata in either version, and runs. A text is written from front to end, and for one of version 2 the
+//! letters that label an edge are found first, in a pass over the edges.
 #![tactic(auto)]
 
 mod indexed_writing;

@@ -1,5 +1,5 @@
-//! The texts of an automaton and of a search that reached its budget.
-//! The states are gone over twice, for the accepting ones and for the edges; time is linear in the text.
+//! The texts of an automaton and of a search that reached its budget. The states are gone over twice, for the accepting ones and for the
+//! edges; time is linear in the states, the letters and the text.
 
 ghost use Rattle.std.specs.Prelude.{◌≡◌, ◌++◌, ◌∷◌, ◌<◌, ◌≤◌, ℕ, [], All, IfOk, OnOk, decimal, length, flat_map};
 ghost use Rattle.std.specs.Prelude.{if◌then◌else◌};
@@ -9,7 +9,7 @@ ghost use Rattle.certificate.specs.declared.lines.Line.TheVariants.{Edge};
 ghost use Rattle.certificate.specs.SafeText.{line_text, MeansAutomaton};
 ghost use Rattle.certificate.specs.LineLayout.{lines_text};
 ghost use Rattle.certificate_writing.specs.Writing.{final_states, lines_from, edge_lines, automaton_text, written_text, counted_text, unknown_text};
-ghost use Rattle.certificate_writing.specs.WritingParts.{final_text};
+ghost use Rattle.certificate_writing.specs.private.WritingParts.{final_text};
 
 use certificate::Alphabet;
 use itoa::Buffer;

@@ -14,9 +14,7 @@ use Rattle.protocol_model.specs.declared.fault.ModelFault.{ModelFault}
 use Rattle.protocol_model.specs.declared.fault.ModelFault.TheVariants.{Duplicate, Unknown}
 use Rattle.protocol_model.specs.Numbering.{texts_of}
 use Rattle.protocol_model.specs.Faults.{first_fault_of, is_among, duplicate, unknown, section_fault, row_fault, step_fault, rule_fault, first_fault}
-use Rattle.protocol_model.proofs.Distinct.{none_first, none_second}
-use Rattle.protocol_model.proofs.Known.{or_none}
-use Rattle.protocol_model.proofs.Lists.{list_any_map}
+use Rattle.protocol_model.proofs.ForCallers.{none_first, none_second, or_none, list_any_map}
 use Rattle.chain_protocol.specs.Chain.{letter}
 use Rattle.chain_protocol.specs.Meaning.{named, chain_letters, chain_section, chain_init, chain_bad, chain_rule, chain}
 use Rattle.chain_protocol.proofs.ChainNames.{numbered_apart}

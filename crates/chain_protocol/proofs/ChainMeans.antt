@@ -9,7 +9,7 @@ use Rattle.forms.specs.declared.fault.What.TheVariants as Limits
 use Rattle.forms.specs.declared.name.Name.{Name}
 use Rattle.forms.specs.declared.symbol.Keyword.TheVariants as Words
 use Rattle.forms.specs.Grammar.{Grammar, name, up_to}
-use Rattle.forms.proofs.MayMean.{MayMean, AllAfter, IsName}
+use Rattle.forms.proofs.ForCallers.{MayMean, AllAfter, IsName}
 use Rattle.protocol_syntax.specs.declared.protocol.BaseText.TheVariants.{Letter, Any}
 use Rattle.protocol_syntax.specs.declared.protocol.Kind.TheVariants.{Array}
 use Rattle.protocol_syntax.specs.declared.protocol.Many.TheVariants.{One, Star}

@@ -12,7 +12,7 @@ use Rattle.std.proofs.lemmas.Slice.Eq.{bytes_eq-Decides}
 use Rattle.std.proofs.lemmas.Str.Parse.{digit_from_value}
 use Rattle.protocol_lexer.specs.Piece.{is_word_byte}
 use Rattle.forms.specs.Symbol.{keyword_of}
-use Rattle.forms.proofs.MayMean.{IsName}
+use Rattle.forms.proofs.ForCallers.{IsName}
 use Rattle.chain_protocol.specs.Chain.{letter}
 use Rattle.chain_protocol.specs.Meaning.{named}
 

@@ -6,7 +6,7 @@ use Rattle.forms.specs.declared.name.Name.{Name}
 use Rattle.protocol_syntax.specs.declared.protocol.RuleText.{RuleText}
 use Rattle.protocol_syntax.specs.Grammar.{IsProtocol}
 use Rattle.protocol_layout.specs.Places.{name_without_place, rule_without_places, without_places}
-use Rattle.protocol_layout.proofs.ReadBack.{layout_says_again}
+use Rattle.protocol_layout.proofs.ForCallers.{layout_says_again}
 use Rattle.protocol_model.specs.Faults.{first_fault}
 use Rattle.chain_protocol.specs.Chain.{letter, chain_text}
 use Rattle.chain_protocol.specs.Meaning.{named, chain_rule, chain, SaysChain}

@@ -6,7 +6,7 @@ use Rattle.std.proofs.lemmas.Fmt.{decimal_digit}
 use Rattle.std.proofs.lemmas.Grind.{flat_map-append}
 use Rattle.protocol_syntax.specs.Spacing.{spaced}
 use Rattle.protocol_layout.specs.Layout.{line, names_words, section_words, row_words, rule_words, layout}
-use Rattle.protocol_model.proofs.Lists.{range_with_len_push}
+use Rattle.protocol_model.proofs.ForCallers.{range_with_len_push}
 use Rattle.chain_protocol.specs.Chain.{joined, letter, next_letter, rule_line, protocol_line, chain_text}
 use Rattle.chain_protocol.specs.Meaning.{named, chain_section, chain_init, chain_rule, chain_bad, chain}
 

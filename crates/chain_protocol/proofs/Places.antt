@@ -24,9 +24,7 @@ use Rattle.protocol_model.specs.declared.fault.ModelFault.{ModelFault}
 use Rattle.protocol_model.specs.declared.fault.ModelFault.TheVariants.{Duplicate, Unknown, TouchedTwice, WrongKind}
 use Rattle.protocol_model.specs.Numbering.{texts_of, section_names, section_named, letters_named, number_of}
 use Rattle.protocol_model.specs.Faults.{first_fault_of, is_among, duplicate, touched_twice, unknown, section_fault, letters_fault, base_fault, part_fault, row_fault, entry_fault, body_fault, wrong_kind, step_fault, rule_fault, first_fault}
-use Rattle.protocol_model.proofs.Distinct.{none_first, none_second}
-use Rattle.protocol_model.proofs.InRange.{true_of_none, false_of_none, known}
-use Rattle.protocol_model.proofs.Known.{or_none}
+use Rattle.protocol_model.proofs.ForCallers.{none_first, none_second, true_of_none, false_of_none, known, or_none}
 
 -- two tests one after the other find nothing where two others find nothing
 both : (a b c d : Option ModelFault) → (a ≡ None → c ≡ None) → (b ≡ None → d ≡ None) → option_or a b ≡ None → option_or c d ≡ None

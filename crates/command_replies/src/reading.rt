@@ -1,5 +1,5 @@
-//! What the text of a protocol says: its grammar is read first, and then its names. It costs the length of the text, and the square
-//! of its number of names.
+//! What the text of a protocol says: its grammar is read first, and then its names. It costs the length of the text, and for each rule and
+//! row at most the square of its names.
 
 ghost use Rattle.std.specs.Prelude.{◌≡◌, ◌≢◌, IfOk, OnOk};
 ghost use Rattle.command_replies.specs.Reading.{IsReadingOf};

@@ -12,10 +12,10 @@ use Rattle.clap.specs.Walk.{Row, Text, finished, first_of, has_row, more_values,
 use Rattle.clap.specs.declared.parser.matches.ValueSource.TheVariants.{DefaultValue}
 use Rattle.clap.proofs.FaultLemmas.{leaf_fault}
 use Rattle.command_words.specs.Parsing.{Fails, HasBindings, first_or_default, parser_of}
-use Rattle.command_words.specs.Words.{Binding, Form, bindings, bindings_of, bound_once, is_among, is_once, form_of, value_of}
+use Rattle.command_words.specs.Words.{Binding, CommandForm, bindings, bindings_of, bound_once, is_among, is_once, form_of, value_of}
 use Rattle.command_words.specs.declared.forms.Name.{Name}
 use Rattle.command_words.specs.declared.forms.Name.TheVariants as names
-use Rattle.command_words.proofs.FormRules.{IsLeft, built_flag, built_rules, defaults_of_positionals, defaults_of_valued, form_rules, form_shape, no_default_fault, none_required}
+use Rattle.command_words.proofs.FormRules.{AreUnbound, built_flag, built_rules, defaults_of_positionals, defaults_of_valued, form_rules, form_shape, no_default_fault, none_required}
 use Rattle.command_words.proofs.FormWalk.{Adds, AllHaveHeads, HasHead, Judged, accepted, rejected, at_row_missing, judges, faults, rows_after}
 
 -- ---- the first characters of words
@@ -56,7 +56,7 @@ or_else_nil : (a : Kinds) → or_else a [] ≡ a
 or_else_nil [] = refl
 or_else_nil (k ∷ a) = refl
 
-level_is : (form : Form) (words : List Text)
+level_is : (form : CommandForm) (words : List Text)
     → level_fault (form_shape form) [] nothing_held words false [] ≡ faults form (walk_from nothing_held) words
 level_is form words =
     let s = form_shape form in
@@ -67,10 +67,10 @@ level_is form words =
     (ap (check_kinds false false) (none_required (finished s.rules end) form.valued form.flags 1 form.positionals)) in
     ap (λ k. or_else w (or_else (settle_fault s.rules false end) k)) rest ∙ ap (or_else w) (or_else_nil (settle_fault s.rules false end))
 
-abbrev form_app : Form → App
+abbrev form_app : CommandForm → App
 form_app form = record { top = form_shape form; subs = [] }
 
-fault_is : (form : Form) (words : List Text) → built (parser_of form) ≡ form_app form
+fault_is : (form : CommandForm) (words : List Text) → built (parser_of form) ≡ form_app form
     → fault_of (parser_of form) words ≡ faults form (walk_from nothing_held) (drop 1 words)
 fault_is form words is =
     ap (λ a. built_fault a nothing_held (drop 1 words)) is ∙ leaf_fault (form_app form) nothing_held (drop 1 words) refl ∙ level_is form (drop 1 words)
@@ -123,17 +123,17 @@ or_first_none : (o : Option Text) → or_first o None ≡ o
 or_first_none None = refl
 or_first_none (Some v) = refl
 
-pub data FlagsOf (form : Form) : Type 0 where
+pub data FlagsOf (form : CommandForm) : Type 0 where
   no_flag : form.flags ≡ [] → FlagsOf form
   one_flag : (f : Text) → form.flags ≡ f ∷ [] → FlagsOf form
 
 -- without a flag nothing is added to the rows
-no_flag_rows : (form : Form) (rows : List Row) → form.flags ≡ [] → fold with_default rows (form_rules form) ≡ rows
+no_flag_rows : (form : CommandForm) (rows : List Row) → form.flags ≡ [] → fold with_default rows (form_rules form) ≡ rows
 no_flag_rows form rows none =
     defaults_of_valued rows form.valued form.flags 1 form.positionals
     ∙ ap (λ fs. fold with_default rows (built_rules [] fs 1 form.positionals)) none ∙ defaults_of_positionals rows 1 form.positionals
 
-one_flag_rows : (form : Form) (rows : List Row) (f : Text) → form.flags ≡ f ∷ [] → fold with_default rows (form_rules form) ≡ with_default rows (built_flag f)
+one_flag_rows : (form : CommandForm) (rows : List Row) (f : Text) → form.flags ≡ f ∷ [] → fold with_default rows (form_rules form) ≡ with_default rows (built_flag f)
 one_flag_rows form rows f one =
     defaults_of_valued rows form.valued form.flags 1 form.positionals
     ∙ ap (λ fs. fold with_default rows (built_rules [] fs 1 form.positionals)) one ∙ defaults_of_positionals (with_default rows (built_flag f)) 1 form.positionals
@@ -141,11 +141,11 @@ one_flag_rows form rows f one =
 default_row : Text → Row
 default_row f = record { id = f; values = codes "false" ∷ []; count = None; source = Some DefaultValue; reading = reading_by (built_flag f) }
 
-or_default : (form : Form) (n : Text) (o : Option Text) → form.flags ≡ [] → o ≡ first_or_default form n o
+or_default : (form : CommandForm) (n : Text) (o : Option Text) → form.flags ≡ [] → o ≡ first_or_default form n o
 or_default form n (Some v) none = refl
 or_default form n None none = sym (ap (λ fs. cond (is_among n fs) (Some (codes "false")) None) none)
 
-with_flag_given : (form : Form) (n f : Text) (rs : List Row) (bs : List Binding) (o : Option Text) → value_of n bs ≡ o → form.flags ≡ f ∷ [] → Pairs rs bs
+with_flag_given : (form : CommandForm) (n f : Text) (rs : List Row) (bs : List Binding) (o : Option Text) → value_of n bs ≡ o → form.flags ≡ f ∷ [] → Pairs rs bs
     → has_row f rs ≡ true → o ≡ first_or_default form n o
 with_flag_given form n f rs bs (Some v) e one pairs has = refl
 with_flag_given form n f rs bs None e one pairs has = sym (ap (λ fs. cond (is_among n fs) (Some (codes "false")) None) one ∙ go (bytes_eq f n) refl)
@@ -157,7 +157,7 @@ with_flag_given form n f rs bs None e one pairs has = sym (ap (λ fs. cond (is_a
         let no_row : has_row n rs ≡ false = has_value n rs bs pairs ∙ ap is_some e in
         absurd (true≢false (sym has ∙ ap (λ x. has_row x rs) same ∙ no_row))
 
-with_flag_default : (form : Form) (n f : Text) (o : Option Text) → form.flags ≡ f ∷ []
+with_flag_default : (form : CommandForm) (n f : Text) (o : Option Text) → form.flags ≡ f ∷ []
     → or_first o (first_of n (default_row f ∷ [])) ≡ first_or_default form n o
 unfolding default_row
 with_flag_default form n f (Some v) one = refl
@@ -171,7 +171,7 @@ default_added : (rows : List Row) (f : Text) → has_row f rows ≡ false → wi
 unfolding default_row
 default_added rows f none = rw none (at_row_missing f (more_values DefaultValue (codes "false" ∷ [])) _ rows none)
 
-values_in : (form : Form) (rs : List Row) (bs : List Binding) → FlagsOf form → Pairs rs bs → HasBindings form bs (fold with_default rs (form_rules form))
+values_in : (form : CommandForm) (rs : List Row) (bs : List Binding) → FlagsOf form → Pairs rs bs → HasBindings form bs (fold with_default rs (form_rules form))
 values_in form rs bs (no_flag none) pairs n =
     ap (first_of n) (no_flag_rows form rs none ∙ sym (append-nil rs)) ∙ first_then n [] rs bs pairs ∙ or_first_none (value_of n bs) ∙ or_default form n (value_of n bs) none
 values_in form rs bs (one_flag f one) pairs n = ap (first_of n) (one_flag_rows form rs f one) ∙ go (has_row f rs) refl
@@ -186,18 +186,18 @@ values_in form rs bs (one_flag f one) pairs n = ap (first_of n) (one_flag_rows f
 -- ---- the whole
 
 -- what is known of a form
-pub record IsFormed (form : Form) : Type 0 where
+pub record IsFormed (form : CommandForm) : Type 0 where
   pub built_is : built (parser_of form) ≡ form_app form
   pub is_simple : is_simple_and_free (parser_of form) ≡ true
-  pub places : IsLeft (form_rules form) 1 form.positionals
+  pub places : AreUnbound (form_rules form) 1 form.positionals
   pub flags_are : FlagsOf form
 
-abbrev judged : (form : Form) (words : List Text) → IsFormed form → AllHaveHeads words
+abbrev judged : (form : CommandForm) (words : List Text) → IsFormed form → AllHaveHeads words
     → Judged [] (bindings_of form form.positionals None words) (faults form (walk_from nothing_held) words) [] (rows_after form (walk_from nothing_held) words)
 judged form words formed heads = judges form words None nothing_held 1 form.positionals [] [] heads (refl, refl, refl) (λ name. refl) formed.places
 
 -- the words are refused: they bind nothing
-pub refused_is : (form : Form) (words : List Text) → IsFormed form → AllHaveHeads (drop 1 words) → Fails (fault_of (parser_of form) words)
+pub refused_is : (form : CommandForm) (words : List Text) → IsFormed form → AllHaveHeads (drop 1 words) → Fails (fault_of (parser_of form) words)
     → bindings form (drop 1 words) ≡ None
 refused_is form words formed heads fails =
     go _ (judged form (drop 1 words) formed heads) (subst Fails (fault_is form words formed.built_is) fails)
@@ -212,7 +212,7 @@ refused_is form words formed heads fails =
     go f (rejected never also) fails = once (bindings_of form form.positionals None (drop 1 words)) never
 
 -- the words are taken: the matches have what they bind
-pub taken_is : (form : Form) (words : List Text) → IsFormed form → AllHaveHeads (drop 1 words) → fault_of (parser_of form) words ≡ []
+pub taken_is : (form : CommandForm) (words : List Text) → IsFormed form → AllHaveHeads (drop 1 words) → fault_of (parser_of form) words ≡ []
     → (bs : List Binding) × (bindings form (drop 1 words) ≡ Some bs) × HasBindings form bs (matches_of (parser_of form) words)
 taken_is form words formed heads none =
     go _ _ (judged form (drop 1 words) formed heads) (sym (fault_is form words formed.built_is) ∙ none) refl

@@ -13,7 +13,7 @@ use Rattle.clap.specs.Takes.{is_given}
 use Rattle.clap.specs.declared.builder.action.ArgAction.TheVariants.{Set, SetTrue}
 use Rattle.clap.specs.declared.builder.value_parser.ValueParser.TheVariants as parser
 use Rattle.command_words.specs.Parsing.{flag_rule, parser_of, positional_rule, valued_rule}
-use Rattle.command_words.specs.Words.{Form, is_among}
+use Rattle.command_words.specs.Words.{CommandForm, is_among}
 
 -- an argument that takes one value, as text
 abbrev pub text_rule : Option Text → Option ℕ → Text → Rule
@@ -47,11 +47,11 @@ built_rules [] (f ∷ fs) i ps = built_flag f ∷ built_rules [] fs i ps
 built_rules [] [] i (p ∷ ps) = built_positional i p ∷ built_rules [] [] (min (i + 1) usize_max) ps
 built_rules [] [] i [] = []
 
-abbrev pub form_rules : Form → List Rule
+abbrev pub form_rules : CommandForm → List Rule
 form_rules form = built_rules form.valued form.flags 1 form.positionals
 
 -- the built command of this form
-abbrev pub form_shape : Form → Shape
+abbrev pub form_shape : CommandForm → Shape
 form_shape form = record (new_shape (codes "armc")) {
   rules = form_rules form;
   disable_help_flag = true;
@@ -98,9 +98,9 @@ by_id (v ∷ vs) fs i ps name among =
 by_id [] fs i ps name among = absurd (true≢false (sym among))
 
 -- which names of positional words are left at this place
-abbrev pub IsLeft : List Rule → ℕ → List Text → Type 0
-IsLeft c i [] = arg_by_index c i ≡ None
-IsLeft c i (p ∷ ps) = (arg_by_index c i ≡ Some (built_positional i p)) × (arg_by_id c p ≡ Some (built_positional i p)) × IsLeft c (min (i + 1) usize_max) ps
+abbrev pub AreUnbound : List Rule → ℕ → List Text → Type 0
+AreUnbound c i [] = arg_by_index c i ≡ None
+AreUnbound c i (p ∷ ps) = (arg_by_index c i ≡ Some (built_positional i p)) × (arg_by_id c p ≡ Some (built_positional i p)) × AreUnbound c (min (i + 1) usize_max) ps
 
 -- ---- defaults
 
@@ -164,7 +164,7 @@ rules_added : (s : Shape) (rules more : List Rule) → fold with_rule (with_rule
 rules_added s rules [] = ap (with_rules s) (sym (append-nil rules))
 rules_added s rules (r ∷ more) = rules_added s (rules ++ r ∷ []) more ∙ ap (with_rules s) (append_assoc rules (r ∷ []) more)
 
-pub made : (form : Form) (a v f p : App) → a ≡ with_rules (record (new_shape (codes "armc")) { disable_help_flag = true }) []
+pub made : (form : CommandForm) (a v f p : App) → a ≡ with_rules (record (new_shape (codes "armc")) { disable_help_flag = true }) []
     → v ≡ fold with_rule a (map valued_rule form.valued) → f ≡ fold with_rule v (map flag_rule form.flags)
     → p ≡ fold with_rule f (map positional_rule form.positionals) → p ≡ parser_of form
 made form a v f p ea ev ef ep =

@@ -14,8 +14,8 @@ use Rattle.clap.specs.Faults.{bundle_fault, flags_fault, long_fault, option_faul
 use Rattle.clap.specs.declared.error.kind.ErrorKind.TheVariants.{ArgumentConflict, TooManyValues}
 use Rattle.clap.specs.declared.parser.matches.ValueSource.TheVariants.{CommandLine}
 use Rattle.command_words.specs.Parsing.{Fails}
-use Rattle.command_words.specs.Words.{Binding, Form, Kind, ends, long, short, plain, bindings_of, bindings_of_long, bindings_of_positionals, bindings_of_word, is_among, is_once, kind_of, then_bound}
-use Rattle.command_words.proofs.FormRules.{IsLeft, built_flag, built_positional, built_valued, by_id, by_long, by_short, form_rules, form_shape, option_rule, text_rule}
+use Rattle.command_words.specs.Words.{Binding, CommandForm, Kind, ends, long, short, plain, bindings_of, bindings_of_long, bindings_of_positionals, bindings_of_word, is_among, is_once, kind_of, then_bound}
+use Rattle.command_words.proofs.FormRules.{AreUnbound, built_flag, built_positional, built_valued, by_id, by_long, by_short, form_rules, form_shape, option_rule, text_rule}
 
 -- ---- faults
 
@@ -180,7 +180,7 @@ holds_more : (bound : List Text) (rows : List Row) (r : Row) (n : Text) → r.id
 holds_more bound rows r n id holds name =
     has_row-append name rows r ∙ ap₂ (λ x b. bytes_eq x name || b) id (holds name)
 
-module _ (form : Form) where
+module _ (form : CommandForm) where
   abbrev c : List Rule
   c = form_rules form
 
@@ -246,7 +246,7 @@ module _ (form : Form) where
       ∙ ap (λ g. record { held = pushed place word g; waiting = idle; position = min (w.position + 1) usize_max; is_trailing = w.is_trailing || false; stopped = None })
       (no_wait_held (is_pending (built_positional p place) h.pending) h (settled c h))
 
-  fails_at_place : (left : List Text) (h : Held) (p : ℕ) → IsLeft c p left → Fails (settle_fault c false h) → Fails (step_fault s p h positional_step)
+  fails_at_place : (left : List Text) (h : Held) (p : ℕ) → AreUnbound c p left → Fails (settle_fault c false h) → Fails (step_fault s p h positional_step)
   fails_at_place [] h p e fails = stray h p e
   fails_at_place (place ∷ left) h p e fails = subst Fails (sym (place_fault h p place e.0)) fails
 
@@ -312,13 +312,13 @@ module _ (form : Form) where
       let first = head l.2.0 l.2.1 l.2.2 in
       fails_left _ _ (subst Fails (sym is) (bundle_fails l.2.0 l.2.1 h first.0 first.1 none))
 
-  doomed_trailing : (words : List Text) (h : Held) (waiting : Waiting) (p : ℕ) (left : List Text) → IsLeft c p left → Fails (settle_fault c false h)
+  doomed_trailing : (words : List Text) (h : Held) (waiting : Waiting) (p : ℕ) (left : List Text) → AreUnbound c p left → Fails (settle_fault c false h)
       → Fails (faults (at h waiting p true) words)
   unfolding walk_fault
   doomed_trailing [] h waiting p left places fails = fails
   doomed_trailing (word ∷ words) h waiting p left places fails = fails_left _ _ (fails_left _ _ (fails_at_place left h p places fails))
 
-  doomed_at : (k : Kind) (word : Text) (words : List Text) (h : Held) (p : ℕ) (left : List Text) → Lexed k word → HasHead word → IsLeft c p left → h.skip ≡ 0
+  doomed_at : (k : Kind) (word : Text) (words : List Text) (h : Held) (p : ℕ) (left : List Text) → Lexed k word → HasHead word → AreUnbound c p left → h.skip ≡ 0
       → Fails (settle_fault c false h) → Fails (faults (at h idle p false) (word ∷ words))
   doomed_at ends word words h p left l head places none fails =
       subst Fails (sym (goes_on (at h idle p false) (at h idle p true) word words (ends_turn h idle p word l) (ends_walked h idle p word l)))
@@ -328,7 +328,7 @@ module _ (form : Form) where
   doomed_at plain word words h p left l head places none fails =
       stops (at h idle p false) word words (subst Fails (sym (plain_turn h p word l)) (fails_at_place left h p places fails))
 
-  doomed : (words : List Text) (h : Held) (p : ℕ) (left : List Text) → AllHaveHeads words → IsLeft c p left → h.skip ≡ 0
+  doomed : (words : List Text) (h : Held) (p : ℕ) (left : List Text) → AllHaveHeads words → AreUnbound c p left → h.skip ≡ 0
       → Fails (settle_fault c false h) → Fails (faults (at h idle p false) words)
   unfolding walk_fault
   doomed [] h p left heads places none fails = fails
@@ -353,7 +353,7 @@ module _ (form : Form) where
 
   abbrev pub Judges : List Text → Type 0
   Judges words = (waiting : Option Text) (h : Held) (p : ℕ) (left bound : List Text) (rows : List Row) → AllHaveHeads words → Waits waiting h rows
-      → Holds bound rows → IsLeft c p left
+      → Holds bound rows → AreUnbound c p left
       → Judged bound (bindings_of form left waiting words) (faults (at h (waiting_for waiting) p false) words) rows
       (rows_after (at h (waiting_for waiting) p false) words)
 
@@ -386,7 +386,7 @@ module _ (form : Form) where
       rejected (twice bound o n word (sym (holds n) ∙ has)) (bad (subst Fails (sym (pended_fault l i n word h rows true found are has)) tt))
 
   judge_trailing : (words : List Text) (h : Held) (waiting : Waiting) (p : ℕ) (left bound : List Text) (rows : List Row) → Settled h rows → Holds bound rows
-      → IsLeft c p left
+      → AreUnbound c p left
       → Judged bound (bindings_of_positionals left words) (faults (at h waiting p true) words) rows (rows_after (at h waiting p true) words)
   unfolding walk_fault
   judge_trailing [] h waiting p left bound rows ready holds places = accepted [] refl refl ready.0 ready.1
@@ -402,7 +402,7 @@ module _ (form : Form) where
       (doomed_trailing words (pends place word h) idle (min (p + 1) usize_max) left places.2))
 
   plain_judged : (word : Text) (words : List Text) (h : Held) (p : ℕ) (left bound : List Text) (rows : List Row) → Lexed plain word → AllHaveHeads words
-      → Settled h rows → Holds bound rows → IsLeft c p left → Judges words
+      → Settled h rows → Holds bound rows → AreUnbound c p left → Judges words
       → Judged bound (bindings_of_word form left None plain word words (λ l next. bindings_of form l next words)) (faults (at h idle p false) (word ∷ words)) rows
       (rows_after (at h idle p false) (word ∷ words))
   plain_judged word words h p [] bound rows l heads ready holds places later =
@@ -432,7 +432,7 @@ module _ (form : Form) where
       (left bound : List Text) (rows : List Row) (b : Bool) → has_row n rows ≡ b → Lexed (long n v) word → arg_by_long c n ≡ Some a
       → long_fault c false (Some a) v h ≡ react_fault c false a values h → long_met c (Some a) v h ≡ (reacted c a values h, done)
       → use_fault false a values rows ≡ again b → (has_row n rows ≡ false → used a values rows ≡ rows ++ r ∷ []) → r.id ≡ n → r.values ≡ value ∷ []
-      → AllHaveHeads words → Settled h rows → Holds bound rows → IsLeft c p left → Judges words
+      → AllHaveHeads words → Settled h rows → Holds bound rows → AreUnbound c p left → Judges words
       → Judged bound (then_bound n value (bindings_of form left None words)) (faults (at h idle p false) (word ∷ words)) rows
       (rows_after (at h idle p false) (word ∷ words))
   attached_judged word n value v a values r words h p left bound rows false has l found fault met once makes id holds_value heads ready holds places later =
@@ -470,7 +470,7 @@ module _ (form : Form) where
 
   long_judged : (v : Option Text) (b d : Bool) (word n : Text) (words : List Text) (h : Held) (p : ℕ) (left bound : List Text) (rows : List Row)
       → is_among n form.valued ≡ b → is_among n form.flags ≡ d → arg_by_long c n ≡ option_rule form.valued form.flags n → Lexed (long n v) word → AllHaveHeads words
-      → Settled h rows → Holds bound rows → IsLeft c p left → Judges words
+      → Settled h rows → Holds bound rows → AreUnbound c p left → Judges words
       → Judged bound (bindings_of_long form n v (λ next. bindings_of form left next words)) (faults (at h idle p false) (word ∷ words)) rows
       (rows_after (at h idle p false) (word ∷ words))
   long_judged (Some value) true d word n words h p left bound rows eb ed found l heads ready holds places later =
@@ -496,7 +496,7 @@ module _ (form : Form) where
       rw (eb, ed) (refused_long word n None None words h p bound rows l (rw (eb, ed) at found) tt)
 
   idle_judged : (k : Kind) (word : Text) (words : List Text) (h : Held) (p : ℕ) (left bound : List Text) (rows : List Row) → Lexed k word → HasHead word
-      → AllHaveHeads words → Settled h rows → Holds bound rows → IsLeft c p left → Judges words
+      → AllHaveHeads words → Settled h rows → Holds bound rows → AreUnbound c p left → Judges words
       → Judged bound (bindings_of_word form left None k word words (λ l next. bindings_of form l next words)) (faults (at h idle p false) (word ∷ words)) rows
       (rows_after (at h idle p false) (word ∷ words))
   idle_judged ends word words h p left bound rows l head heads ready holds places later =
@@ -529,7 +529,7 @@ module _ (form : Form) where
       rw (l.0, l.1, l.2) (rw (by_id form.valued form.flags 1 form.positionals n among) (rw ((bytes_eq-Decides n n).1 refl) refl))
 
   waiting_judged : (k : Kind) (n word : Text) (words : List Text) (p : ℕ) (left bound : List Text) (rows : List Row) → Lexed k word → HasHead word
-      → AllHaveHeads words → is_among n form.valued ≡ true → Holds bound rows → IsLeft c p left → Judges words
+      → AllHaveHeads words → is_among n form.valued ≡ true → Holds bound rows → AreUnbound c p left → Judges words
       → Judged bound (bindings_of_word form left (Some n) k word words (λ l next. bindings_of form l next words))
       (faults (at (awaits n rows) (option n) p false) (word ∷ words)) rows (rows_after (at (awaits n rows) (option n) p false) (word ∷ words))
   waiting_judged ends n word words p left bound rows l head heads among holds places later =

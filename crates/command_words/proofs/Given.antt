@@ -13,11 +13,11 @@ use Rattle.command_words.specs.Parsing.{Fails, Gives, HasBindings, IsParsed, fir
 use Rattle.command_words.specs.declared.Method.{Method}
 use Rattle.command_words.specs.declared.Start.{Start}
 use Rattle.command_words.specs.declared.forms.Name.TheVariants as names
-use Rattle.command_words.specs.Words.{Binding, Command, Form, bindings, bound_given, budget_given, command_named, command_of, form_of, is_among, is_empty, is_true, limits_from, limits_given, method_given, settings_from, settings_given, start_given, value_of, workers_given}
+use Rattle.command_words.specs.Words.{Binding, Command, CommandForm, bindings, bound_given, budget_given, command_named, command_of, form_of, is_among, is_empty, is_true, limits_from, limits_given, method_given, settings_from, settings_given, start_given, value_of, workers_given}
 use Rattle.command_words.proofs.FormMatches.{IsFormed, later_have_heads, refused_is, taken_is}
 
 -- the matches of a parser of a form have what the words bind
-pub from_matches : {Z : Type 0} (form : Form) (p : Parser) (words : List (String Z)) (found : Option ArgMatches)
+pub from_matches : {Z : Type 0} (form : CommandForm) (p : Parser) (words : List (String Z)) (found : Option ArgMatches)
     → app_of p ≡ parser_of form → IsFormed form
     → MatchOption found (Fails (fault_of (app_of p) (map string_bytes words)))
     (λ m. (fault_of (app_of p) (map string_bytes words) ≡ []) × (rows_of (found_of m) ≡ matches_of (app_of p) (map string_bytes words)))
@@ -33,11 +33,11 @@ from_matches form p words (Some m) is formed given =
       has = subst (HasBindings form taken.0) (sym (given.1 ∙ ap (λ (a : App). matches_of a (map string_bytes words)) is)) taken.2;
     }
 
-plain_value : (form : Form) (name : List ℕ) (o : Option (List ℕ)) → is_among name form.flags ≡ false → first_or_default form name o ≡ o
+plain_value : (form : CommandForm) (name : List ℕ) (o : Option (List ℕ)) → is_among name form.flags ≡ false → first_or_default form name o ≡ o
 plain_value form name (Some value) plain = refl
 plain_value form name None plain = rw plain refl
 
-pub value_is : (m : ArgMatches) (form : Form) (bound : List Binding) (name : List ℕ) → HasBindings form bound (rows_of (found_of m)) → is_among name form.flags ≡ false
+pub value_is : (m : ArgMatches) (form : CommandForm) (bound : List Binding) (name : List ℕ) → HasBindings form bound (rows_of (found_of m)) → is_among name form.flags ≡ false
     → first_value (found_of m) name ≡ value_of name bound
 value_is m form bound name has plain = first_value-rows (found_of m) name ∙ has name ∙ plain_value form name (value_of name bound) plain
 

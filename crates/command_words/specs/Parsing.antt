@@ -7,13 +7,13 @@ use Rattle.clap.specs.declared.builder.action.ArgAction.TheVariants.{Set, SetTru
 use Rattle.clap.specs.declared.parser.matches.ArgMatches.{ArgMatches}
 use Rattle.clap.specs.Matches.{found_of}
 use Rattle.command_words.specs.declared.Command.{Command as CommandWords}
-use Rattle.command_words.specs.declared.forms.Form.{Form as FormWords}
+use Rattle.command_words.specs.declared.forms.CommandForm.{CommandForm as FormWords}
 use Rattle.command_words.specs.declared.parsers.Role.{Role}
 use Rattle.command_words.specs.declared.parsers.Role.TheVariants.{Valued, Flag, Positional}
-use Rattle.command_words.specs.Words.{Binding, Command, Form, IsInRange, bindings, is_among, said, value_of}
+use Rattle.command_words.specs.Words.{Binding, Command, CommandForm, IsInRange, bindings, is_among, said, value_of}
 
 -- the form that a value of the program stands for
-abbrev pub form_as_words : FormWords → Form
+abbrev pub form_as_words : FormWords → CommandForm
 form_as_words form = record {
   valued = map (λ name. name.now) form.valued.now;
   flags = map (λ name. name.now) form.flags.now;
@@ -35,7 +35,7 @@ rule_for Flag name = flag_rule name
 rule_for Positional name = positional_rule name
 
 -- the command of this form, without help; its name is never shown
-abbrev pub parser_of : Form → App
+abbrev pub parser_of : CommandForm → App
 parser_of form = record {
   top = record (new_shape (codes "armc")) {
     rules = map valued_rule form.valued ++ (map flag_rule form.flags ++ map positional_rule form.positionals);
@@ -50,20 +50,20 @@ Fails [] = ⊥
 Fails (kind ∷ kinds) = Unit {0}
 
 -- what an option without a value gives where the words do not bind it
-abbrev pub first_or_default : Form → List ℕ → Option (List ℕ) → Option (List ℕ)
+abbrev pub first_or_default : CommandForm → List ℕ → Option (List ℕ) → Option (List ℕ)
 first_or_default form name (Some value) = Some value
 first_or_default form name None = if is_among name form.flags then Some (codes "false") else None
 
 -- each name has the value that the words bind it to
-abbrev pub HasBindings : Form → List Binding → List Row → Type 0
+abbrev pub HasBindings : CommandForm → List Binding → List Row → Type 0
 HasBindings form bound rows = (name : List ℕ) → first_of name rows ≡ first_or_default form name (value_of name bound)
 
 -- the matches of `clap` have the value of each name
-abbrev pub GivesValues : Form → List Binding → ArgMatches → Type 0
+abbrev pub GivesValues : CommandForm → List Binding → ArgMatches → Type 0
 GivesValues form bound matches = HasBindings form bound (rows_of (found_of matches))
 
 -- the words bind these names, and the matches have them
-pub record IsParsed (form : Form) (words : List (List ℕ)) (matches : ArgMatches) : Type 0 where
+pub record IsParsed (form : CommandForm) (words : List (List ℕ)) (matches : ArgMatches) : Type 0 where
   pub bound : List Binding
   pub says : bindings form words ≡ Some bound
   pub has : GivesValues form bound matches

@@ -106,7 +106,7 @@ kind_of (a ∷ (b ∷ rest)) = if a == 45 then (if b == 45 then kind_of_long res
 -- ---- what the words after the command's name bind
 
 -- the form of a command: the full names of its options with a value and without, and the names of its positional words in order
-pub record Form : Type 0 where
+pub record CommandForm : Type 0 where
   pub valued : List (List ℕ)
   pub flags : List (List ℕ)
   pub positionals : List (List ℕ)
@@ -133,7 +133,7 @@ bindings_of_positionals places [] = Some []
 bindings_of_positionals places (word ∷ words) = next_bound places word (λ left. bindings_of_positionals left words)
 
 -- an option with a value has it after `=`, or it is the next word; one without has none, and stands for the value `true`
-abbrev pub bindings_of_long : Form → List ℕ → Option (List ℕ) → (Option (List ℕ) → Option (List Binding)) → Option (List Binding)
+abbrev pub bindings_of_long : CommandForm → List ℕ → Option (List ℕ) → (Option (List ℕ) → Option (List Binding)) → Option (List Binding)
 bindings_of_long form name (Some value) rest = if is_among name form.valued then then_bound name value (rest None) else None
 bindings_of_long form name None rest =
     if is_among name form.valued then rest (Some name)
@@ -141,7 +141,7 @@ bindings_of_long form name None rest =
 
 -- one word, where no option waits for its value, or this one does; then the words after it
 abbrev pub bindings_of_word :
-    Form → List (List ℕ) → Option (List ℕ) → Kind → List ℕ → List (List ℕ) → (List (List ℕ) → Option (List ℕ) → Option (List Binding)) → Option (List Binding)
+    CommandForm → List (List ℕ) → Option (List ℕ) → Kind → List ℕ → List (List ℕ) → (List (List ℕ) → Option (List ℕ) → Option (List Binding)) → Option (List Binding)
 bindings_of_word form places (Some name) plain word words rest = then_bound name word (rest places None)
 bindings_of_word form places (Some name) _ word words rest = None
 bindings_of_word form places None ends word words rest = bindings_of_positionals places words
@@ -150,7 +150,7 @@ bindings_of_word form places None short word words rest = None
 bindings_of_word form places None plain word words rest = next_bound places word (λ left. rest left None)
 
 -- what the words bind, in order, where these names of positional words are left; None where a word is refused
-abbrev pub bindings_of : Form → List (List ℕ) → Option (List ℕ) → List (List ℕ) → Option (List Binding)
+abbrev pub bindings_of : CommandForm → List (List ℕ) → Option (List ℕ) → List (List ℕ) → Option (List Binding)
 bindings_of form places None [] = Some []
 bindings_of form places (Some name) [] = None
 bindings_of form places waiting (word ∷ words) =
@@ -166,7 +166,7 @@ abbrev pub bound_once : Option (List Binding) → Option (List Binding)
 bound_once None = None
 bound_once (Some bindings) = if is_once [] bindings then Some bindings else None
 
-abbrev pub bindings : Form → List (List ℕ) → Option (List Binding)
+abbrev pub bindings : CommandForm → List (List ℕ) → Option (List Binding)
 bindings form words = bound_once (bindings_of form form.positionals None words)
 
 -- the value of the name
@@ -257,7 +257,7 @@ name_of word =
     else None)))))))))
 
 -- the form of the words after each name
-abbrev pub form_of : Name → Form
+abbrev pub form_of : Name → CommandForm
 form_of names.Check = record {
   valued = codes "method" ∷ (codes "start" ∷ (codes "bound" ∷ (codes "budget" ∷ (codes "workers" ∷ []))));
   flags = codes "report" ∷ [];

@@ -5,7 +5,7 @@ ghost use Rattle.std.specs.Prelude.{List, ℕ, ◌≡◌, false, codes, option_m
 ghost use Rattle.command_words.specs.declared.Query.TheVariants.{Check, Past};
 ghost use Rattle.command_words.specs.declared.forms.Name.TheVariants as names;
 ghost use Rattle.command_words.specs.Parsing.{Gives, GivesInRange, GivesValues};
-ghost use Rattle.command_words.specs.Words.{Binding, Command as CommandData, Form as FormData, IsQuery, bound_given, command_given};
+ghost use Rattle.command_words.specs.Words.{Binding, Command as CommandData, CommandForm as FormData, IsQuery, bound_given, command_given};
 ghost use Rattle.command_words.specs.Words.{form_of, is_among, searching_given, settings_given, two_of, value_of};
 
 use crate::forms::Name;

@@ -32,7 +32,7 @@ pub(crate) enum Name {
 
 /// The form of the words after a command's name.
 #[derive(Clone, Copy, Debug, Drop)]
-pub(crate) struct Form<'a> {
+pub(crate) struct CommandForm<'a> {
     /// The full names of the options with a value.
     pub(crate) valued: &'a [&'a str],
     /// The full names of the options without a value.
@@ -42,70 +42,70 @@ pub(crate) struct Form<'a> {
 }
 
 /// The form of `check`.
-const CHECK: Form<'static> = Form {
+const CHECK: CommandForm<'static> = CommandForm {
     valued: &["method", "start", "bound", "budget", "workers"],
     flags: &["report"],
     positionals: &["FILE"],
 };
 
 /// The form of `back`.
-const BACK: Form<'static> = Form {
+const BACK: CommandForm<'static> = CommandForm {
     valued: &["budget", "workers"],
     flags: &[],
     positionals: &["FILE"],
 };
 
 /// The form of `deadlock`.
-const DEADLOCK: Form<'static> = Form {
+const DEADLOCK: CommandForm<'static> = CommandForm {
     valued: &["budget", "workers"],
     flags: &[],
     positionals: &["FILE"],
 };
 
 /// The form of `past`.
-const PAST: Form<'static> = Form {
+const PAST: CommandForm<'static> = CommandForm {
     valued: &["bound", "budget", "workers"],
     flags: &[],
     positionals: &["FILE"],
 };
 
 /// The form of `checkall`.
-const CHECK_ALL: Form<'static> = Form {
+const CHECK_ALL: CommandForm<'static> = CommandForm {
     valued: &["budget", "workers"],
     flags: &[],
     positionals: &["FILE", "PROPS"],
 };
 
 /// The form of `verify`.
-const VERIFY: Form<'static> = Form {
+const VERIFY: CommandForm<'static> = CommandForm {
     valued: &[],
     flags: &[],
     positionals: &["FILE", "CERT"],
 };
 
 /// The form of `migrate`.
-const MIGRATE: Form<'static> = Form {
+const MIGRATE: CommandForm<'static> = CommandForm {
     valued: &[],
     flags: &[],
     positionals: &["FILE", "CERT"],
 };
 
 /// The form of `show`.
-const SHOW: Form<'static> = Form {
+const SHOW: CommandForm<'static> = CommandForm {
     valued: &[],
     flags: &[],
     positionals: &["FILE"],
 };
 
 /// The form of `steps`.
-const STEPS: Form<'static> = Form {
+const STEPS: CommandForm<'static> = CommandForm {
     valued: &[],
     flags: &[],
     positionals: &["FILE", "CONFIGURATION"],
 };
 
 /// The form of `gen`.
-const GENERATE: Form<'static> = Form {
+const GENERATE: CommandForm<'static> = CommandForm {
     valued: &["workers"],
     flags: &[],
     positionals: &["N"],
@@ -141,7 +141,7 @@ pub(crate) fn name_of(word: &str) -> Option<Name>
 }
 
 /// The form of the command of this name.
-pub(crate) fn form_of(name: Name) -> Form<'static>
+pub(crate) fn form_of(name: Name) -> CommandForm<'static>
     ensures { form_as_words result ≡ form_of_words name }
 {
     match name {

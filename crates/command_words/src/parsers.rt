@@ -9,7 +9,7 @@ ghost use Rattle.clap.specs.Walk.{rows_of};
 ghost use Rattle.command_words.specs.Parsing.{Fails, IsParsed, flag_rule, form_as_words, parser_of, positional_rule, rule_for, valued_rule};
 ghost use Rattle.command_words.specs.Words.{bindings, form_of as form_of_words};
 
-use crate::forms::{Form, Name, form_of};
+use crate::forms::{CommandForm, Name, form_of};
 use clap::error::ErrorKind;
 use clap::{Arg, ArgAction, ArgMatches, Command as Parser};
 use std::alloc::{AllocError, Global};
@@ -91,7 +91,7 @@ fn with_names<'a>(
 }
 
 // The command of clap for the form.
-fn parser_for<'a>(alloc: Global, form: Form<'a>) -> Result<Parser<'a>, AllocError>
+fn parser_for<'a>(alloc: Global, form: CommandForm<'a>) -> Result<Parser<'a>, AllocError>
     ensures { IfOk result (λ p. app_of p ≡ parser_of (form_as_words form.entry)) }
 {
     let parser = Parser::new(alloc, "armc").disable_help_flag(true);

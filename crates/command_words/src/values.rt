@@ -5,7 +5,7 @@ ghost use Rattle.std.specs.Prelude.{List, ◌≡◌, ◌≤◌, true, false, cod
 ghost use Rattle.std.specs.Char.{is_ascii_digit};
 ghost use Rattle.std.specs.List.{list_all};
 ghost use Rattle.command_words.specs.Parsing.{GivesValues};
-ghost use Rattle.command_words.specs.Words.{Binding, Form as FormData, IsLimits, IsSettings, form_of, is_among, is_true};
+ghost use Rattle.command_words.specs.Words.{Binding, CommandForm as FormData, IsLimits, IsSettings, form_of, is_among, is_true};
 ghost use Rattle.command_words.specs.Words.{bound_given, budget_given, limits_given, settings_given, workers_given, value_of, given};
 ghost use Rattle.command_words.specs.Words.{is_number as is_number_word, method_of, number_after, number_in, start_of};
 ghost use Rattle.command_words.specs.Words.{most_bound, most_budget, most_generated, most_workers};

@@ -1,4 +1,4 @@
 pub mod StuckConfigurations
 pub mod DeadlockTask
 pub mod FreeRows
-pub mod Together
+pub mod private

@@ -1,5 +1,5 @@
-//! The words of all configurations: the initial words of a system that has the same sections and one initial row, which names none of
-//! them. The automaton has a state a section and one between neighbours; a copy of the system is made, which costs what it holds.
+//! The words of all configurations: the initial words of a system that has the same sections and one initial row, which names none of them.
+//! The automaton has a state for each section and one more for each cell; a copy of the system is made, which costs what it holds.
 
 ghost use Rattle.std.specs.Prelude.{◌≡◌, ◌↔◌, ◌∷◌, [], ℕ, List, IfOk, IsTrue};
 ghost use Rattle.word_automata.specs.Automaton.{accepts};

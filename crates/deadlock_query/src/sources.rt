@@ -3,7 +3,7 @@
 
 ghost use Rattle.std.specs.Prelude.{◌≡◌, ◌↔◌, ℕ, List, IfOk};
 ghost use Rattle.safety_problem.specs.Task.{IsBefore, IsByRule};
-ghost use Rattle.deadlock_query.specs.Together.{AreAutomataOf};
+ghost use Rattle.deadlock_query.specs.private.Together.{AreAutomataOf};
 
 use minimise::Canon;
 use safety_problem::Problem;

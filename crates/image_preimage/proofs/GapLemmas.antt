@@ -3,7 +3,7 @@ use Rattle.std.proofs.Common.{◌+◌, ◌<◌, ◌≤◌, ℕ, List, length, su
 use Rattle.std.proofs.lemmas.Bool.{cases_eq}
 use Rattle.word_automata.specs.Automaton.{HasIncreasingLetters}
 use Rattle.word_automata.specs.EdgeList.{letter_at, IsEdgeAt, IsGapFor}
-use Rattle.word_automata.proofs.EdgeList.{letters_rise, find_target_gap}
+use Rattle.word_automata.proofs.ForCallers.{letters_rise, find_target_gap}
 use Rattle.image_preimage.specs.Gaps.{IsGap}
 
 -- the letters from the place on are not below that of the edge there

@@ -5,7 +5,7 @@ use Rattle.std.proofs.lemmas.Option.{same_Some}
 use Rattle.std.proofs.lemmas.List.{nil_from_length}
 use Rattle.word_automata.specs.Path.{Node, edges_of, is_accepting, spelled_one}
 use Rattle.word_automata.specs.Automaton.{Automaton, target, accepts_from, IsValid}
-use Rattle.word_automata.proofs.Targets.{target_within}
+use Rattle.word_automata.proofs.ForCallers.{target_within}
 use Rattle.image_preimage.specs.Pairs.{advance}
 
 module _ {L : Type 0} where

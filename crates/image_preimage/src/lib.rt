@@ -1,4 +1,5 @@
-//! Images and preimages of sets of words under transducers.
+//! Images and preimages of sets of words under transducers, by products of a transducer and an automaton (Rabin and Scott, 1959). They take
+//! time linear in the edges of the transducer at the pairs that are reached, and what it costs to make the result canonical.
 #![tactic(auto)]
 
 mod gap;

@@ -5,18 +5,17 @@ use Rattle.std.proofs.lemmas.List.Elements.{All-nil, All-cons, All-append, Conta
 use Rattle.std.proofs.lemmas.List.Folds.{list_any_at}
 use Rattle.std.proofs.lemmas.Map.Views.{Contains-from_any}
 use Rattle.word_automata.specs.Path.{Node, edges_of, spelled_one}
-use Rattle.word_automata.proofs.Members.{Contains-map, Contains-map_cases}
+use Rattle.word_automata.proofs.ForCallers.{Contains-map, Contains-map_cases}
 use Rattle.transducers.specs.declared.Label.{Label}
 use Rattle.transducers.specs.Transducer.{Transducer, IsEdge, IsValid, Relates, RelatesFrom}
 use Rattle.transducers.specs.Combination.{copy_edges}
-use Rattle.transducers.proofs.PathLemmas.{edges_of-at, is_accepting-at}
-use Rattle.transducers.proofs.CopyLemmas.{IsEdge-copies, Contains-single, nothing_in_nil}
+use Rattle.transducers.proofs.ForCallers.{edges_of-at, is_accepting-at, IsEdge-copies, Contains-single, nothing_in_nil}
 use Rattle.protocol_model.specs.System.{AllBelow}
 use Rattle.protocol_model.specs.Words.{raised}
 use Rattle.protocol_model.specs.Moves.{is_in, IsLoss}
 use Rattle.protocol_model.specs.Raised.{IsRaisedMove}
-use Rattle.protocol_model.proofs.Below.{AllBelow-left, AllBelow-right, AllBelow-append}
-use Rattle.memory_moves.specs.Machine.{reading, cut_edges, cutting_states}
+use Rattle.protocol_model.proofs.ForCallers.{AllBelow-left, AllBelow-right, AllBelow-append}
+use Rattle.memory_moves.specs.private.Machine.{reading, cut_edges, cutting_states}
 use Rattle.memory_moves.proofs.RunLemmas.{ending_run, longer_run}
 use Rattle.memory_moves.proofs.MachineLemmas.{copies_first, copies_before}
 

@@ -10,12 +10,11 @@ use Rattle.word_automata.specs.Path.{Node, edges_of, spelled_one}
 use Rattle.transducers.specs.declared.Label.{Label}
 use Rattle.transducers.specs.Transducer.{Transducer, IsEdge, IsValid, Relates, RelatesFrom}
 use Rattle.transducers.specs.Combination.{copy_edge, copy_edges}
-use Rattle.transducers.proofs.ListLemmas.{slice_get-append_right, Contains-map_cases, Contains-range_cases}
-use Rattle.transducers.proofs.PathLemmas.{edges_of-at, is_accepting-at}
-use Rattle.transducers.proofs.CopyLemmas.{IsEdge-copies, copy_edge_from_letter, Contains-single, nothing_in_nil}
+use Rattle.transducers.proofs.ForCallers.{slice_get-append_right, Contains-map_cases, Contains-range_cases, edges_of-at, is_accepting-at}
+use Rattle.transducers.proofs.ForCallers.{IsEdge-copies, copy_edge_from_letter, Contains-single, nothing_in_nil}
 use Rattle.protocol_model.specs.System.{AllBelow}
 use Rattle.protocol_model.specs.Words.{raised}
-use Rattle.memory_moves.specs.Machine.{IsLabel, IsCopiedBetween, chain, copying_end, read_word, written_word}
+use Rattle.memory_moves.specs.private.Machine.{IsLabel, IsCopiedBetween, chain, copying_end, read_word, written_word}
 use Rattle.memory_moves.proofs.RunLemmas.{EndsAt, TakesEdge, cases_run, ending_run, longer_run}
 
 -- the states from number n on are those of the list

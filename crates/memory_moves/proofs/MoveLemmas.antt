@@ -8,8 +8,8 @@ use Rattle.protocol_model.specs.System.{AllBelow}
 use Rattle.protocol_model.specs.Words.{raised}
 use Rattle.protocol_model.specs.Moves.{IsMove, popped}
 use Rattle.protocol_model.specs.Raised.{IsRaisedMove}
-use Rattle.protocol_model.proofs.Below.{AllBelow-left, AllBelow-right, AllBelow-append}
-use Rattle.memory_moves.specs.Machine.{IsLabel, IsCopiedBetween, reading, writing, stack_prefix, read_word, written_word}
+use Rattle.protocol_model.proofs.ForCallers.{AllBelow-left, AllBelow-right, AllBelow-append}
+use Rattle.memory_moves.specs.private.Machine.{IsLabel, IsCopiedBetween, reading, writing, stack_prefix, read_word, written_word}
 
 -- labels in range
 IsLabel-reading : (letters a : ℕ) → a < letters → IsLabel letters (reading a)

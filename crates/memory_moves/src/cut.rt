@@ -6,7 +6,7 @@ ghost use Rattle.protocol_model.specs.System.{AllBelow};
 ghost use Rattle.protocol_model.specs.Moves.{IsLoss};
 ghost use Rattle.protocol_model.specs.Raised.{IsRaisedMove};
 ghost use Rattle.transducers.specs.Transducer.{Relates};
-ghost use Rattle.memory_moves.specs.Machine.{cut_edges, cutting_states};
+ghost use Rattle.memory_moves.specs.private.Machine.{cut_edges, cutting_states};
 
 use crate::reading;
 use protocol_model::SectionLetters;

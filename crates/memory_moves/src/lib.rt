@@ -11,7 +11,7 @@ ghost use Rattle.protocol_model.specs.System.{IsValidMove, belongs_to};
 ghost use Rattle.protocol_model.specs.Moves.{IsMove};
 ghost use Rattle.protocol_model.specs.Raised.{IsRaisedMove};
 ghost use Rattle.transducers.specs.Transducer.{Relates};
-ghost use Rattle.memory_moves.specs.Machine.{reading, writing, stack_prefix};
+ghost use Rattle.memory_moves.specs.private.Machine.{reading, writing, stack_prefix};
 
 pub use cut::compile_cut;
 use machine::copy_between;

@@ -3,7 +3,7 @@
 
 ghost use Rattle.std.specs.Prelude.{◌≡◌, ◌↔◌, ◌+◌, ◌++◌, ◌<◌, ◌≤◌, ◌^◌, ℕ, List, All, IfOk, IfSome, OnOk, length};
 ghost use Rattle.transducers.specs.Transducer.{Relates};
-ghost use Rattle.memory_moves.specs.Machine.{IsLabel, IsCopiedBetween, chain, copying_end};
+ghost use Rattle.memory_moves.specs.private.Machine.{IsLabel, IsCopiedBetween, chain, copying_end};
 
 use protocol_model::SectionLetters;
 use std::alloc::{AllocError, Global};

@@ -1,4 +1,5 @@
-//! The inverses of transducers, in time linear in their sizes.
+//! The inverses of transducers: each edge reads what it wrote and writes what it read (Berstel, Transductions and Context-Free Languages,
+//! 1979). They take time and memory linear in the sizes of the transducers.
 
 ghost use Rattle.std.specs.Prelude.{IfOk};
 ghost use Rattle.parallel_post.specs.Compilation.{AreInverses};

@@ -5,7 +5,7 @@ use Rattle.std.proofs.lemmas.Option.{slice_get_within, same_Some}
 use Rattle.std.specs.List.{slice_get}
 use Rattle.refinement.specs.declared.verdict.Verdict.{Verdict}
 use Rattle.protocol_properties.specs.declared.properties.Property.{Property}
-use Rattle.protocol_search.proofs.Rounds.{verdict-once}
+use Rattle.protocol_search.proofs.ForCallers.{verdict-once}
 use Rattle.property_batch.specs.PropertyVerdicts.{IsPropertyVerdict, AreVerdicts, VerdictsAreByNumber, VerdictsAreDetermined, no_verdict, one_more, property_search}
 
 verdicts-append : (budget : ℕ) (ps qs : List Property) (vs ws : List Verdict) → AreVerdicts budget ps vs → AreVerdicts budget qs ws

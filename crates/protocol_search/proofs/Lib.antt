@@ -1,3 +1,4 @@
+pub mod ForCallers
 pub mod StepLemmas
 pub mod RunsTo
 pub mod ProofLemmas

@@ -4,7 +4,7 @@ use Rattle.std.proofs.lemmas.Bool.{cases_lt}
 use Rattle.protocol_model.specs.declared.system.Configuration.{Configuration}
 use Rattle.protocol_model.specs.declared.system.Run.{Run}
 use Rattle.protocol_model.specs.System.{SystemData}
-use Rattle.configuration_words.proofs.WordFacts.{word_of-injective}
+use Rattle.configuration_words.proofs.ForCallers.{word_of-injective}
 use Rattle.protocol_search.specs.Runs.{IsLeastRule, IsWordOf, AreStepsThrough, IsRunThrough}
 
 same-configuration : (s : SystemData) (w : List ℕ) (c d : Configuration) → IsWordOf s w c → IsWordOf s w d → c ≡ d

@@ -9,22 +9,19 @@ use Rattle.abstraction.specs.Merging.{Key}
 use Rattle.abstraction.specs.Signatures.{AreSignatures}
 use Rattle.predicate_abstraction.specs.PredicateLaws.{related-excludes, related-equivalence as predicates-equivalence}
 use Rattle.predicate_abstraction.specs.Signatures as by_predicate
-use Rattle.predicate_abstraction.proofs.SignatureLaws as predicate_laws
+use Rattle.predicate_abstraction.proofs.ForCallers.{related_by_signature as related_by_predicates}
 use Rattle.future_abstraction.specs.FutureLaws.{related-equivalence as lengths-equivalence}
 use Rattle.future_abstraction.specs.Signatures as by_length
-use Rattle.future_abstraction.proofs.SignatureLemmas as length_laws
+use Rattle.future_abstraction.proofs.ForCallers.{related_by_signature as related_by_lengths}
 use Rattle.past_abstraction.specs.PastLaws.{related-equivalence as pasts-equivalence}
 use Rattle.search_history.specs.Counting.{size}
-use Rattle.search_history.specs.Histories.{Method, SearchRound, History, last_level, log_of_round}
+use Rattle.search_history.specs.Histories.{RefinableAbstraction, SearchRound, History, last_level, log_of_round}
 use Rattle.refinement.specs.declared.verdict.Verdict.{Verdict}
 use Rattle.refinement.specs.Bounds.{HoldOfRounds}
 use Rattle.refinement.specs.Exclusion.{AreRefutedOnce}
 use Rattle.refinement.specs.Laws.{LeadsToBad}
 use Rattle.search_history.specs.declared.log.LogEnd.TheVariants.{Closed}
-use Rattle.refinement.proofs.Bounds.{history-bounded}
-use Rattle.refinement.proofs.Exclusion.{refuted_once}
-use Rattle.refinement.proofs.KeyBounds.{rounds_bounded}
-use Rattle.refinement.proofs.Uniqueness.{automaton-unique, history-unique}
+use Rattle.refinement.proofs.ForCallers.{history-bounded, refuted_once, rounds_bounded, automaton-unique, history-unique}
 use Rattle.protocol_search.specs.Analyses.{task_for, searched, searched_task, proof_limit, IsVerdictBy}
 use Rattle.protocol_search.specs.Methods.{by_predicates, by_lengths, by_pasts, search_method, first_key, IsByPredicates}
 use Rattle.protocol_search.specs.OneVerdict.{HistoryIsDetermined, VerdictIsDetermined}
@@ -88,7 +85,8 @@ verdict-text-shows s search v text h told =
     text-shows search.analysis s (proof_limit search.analysis search.budget) v text (verdict-sound s search v h) told
 
 -- what holds of every round holds of these, whatever their keys are
-held : (method : Method) (P : Key → SearchRound → Type 0) → ((key : Key) (round : SearchRound) → P key round) → (key : Key) (rounds : List SearchRound)
+held : (method : RefinableAbstraction) (P : Key → SearchRound → Type 0)
+    → ((key : Key) (round : SearchRound) → P key round) → (key : Key) (rounds : List SearchRound)
     → HoldOfRounds method P key rounds
 held method P always key [] = tt
 held method P always key (round ∷ rounds) = (always key round, λ x last. held method P always (method.next key x) rounds)
@@ -106,13 +104,13 @@ module _ (t : Task) (budget : ℕ) {key : Key} {s z : ℕ} {rounds : List Search
       → HoldOfRounds (search_method first) (IsBoundedByKey t.letters first) key rounds
   bounded-by BadPredicates h =
       rounds_bounded t by_predicates (own-related BadPredicates) by_predicate.tests by_predicate.signature
-      (λ k. predicate_laws.related_by_signature k t.letters) budget h
+      (λ k. related_by_predicates k t.letters) budget h
   bounded-by NoPredicates h =
       rounds_bounded t by_predicates (own-related NoPredicates) by_predicate.tests by_predicate.signature
-      (λ k. predicate_laws.related_by_signature k t.letters) budget h
+      (λ k. related_by_predicates k t.letters) budget h
   bounded-by (Lengths bound) h =
       rounds_bounded t by_lengths (own-related (Lengths bound)) (λ k. by_length.tests k t.letters) by_length.future_signature
-      (λ k. length_laws.related_by_signature k t.letters) budget h
+      (λ k. related_by_lengths k t.letters) budget h
   bounded-by (Pasts bound) h = held by_pasts (IsBoundedByKey t.letters (Pasts bound)) (λ k round. tt) key rounds
 
 pub refutes-once : SearchRefutesOnce

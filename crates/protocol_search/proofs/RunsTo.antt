@@ -10,7 +10,7 @@ use Rattle.protocol_model.specs.Runs.{AreSteps, last_of}
 use Rattle.safety_problem.specs.Task.{Task}
 use Rattle.trace_replay.specs.Runs.{IsBadChain, IsChainToBad}
 use Rattle.refinement.specs.Laws.{LeadsToBad}
-use Rattle.configuration_words.proofs.WordFacts.{word_of-injective}
+use Rattle.configuration_words.proofs.ForCallers.{word_of-injective}
 use Rattle.protocol_search.specs.Runs.{IsRunTo, AreStepWords, AreStepsThrough, IsRunThrough}
 use Rattle.protocol_search.proofs.StepLemmas.{initial-fits, initial-word}
 

@@ -5,17 +5,14 @@ use Rattle.word_automata.specs.Automaton.{Automaton}
 use Rattle.safety_problem.specs.Task.{Task}
 use Rattle.safety_problem.specs.Reversal.{reversed}
 use Rattle.abstraction.specs.Merging.{Key}
-use Rattle.search_history.specs.Histories.{Method, SearchRound, IsSearchRound, History, ends, goes_on, log_of}
+use Rattle.search_history.specs.Histories.{RefinableAbstraction, SearchRound, IsSearchRound, History, ends, goes_on, log_of}
 use Rattle.search_history.specs.declared.log.Log.{Log}
 use Rattle.search_history.specs.declared.log.LogEnd.{LogEnd}
 use Rattle.search_history.specs.declared.log.LogEnd.TheVariants.{Spent}
 use Rattle.refinement.specs.Verdicts.{IsVerdict, IsVerdictOfRound, IsSound, log_in}
 use Rattle.refinement.specs.declared.verdict.Verdict.{Verdict}
 use Rattle.refinement.specs.declared.verdict.Verdict.TheVariants.{Safe, Unsafe, Unknown}
-use Rattle.refinement.proofs.Bounds.{history-larger}
-use Rattle.refinement.proofs.DecisionLemmas.{closed-round}
-use Rattle.refinement.proofs.RealRuns.{round-run}
-use Rattle.refinement.proofs.RoundLemmas.{round-proof}
+use Rattle.refinement.proofs.ForCallers.{history-larger, closed-round, round-run, round-proof}
 use Rattle.backward_search.specs.BackwardVerdicts.{IsBackwardVerdict, IsToldBackward}
 use Rattle.protocol_search.specs.SearchLaws.{with_logged_budget, logged_within}
 use Rattle.protocol_search.specs.Verdicts.{end_of}
@@ -26,7 +23,7 @@ ends-so t round (Unsafe words log) h = h.0
 ends-so t round (Unknown log) h = h
 
 -- the log and the end are those of a history
-pub record IsFromRounds (t : Task) (method : Method) (key : Key) (budget : ℕ) (log : Log) (end : LogEnd) : Type 0 where
+pub record IsFromRounds (t : Task) (method : RefinableAbstraction) (key : Key) (budget : ℕ) (log : Log) (end : LogEnd) : Type 0 where
   pub rounds : List SearchRound
   pub sum : ℕ
   pub history : History t method budget key 0 rounds sum
@@ -35,7 +32,7 @@ pub record IsFromRounds (t : Task) (method : Method) (key : Key) (budget : ℕ) 
   pub is_last : last_or None rounds ≡ Some last_round
   pub ends : last_round.end ≡ end
 
-pub from-rounds : (t : Task) (method : Method) (key : Key) (budget : ℕ) (v : Verdict) → IsVerdict t method key budget v
+pub from-rounds : (t : Task) (method : RefinableAbstraction) (key : Key) (budget : ℕ) (v : Verdict) → IsVerdict t method key budget v
     → IsFromRounds t method key budget (log_in v) (end_of v)
 from-rounds t method key budget v h = record {
   rounds = h.rounds;
@@ -48,7 +45,7 @@ from-rounds t method key budget v h = record {
 }
 
 -- the last round of a history is one of the search by some key
-record IsOneOf (t : Task) (method : Method) (budget : ℕ) (round : SearchRound) : Type 0 where
+record IsOneOf (t : Task) (method : RefinableAbstraction) (budget : ℕ) (round : SearchRound) : Type 0 where
   key : Key
   before : ℕ
   after : ℕ
@@ -57,13 +54,13 @@ record IsOneOf (t : Task) (method : Method) (budget : ℕ) (round : SearchRound)
 pub same-round : (a b : SearchRound) → Some a ≡ Some b → a ≡ b
 same-round a b h = cc h
 
-last-of : (t : Task) (method : Method) (budget : ℕ) (o : Option SearchRound) (last : SearchRound) {key : Key} {s z : ℕ} {rounds : List SearchRound}
+last-of : (t : Task) (method : RefinableAbstraction) (budget : ℕ) (o : Option SearchRound) (last : SearchRound) {key : Key} {s z : ℕ} {rounds : List SearchRound}
     → History t method budget key s rounds z → last_or o rounds ≡ Some last → IsOneOf t method budget last
 last-of t method budget o last (ends {key = key} {s = s} {sum = z} {round = round} h open_end) is =
     subst (IsOneOf t method budget) (same-round round last is) (record { key = key; before = s; after = z; searched = h })
 last-of t method budget o last (goes_on {round = round} h refuted at rest) is = last-of t method budget (Some round) last rest is
 
-module _ (t : Task) (method : Method) (own : (key : Key) (a : Automaton) (p : ℕ) → method.related key a p p) (budget : ℕ) where
+module _ (t : Task) (method : RefinableAbstraction) (own : (key : Key) (a : Automaton) (p : ℕ) → method.related key a p p) (budget : ℕ) where
   sound-last : (round : SearchRound) (v : Verdict) → IsOneOf t method budget round → IsVerdictOfRound t round v → IsSound t budget v
   sound-last round (Safe proof log) one h =
       round-proof t (method.related one.key) budget one.before one.after round.n round.m (own one.key)
@@ -86,7 +83,8 @@ round-stays t round budget (Safe proof log) h = h
 round-stays t round budget (Unsafe words log) h = h
 round-stays t round budget (Unknown log) h = h
 
-pub verdict-stays : (t : Task) (method : Method) (key : Key) (budget larger : ℕ) (v : Verdict) → budget ≤ larger → end_of v ≢ Spent
+pub verdict-stays : (t : Task) (method : RefinableAbstraction) (key : Key) (budget larger : ℕ) (v : Verdict)
+    → budget ≤ larger → end_of v ≢ Spent
     → IsVerdict t method key budget v → IsVerdict t method key larger (with_logged_budget larger v)
 verdict-stays t method key budget larger v more decided h =
     let unspent : h.last_round.end ≢ Spent = λ spent. decided (sym (ends-so t h.last_round v h.verdict_of) ∙ spent) in
@@ -122,7 +120,8 @@ told-end (Safe proof log) v (c, complement, told) = ap end_of (sym told)
 told-end (Unsafe words log) v told = ap end_of (sym told)
 told-end (Unknown log) v told = ap end_of (sym told)
 
-pub from-rounds-back : (t : Task) (method : Method) (key : Key) (budget : ℕ) (v : Verdict) → IsBackwardVerdict t method key budget v
+pub from-rounds-back : (t : Task) (method : RefinableAbstraction) (key : Key) (budget : ℕ) (v : Verdict)
+    → IsBackwardVerdict t method key budget v
     → IsFromRounds (reversed t) method key budget (log_in v) (end_of v)
 from-rounds-back t method key budget v h =
     let from = from-rounds (reversed t) method key budget h.found h.is_found in
@@ -134,7 +133,8 @@ told-stays larger (Safe proof log) v (c, complement, told) = (c, complement, ap 
 told-stays larger (Unsafe words log) v told = ap (with_logged_budget larger) told
 told-stays larger (Unknown log) v told = ap (with_logged_budget larger) told
 
-pub verdict-stays-back : (t : Task) (method : Method) (key : Key) (budget larger : ℕ) (v : Verdict) → budget ≤ larger → end_of v ≢ Spent
+pub verdict-stays-back : (t : Task) (method : RefinableAbstraction) (key : Key) (budget larger : ℕ) (v : Verdict)
+    → budget ≤ larger → end_of v ≢ Spent
     → IsBackwardVerdict t method key budget v → IsBackwardVerdict t method key larger (with_logged_budget larger v)
 verdict-stays-back t method key budget larger v more decided h = record {
   found = with_logged_budget larger h.found;

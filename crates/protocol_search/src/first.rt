@@ -1,4 +1,5 @@
-//! Which abstraction a search begins with.
+//! Which abstraction a search begins with: by predicates or by words of bounded length that states accept (Bouajjani, Habermehl and Vojnar,
+//! CAV 2004), or by such words that lead into them. It is a plain value, which is copied.
 
 /// Which abstraction a search begins with.
 #[derive(Clone, Copy, Debug, Drop)]

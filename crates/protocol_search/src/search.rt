@@ -1,4 +1,5 @@
-//! What is searched, as plain values, so that a law can speak of every search.
+//! What is searched: which analysis of a system, from which abstraction, and within which budget. These are plain values, which are copied,
+//! so that a law can speak of every search.
 
 use crate::first::FirstAbstraction;
 

@@ -1,6 +1,6 @@
-//! The text that tells a verdict: an automaton, a run by least rules, or the counted states, as a certificate, or of a search for
-//! deadlocks under a first line of its own. It costs the length of the text, and for each
-//! step of a run one test of each rule up to the least one that makes it.
+//! The text that tells a verdict: an automaton, a run by least rules, or the counted states, as a certificate, or of a search for deadlocks
+//! under a first line of its own. It costs the length of the text, and for each step of a run one test of each rule up to the least one
+//! that makes it.
 
 ghost use Rattle.std.specs.Prelude.{◌≤◌, IfOk};
 ghost use Rattle.parallel_post.specs.SystemTask.{task_of};

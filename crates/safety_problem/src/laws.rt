@@ -1,4 +1,5 @@
-//! A law of problems. It has no code: it is the contract of a function that does nothing.
+//! A law of problems: the words after, and before, those of an automaton have one canonical automaton, whoever makes it (by the uniqueness
+//! of minimal automata: J. Myhill, 1957; A. Nerode, 1958). It has no code: it is the contract of a function that does nothing.
 
 ghost use Rattle.std.specs.Prelude.{◌≡◌};
 ghost use Rattle.word_automata.specs.Automaton.{Automaton};

@@ -7,10 +7,10 @@ use Rattle.search_history.specs.declared.log.LogEnd.{LogEnd}
 use Rattle.search_history.specs.declared.log.LogEnd.TheVariants.{Closed, Refuted, Real, Spent}
 use Rattle.search_history.specs.declared.log.RoundLog.{RoundLog}
 use Rattle.search_history.specs.declared.log.Log.{Log}
-use Rattle.search_report.specs.declared.method.Method.{Method}
-use Rattle.search_report.specs.declared.method.Method.TheVariants.{Predicates, Length}
+use Rattle.search_report.specs.declared.method.ReportedMethod.{ReportedMethod}
+use Rattle.search_report.specs.declared.method.ReportedMethod.TheVariants.{Predicates, Length}
 
-abbrev pub method_name : Method → List ℕ
+abbrev pub method_name : ReportedMethod → List ℕ
 method_name Predicates = codes "predicates"
 method_name Length = codes "length"
 
@@ -58,7 +58,7 @@ abbrev pub rounds_array : List RoundLog → Json
 rounds_array rounds = array (rounds_items rounds)
 
 -- a search: the budget, the sum of all sizes, the method, the rounds in their order, and the verdict
-abbrev pub report_object : Method → Log → Json
+abbrev pub report_object : ReportedMethod → Log → Json
 report_object method log =
     object (member (codes "budget") (number (decimal log.budget))
     (member (codes "counted") (number (decimal log.counted))
@@ -67,5 +67,5 @@ report_object method log =
     (member (codes "verdict") (string (verdict_of (slice_get log.rounds (length log.rounds - 1)))) no_members)))))
 
 -- the report, with a line feed at its end
-abbrev pub report_text : Method → Log → List ℕ
+abbrev pub report_text : ReportedMethod → Log → List ℕ
 report_text method log = print (json_tokens (report_object method log)) ++ 10 ∷ []

@@ -5,5 +5,5 @@
 mod method;
 mod writing;
 
-pub use method::Method;
+pub use method::ReportedMethod;
 pub use writing::report;

@@ -7,7 +7,7 @@ ghost use Rattle.json.specs.Tree.{json_tokens};
 ghost use Rattle.search_report.specs.Report.{method_name, end_name, end_verdict, verdict_of, sizes_array, round_object, rounds_array, report_text};
 ghost use Rattle.search_report.specs.Writing.{size_token, round_tokens};
 
-use crate::method::Method;
+use crate::method::ReportedMethod;
 use json::Writer;
 use search_history::{Log, LogEnd, RoundLog};
 use std::alloc::{AllocError, Global};
@@ -15,7 +15,7 @@ use std::alloc::{AllocError, Global};
 /// The report of a search by this method with this log: the compact text of a JSON object, and a line feed.
 ///
 /// Errors: `AllocError` where memory runs out.
-pub fn report(alloc: Global, method: Method, log: &Log) -> Result<Vec<u8>, AllocError>
+pub fn report(alloc: Global, method: ReportedMethod, log: &Log) -> Result<Vec<u8>, AllocError>
     ensures { IfOk result (λ text. text.items ≡ report_text method log.now) }
 {
     let mut writer = Writer::new(Vec::new(alloc));
@@ -113,12 +113,12 @@ fn put_round(writer: &mut Writer, round: &RoundLog) -> Result<(), AllocError>
 }
 
 /// The name of the method.
-fn name_of_method(method: Method) -> &'static str
+fn name_of_method(method: ReportedMethod) -> &'static str
     ensures { result.now ≡ method_name method }
 {
     match method {
-        Method::Predicates => "predicates",
-        Method::Length => "length",
+        ReportedMethod::Predicates => "predicates",
+        ReportedMethod::Length => "length",
     }
 }
 

@@ -1,4 +1,5 @@
-//! The words of configurations of a system with a cell and a channel.
+//! The words of configurations of a system with a cell and a channel: a word is decoded, and what it means is encoded to it again. Each has
+//! a few letters.
 
 use crate::moves::{HANDOFF, system};
 use configuration_words::{decode, encode};

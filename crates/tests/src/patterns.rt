@@ -1,4 +1,5 @@
-//! How many states the automata of initial and of bad words have.
+//! How many states the automata of initial and of bad words have: a few, or one for each set of places where a pattern asks for that. The
+//! greatest has 8,192.
 
 use crate::moves::{HANDOFF, system};
 use section_patterns::{bad_words, initial_words};

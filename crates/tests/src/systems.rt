@@ -1,4 +1,5 @@
-//! The system of a protocol's text, for tests and others that have no use for its faults.
+//! The system of a protocol's text, for tests and others that have no use for its faults. It costs what the parse of the text costs, and
+//! the resolution of its names.
 
 ghost use Rattle.std.specs.Prelude.{IfOk, IfSome};
 ghost use Rattle.tests.specs.Systems.{IsSystemOfText};

@@ -5,9 +5,9 @@ use Rattle.std.proofs.Math.Nat.{add-zero}
 use Rattle.std.proofs.lemmas.List.{length-map}
 use Rattle.std.proofs.lemmas.List.Elements.{All-contains, All-map, All-weaker, All-append, Contains-append_left, Contains-append_right}
 use Rattle.std.proofs.lemmas.List.Elements.{Contains-append_cases}
-use Rattle.sequence.proofs.Places.{slice_get-append_left}
+use Rattle.sequence.proofs.ForCallers.{slice_get-append_left}
 use Rattle.word_automata.specs.Path.{Node, IsPath, spelled, spelled_one}
-use Rattle.word_automata.proofs.Members.{Contains-map, Contains-map_cases}
+use Rattle.word_automata.proofs.ForCallers.{Contains-map, Contains-map_cases}
 use Rattle.transducers.specs.declared.Label.{Label}
 use Rattle.transducers.specs.Transducer.{Transducer, IsValid, IsEdge, Relates, RelatesFrom, read_of, write_of}
 use Rattle.transducers.specs.Combination.{shifted_edge, shifted_node, inverse_edge, inverse_node}

@@ -5,7 +5,7 @@ use Rattle.std.specs.List.{range_with_len}
 use Rattle.std.proofs.lemmas.List.Elements.{All-map, All-nil, All-cons, All-head, All-tail, Contains-get_or, Contains-push_cases}
 use Rattle.std.proofs.lemmas.Option.{same_Some}
 use Rattle.word_automata.specs.Path.{edges_of}
-use Rattle.word_automata.proofs.Members.{Contains-map, Contains-map_cases}
+use Rattle.word_automata.proofs.ForCallers.{Contains-map, Contains-map_cases}
 use Rattle.transducers.specs.declared.Label.{Label}
 use Rattle.transducers.specs.Transducer.{Transducer, IsEdge, Relates}
 use Rattle.transducers.specs.Builder.{without_states, with_state, with_start, with_edges}

@@ -5,10 +5,9 @@ use Rattle.std.proofs.Math.Nat.{add-zero}
 use Rattle.std.proofs.lemmas.List.{length-map, append_assoc, drop_more}
 use Rattle.std.proofs.lemmas.List.Elements.{All-contains, All-map, All-weaker, All-append, Contains-append_left, Contains-append_right}
 use Rattle.std.proofs.lemmas.List.Elements.{Contains-append_cases, All-nil}
-use Rattle.sequence.proofs.Places.{slice_get-append_left}
+use Rattle.sequence.proofs.ForCallers.{slice_get-append_left}
 use Rattle.word_automata.specs.Path.{Node, IsPath, edges_of, is_accepting, spelled, spelled_one}
-use Rattle.word_automata.proofs.Paths.{IsPath-append, spelled-append}
-use Rattle.word_automata.proofs.Members.{Contains-map, Contains-map_cases}
+use Rattle.word_automata.proofs.ForCallers.{IsPath-append, spelled-append, Contains-map, Contains-map_cases}
 use Rattle.transducers.specs.declared.Label.{Label}
 use Rattle.transducers.specs.Transducer.{Transducer, IsValid, IsEdge, Relates, RelatesFrom, read_of, write_of}
 use Rattle.transducers.specs.Combination.{shifted_edge, shifted_node, copy_edge}

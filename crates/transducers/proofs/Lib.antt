@@ -1,3 +1,4 @@
+pub mod ForCallers
 pub mod ListLemmas
 mod BuilderLemmas
 mod SearchLemmas

@@ -6,9 +6,9 @@ use Rattle.std.specs.Option.{option_map}
 use Rattle.std.proofs.Math.Nat.{add-zero, add-suc}
 use Rattle.std.proofs.lemmas.List.FromFn.{length-range_with_len, get_or-range_with_len}
 use Rattle.std.proofs.lemmas.Option.{slice_get_read, slice_get_within, same_Some, get_or_from_slice_get}
-pub use Rattle.sequence.proofs.Places.{slice_get-append_left, slice_get-push_last}
+pub use Rattle.sequence.proofs.ForCallers.{slice_get-append_left, slice_get-push_last}
 use Rattle.word_automata.specs.Path.{spelled_one}
-pub use Rattle.word_automata.proofs.Members.{Contains-map_cases}
+pub use Rattle.word_automata.proofs.ForCallers.{Contains-map_cases}
 
 -- between the two ways to say that a list has an element
 pub place_from_Contains : {X : Type 0} (xs : List X) (x : X) → Contains xs x → (k : ℕ) × (slice_get xs k ≡ Some x)

@@ -3,7 +3,7 @@ use Rattle.std.proofs.Common.{◌≡◌, ℕ, ◌+◌, ◌<◌, true, false, Lis
 use Rattle.std.proofs.Common.{sym, ap, ◌∙◌, subst, inl, inr, arith, IsTrue, All, true≢false}
 use Rattle.std.proofs.lemmas.List.Elements.{All-contains}
 use Rattle.word_automata.specs.Path.{Node, edges_of, is_accepting, IsPath, spelled, spelled_one}
-use Rattle.word_automata.proofs.Members.{Contains-map, Contains-map_cases}
+use Rattle.word_automata.proofs.ForCallers.{Contains-map, Contains-map_cases}
 use Rattle.transducers.specs.declared.Label.{Label}
 use Rattle.transducers.specs.Transducer.{Transducer, IsValid, IsEdge, RelatesFrom, read_of, write_of}
 use Rattle.transducers.specs.Combination.{shifted_edge, shifted_node}

@@ -8,7 +8,7 @@ use Rattle.std.proofs.lemmas.Bool.{cases_lt}
 use Rattle.std.proofs.Math.ListN.{drop_of_length-le}
 use Rattle.indexmap.specs.IndexSet.{insert_key}
 use Rattle.indexmap.proofs.CallerLemmas.{Contains-list_any}
-use Rattle.sequence.proofs.Places.{slice_get-append_left, slice_get-push_cases, slice_get-push_last}
+use Rattle.sequence.proofs.ForCallers.{slice_get-append_left, slice_get-push_cases, slice_get-push_last}
 use Rattle.word_automata.specs.Path.{edges_of, is_accepting, IsPath, spelled, spelled_one}
 use Rattle.transducers.specs.declared.Label.{Label}
 use Rattle.transducers.specs.declared.search.Position.{Position}

@@ -1,5 +1,5 @@
-//! Transducers made of others: their union, which has the states of both side by side, and their inverse, whose edges are turned round
-//! (Berstel, Transductions and Context-Free Languages, 1979). Each takes time linear in the states and edges.
+//! Transducers made of others: their union, which has the states of both side by side, and their inverse, whose edges read what they wrote
+//! and write what they read (Berstel, Transductions and Context-Free Languages, 1979). Each takes time linear in the states and edges.
 
 ghost use Rattle.std.specs.Prelude.{◌≡◌, ◌↔◌, ◌+◌, ◌^◌, ◌<◌, ◌++◌, ◌⊎◌, ℕ, List, map, All, IfOk, OnOk, length};
 ghost use Rattle.transducers.specs.Transducer.{Relates};

@@ -1,8 +1,8 @@
 -- What each query searches, how its verdict is told, its reply, and what the reply promises.
 use Rattle.std.specs.Prelude.{ℕ, List, [], ◌∷◌, Option, None, Some, if◌then◌else◌}
 use Rattle.protocol_model.specs.System.{SystemData}
-use Rattle.search_report.specs.declared.method.Method.{Method as ReportedMethod}
-use Rattle.search_report.specs.declared.method.Method.TheVariants as reported
+use Rattle.search_report.specs.declared.method.ReportedMethod.{ReportedMethod}
+use Rattle.search_report.specs.declared.method.ReportedMethod.TheVariants as reported
 use Rattle.command_words.specs.declared.Method.{Method}
 use Rattle.command_words.specs.declared.Method.TheVariants.{Predicates, Length}
 use Rattle.command_words.specs.declared.Query.{Query}

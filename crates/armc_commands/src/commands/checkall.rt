@@ -12,7 +12,7 @@ ghost use Rattle.armc_commands.specs.declared.search_reply.Telling.TheVariants.{
 ghost use Rattle.armc_commands.specs.SearchReply.{IsSearchReply, status_of, titled, is_unsafe as is_unsafe_verdict, is_unknown as is_unknown_verdict};
 ghost use Rattle.command_replies.specs.Reply.{refusal_reply as refusal_reply_of};
 ghost use Rattle.armc_commands.specs.Commands.CheckAll.{IsCheckAllReply, CheckAllPromise, property_parts};
-ghost use Rattle.armc_commands.specs.PartTexts.{AreTold, IsToldPart};
+ghost use Rattle.armc_commands.specs.private.PartTexts.{AreTold, IsToldPart};
 
 use crate::search_reply::keep_search_promises;
 use armc_io::Gate;

@@ -16,7 +16,7 @@ use command_replies::Reply;
 use command_words::{Limits, Method, Query, Settings, Start};
 use protocol_model::System;
 use protocol_search::{Analysis, FirstAbstraction, Search};
-use search_report::Method as ReportedMethod;
+use search_report::ReportedMethod;
 use std::alloc::{AllocError, Global};
 use std::thread::Threads;
 

@@ -1,5 +1,5 @@
-//! The command that lists successors: the text of a configuration is read, its successors are found, and each is told in a line.
-//! It costs the length of the lines.
+//! The command that lists successors: the text of a configuration is read, its successors are found, and each is told in a line. It costs
+//! what the successors cost to find, and the length of the lines.
 
 ghost use Rattle.std.specs.Prelude.{◌≡◌, ◌≢◌, ◌++◌, IsTrue, IfOk, OnOk};
 ghost use Rattle.std.specs.List.{AllByRecursion};

@@ -1,10 +1,10 @@
 use Rattle.std.proofs.Common.{◌↔◌, ◌∷◌, [], ℕ, List, IfOk, sym, subst}
 use Rattle.std.proofs.lemmas.Result.{IfOk-weaker}
-use Rattle.sequence.proofs.Tests.{joined}
+use Rattle.sequence.proofs.ForCallers.{joined}
 use Rattle.protocol_syntax.specs.declared.protocol.Move.TheVariants.{Exit}
 use Rattle.protocol_model.specs.System.{IsValidMove}
 use Rattle.protocol_model.specs.Moves.{IsMove, IsAtMove, IsLoss}
-use Rattle.protocol_model.proofs.Cuts.{raised_cut}
+use Rattle.protocol_model.proofs.ForCallers.{raised_cut}
 use Rattle.transducers.specs.Transducer.{Relates}
 use Rattle.protocol_model.specs.Raised.{IsRaisedMove}
 use Rattle.array_moves.proofs.compile_array.Goals as goal

@@ -5,10 +5,10 @@ use Rattle.transducers.specs.Combination.{exchange}
 use Rattle.protocol_syntax.specs.declared.protocol.Move.TheVariants.{Set}
 use Rattle.protocol_model.specs.Moves.{IsMove}
 use Rattle.protocol_model.specs.Raised.{IsRaisedMove}
-use Rattle.memory_moves.specs.Machine.{IsCopiedBetween}
+use Rattle.memory_moves.specs.private.Machine.{IsCopiedBetween}
 use Rattle.memory_moves.proofs.MoveLemmas.{cell_relates}
 use Rattle.memory_moves.proofs.compile_cell.Goals as goal
-use Rattle.sequence.proofs.Tests.{joined}
+use Rattle.sequence.proofs.ForCallers.{joined}
 
 pub returns-clause-relates : goal.returns-clause-relates
 returns-clause-relates c =

@@ -5,10 +5,10 @@ use Rattle.protocol_syntax.specs.declared.protocol.Move.TheVariants.{Send, Recv}
 use Rattle.protocol_model.specs.System.{IsValidMove}
 use Rattle.protocol_model.specs.Moves.{IsMove, IsLoss}
 use Rattle.protocol_model.specs.Raised.{IsRaisedMove}
-use Rattle.memory_moves.specs.Machine.{IsCopiedBetween, reading, writing}
+use Rattle.memory_moves.specs.private.Machine.{IsCopiedBetween, reading, writing}
 use Rattle.memory_moves.proofs.MoveLemmas.{send_relates, receive_relates}
 use Rattle.memory_moves.proofs.compile_channel.Goals as goal
-use Rattle.sequence.proofs.Tests.{joined}
+use Rattle.sequence.proofs.ForCallers.{joined}
 
 pub returns-in-Send-clause-relates : goal.returns-in-Send-clause-relates
 returns-in-Send-clause-relates c =

@@ -5,10 +5,10 @@ use Rattle.protocol_syntax.specs.declared.protocol.Move.TheVariants.{Stack}
 use Rattle.protocol_model.specs.System.{IsValidMove}
 use Rattle.protocol_model.specs.Moves.{IsMove}
 use Rattle.protocol_model.specs.Raised.{IsRaisedMove}
-use Rattle.memory_moves.specs.Machine.{IsLabel, IsCopiedBetween, stack_prefix}
+use Rattle.memory_moves.specs.private.Machine.{IsLabel, IsCopiedBetween, stack_prefix}
 use Rattle.memory_moves.proofs.MoveLemmas.{stack_relates, stack_in_range}
 use Rattle.memory_moves.proofs.compile_stack.Goals as goal
-use Rattle.sequence.proofs.Tests.{joined}
+use Rattle.sequence.proofs.ForCallers.{joined}
 
 pub copy_between-requires-clause-prefix : goal.copy_between-requires-clause-prefix
 copy_between-requires-clause-prefix c = let alphabet = c.args.alphabet in

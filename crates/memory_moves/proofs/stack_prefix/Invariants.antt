@@ -1,5 +1,5 @@
 use Rattle.std.proofs.Common.{◌≡◌, take}
-use Rattle.memory_moves.specs.Machine.{stack_prefix}
+use Rattle.memory_moves.specs.private.Machine.{stack_prefix}
 use Rattle.memory_moves.proofs.stack_prefix.Given as goal
 
 abbrev pub invariant-pushed : goal.invariant-pushed

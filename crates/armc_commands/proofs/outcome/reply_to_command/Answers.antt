@@ -2,7 +2,7 @@ use Rattle.std.proofs.Common.{rules, sym, subst, ◌∙◌}
 use Rattle.command_words.specs.Words.{said}
 use Rattle.armc_commands.specs.Origin.{Told, Origin, IsTextFrom}
 use Rattle.armc_commands.specs.Commands.{second_origin}
-use Rattle.armc_commands.specs.Reads.{IsToldOrigin}
+use Rattle.armc_commands.specs.private.LibraryReads.{IsToldOrigin}
 use Rattle.armc_commands.specs.Outcome.{HasProtocol}
 use Rattle.armc_commands.proofs.QuietReads.{first_told, second_told}
 use Rattle.armc_commands.proofs.outcome.reply_to_command.Goals as goal

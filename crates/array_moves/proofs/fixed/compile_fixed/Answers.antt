@@ -2,7 +2,7 @@ use Rattle.std.proofs.Common.{◌≡◌, ◌↔◌, ◌∷◌, [], ◌∙◌, sy
 use Rattle.transducers.specs.Transducer.{Transducer, IsValid, Relates}
 use Rattle.protocol_model.specs.Moves.{IsMove}
 use Rattle.protocol_model.specs.Raised.{IsRaisedMove}
-use Rattle.array_moves.specs.Fixed.{fixed_states}
+use Rattle.array_moves.specs.private.Fixed.{fixed_states}
 use Rattle.array_moves.proofs.FixedLemmas.{fixed_valid, fixed_relates}
 use Rattle.array_moves.proofs.fixed.compile_fixed.Goals as goal
 use Rattle.array_moves.proofs.fixed.compile_fixed.Goals.{After-from_states}

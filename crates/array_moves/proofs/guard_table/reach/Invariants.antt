@@ -1,5 +1,5 @@
 use Rattle.std.proofs.Common.{◌≡◌, take}
-use Rattle.array_moves.specs.Flags.{reach_of}
+use Rattle.array_moves.specs.private.Flags.{reach_of}
 use Rattle.array_moves.proofs.guard_table.reach.Given as goal
 
 abbrev pub invariant-effects : goal.invariant-effects

@@ -2,7 +2,7 @@ use Rattle.std.proofs.Common.{length, arith, sym, ap, subst, ◌∙◌}
 use Rattle.transducers.specs.Transducer.{Relates}
 use Rattle.protocol_model.specs.Moves.{IsAtMove}
 use Rattle.protocol_model.specs.Raised.{IsRaisedMove}
-use Rattle.array_moves.specs.ControlStates.{starts_of}
+use Rattle.array_moves.specs.private.ControlStates.{starts_of}
 use Rattle.array_moves.proofs.MachineLemmas.{has_room, states_valid, at_relates}
 use Rattle.array_moves.proofs.guarded.compile_at.Goals as goal
 

@@ -1,5 +1,5 @@
 use Rattle.std.proofs.Common.{◌∷◌, [], ◌++◌, sym, ap, subst, ◌∙◌}
-use Rattle.array_moves.specs.ControlStates.{ControlEdges}
+use Rattle.array_moves.specs.private.ControlStates.{ControlEdges}
 use Rattle.array_moves.proofs.ControlLemmas.{ControlEdges-still, ControlEdges-moving}
 use Rattle.array_moves.proofs.guarded.control_edges.Goals as goal
 use Rattle.array_moves.proofs.guarded.control_edges.Goals.{in-Some+in_ok-target+in_ok-push, in_default}

@@ -1,6 +1,6 @@
 use Rattle.std.proofs.Common.{◌≡◌, ◌<◌, ◌∷◌, [], ◌++◌, length, arith, ◌+◌, refl, sym, ap, subst, ◌∙◌}
 use Rattle.std.proofs.lemmas.Option.{slice_get_read, get_or_from_slice_get}
-use Rattle.array_moves.specs.ControlStates.{LetterEdges}
+use Rattle.array_moves.specs.private.ControlStates.{LetterEdges}
 use Rattle.array_moves.proofs.ControlLemmas.{LetterEdges-allowed, LetterEdges-forbidden}
 use Rattle.array_moves.proofs.guarded.letter_edges.Goals as goal
 use Rattle.array_moves.proofs.guarded.letter_edges.Goals.{in-Some+in_ok-target+in_ok-push, in_default}

@@ -1,4 +1,4 @@
-use Rattle.array_moves.specs.ControlStates.{LetterEdges}
+use Rattle.array_moves.specs.private.ControlStates.{LetterEdges}
 use Rattle.array_moves.proofs.guarded.letter_edges.Given as goal
 
 abbrev pub invariant-letters : goal.invariant-letters

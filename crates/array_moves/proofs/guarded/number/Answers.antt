@@ -4,7 +4,7 @@ use mathlib.Core.Bool.{beq}
 use lib.Pointwise.{pointwise, pointwise_decides}
 use Rattle.array_moves.specs.contracts.guard_table.ControlStatePartialEq.TheImpl.{eq-value}
 use Rattle.array_moves.specs.declared.guard_table.ControlState.{ControlState}
-use Rattle.array_moves.specs.ControlStates.{Numbers}
+use Rattle.array_moves.specs.private.ControlStates.{Numbers}
 use Rattle.array_moves.proofs.ControlLemmas.{beq_decides, Numbers-insert_key}
 use Rattle.array_moves.proofs.guarded.number.Goals as goal
 

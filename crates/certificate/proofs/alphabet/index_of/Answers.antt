@@ -1,6 +1,6 @@
 use Rattle.std.proofs.Common.{◌≡◌, ℕ, ◌+◌, [], ◌∷◌, ◌++◌, cond, List, length, take, get_or, bytes_eq, Some, subst, sym, ap, ◌∙◌, arith}
 use Rattle.std.proofs.lemmas.List.{map_more, length-map, length-take-le}
-use Rattle.certificate.specs.Alphabet.{lists_of, IsIndexOf, get_by_bytes}
+use Rattle.certificate.specs.private.Alphabet.{lists_of, IsIndexOf, get_by_bytes}
 use Rattle.certificate.proofs.IndexLemmas.{get_by_bytes-insert, IsIndexOf-push}
 use Rattle.certificate.proofs.alphabet.index_of.Goals as goal
 

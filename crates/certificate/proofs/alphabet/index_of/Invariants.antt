@@ -1,5 +1,5 @@
 use Rattle.std.proofs.Common.{◌≡◌, take}
-use Rattle.certificate.specs.Alphabet.{lists_of, IsIndexOf}
+use Rattle.certificate.specs.private.Alphabet.{lists_of, IsIndexOf}
 use Rattle.certificate.proofs.alphabet.index_of.Given as goal
 
 abbrev pub invariant-texts : goal.invariant-texts

@@ -1,5 +1,5 @@
 use Rattle.std.proofs.Common.{◌≡◌, ◌++◌, codes, map, take}
-use Rattle.certificate.specs.Alphabet.{lists_of}
+use Rattle.certificate.specs.private.Alphabet.{lists_of}
 use Rattle.certificate.proofs.alphabet.push_section.Given as goal
 
 abbrev pub invariant-letters : goal.invariant-letters

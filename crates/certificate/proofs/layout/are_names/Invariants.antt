@@ -1,5 +1,5 @@
 use Rattle.std.proofs.Common.{◌↔◌, length}
-use Rattle.certificate.specs.LayoutParts.{AreNames}
+use Rattle.certificate.specs.private.LayoutParts.{AreNames}
 use Rattle.certificate.proofs.layout.are_names.Given as goal
 
 abbrev pub invariant-names : goal.invariant-names

@@ -2,7 +2,7 @@ use Rattle.std.proofs.Common.{codes, sym, subst, ◌∙◌, true≢false}
 use Rattle.std.proofs.lemmas.List.{append_cancel_left}
 use Rattle.certificate.specs.Bytes.{Lacks}
 use Rattle.certificate.specs.Faults.{IsLetterField}
-use Rattle.sequence.proofs.Cuts.{no_cut}
+use Rattle.sequence.proofs.ForCallers.{no_cut}
 use Rattle.certificate.proofs.LayoutLemmas.{letter_line_is}
 use Rattle.certificate.proofs.letters.next_letter.Goals as goal
 

@@ -1,7 +1,7 @@
 use Rattle.std.proofs.Common.{◌≡◌, ◌++◌, Contains, ap, sym, subst, ◌∙◌}
 use Rattle.certificate.specs.SafeText.{AreLettersOf}
 use Rattle.certificate.specs.LineLayout.{letters_text}
-use Rattle.certificate.specs.NextLine.{IsNextLetter}
+use Rattle.certificate.specs.private.NextLine.{IsNextLetter}
 use Rattle.certificate.proofs.VersionLemmas.{AreLettersOf-push, letters_text-push}
 use Rattle.certificate.proofs.letters.read_letters.Goals as goal
 

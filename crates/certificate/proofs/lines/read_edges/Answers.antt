@@ -2,7 +2,7 @@ use Rattle.std.proofs.Common.{◌++◌, codes, refl, sym, ap, subst, ◌∙◌}
 use Rattle.std.specs.Option.{option_map}
 use Rattle.certificate.specs.Numbers.{IsNumber}
 use Rattle.certificate.specs.LineLayout.{AreNumbers}
-use Rattle.certificate.specs.NextLine.{AreValuesOf}
+use Rattle.certificate.specs.private.NextLine.{AreValuesOf}
 use Rattle.certificate.proofs.LineLemmas.{edge_text, edges_fields, three_unique}
 use Rattle.certificate.proofs.lines.read_edges.Goals as goal
 

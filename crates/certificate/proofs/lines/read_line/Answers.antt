@@ -1,8 +1,8 @@
 use Rattle.std.proofs.Common.{sym, subst, ◌∙◌}
 use Rattle.certificate.specs.SafeText.{HasIndices, letters_of}
-use Rattle.certificate.specs.Reading.{IsLineOf}
+use Rattle.certificate.specs.private.Reading.{IsLineOf}
 use Rattle.certificate.specs.LineLayout.{IsEdgesLine}
-use Rattle.certificate.specs.NextLine.{IsReadingOf, IsEdgesReading}
+use Rattle.certificate.specs.private.NextLine.{IsReadingOf, IsEdgesReading}
 use Rattle.certificate.specs.Faults.{HasNoLayout}
 use Rattle.certificate.proofs.VersionLemmas.{letters_few, not_both_forms}
 use Rattle.certificate.proofs.LineLemmas.{edges_refused, final_is_no_edge}

@@ -1,6 +1,6 @@
 use Rattle.std.proofs.Common.{◌∷◌, ◌++◌, ◌∙◌, sym, subst}
 use Rattle.certificate.specs.Bytes.{Lacks}
-use Rattle.sequence.proofs.Cuts.{no_cut, cut_unique}
+use Rattle.sequence.proofs.ForCallers.{no_cut, cut_unique}
 use Rattle.certificate.proofs.lines.three_fields.Goals as goal
 
 pub returns-in_default : goal.returns-in_default

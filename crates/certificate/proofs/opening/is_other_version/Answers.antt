@@ -4,7 +4,7 @@ use Rattle.std.specs.Cmp.Lexicographic.{same_text, other_text}
 use Rattle.certificate.specs.Bytes.{Lacks}
 use Rattle.certificate.specs.Numbers.{IsNumber}
 use Rattle.certificate.specs.Faults.{IsKind}
-use Rattle.sequence.proofs.Cuts.{no_cut}
+use Rattle.sequence.proofs.ForCallers.{no_cut}
 use Rattle.certificate.proofs.OpeningLemmas.{not_other_version, other_version_unique}
 use Rattle.certificate.proofs.opening.is_other_version.Goals as goal
 

@@ -1,8 +1,8 @@
 use Rattle.std.proofs.Common.{◌≡◌, ◌≤◌, ◌∷◌, ◌++◌, codes, decimal, sym, ap, subst, ◌∙◌, arith}
 use Rattle.certificate.specs.Bytes.{Lacks}
 use Rattle.certificate.specs.Numbers.{IsNumber}
-use Rattle.certificate.specs.Reading.{capped_value}
-use Rattle.sequence.proofs.Cuts.{no_cut}
+use Rattle.certificate.specs.private.Reading.{capped_value}
+use Rattle.sequence.proofs.ForCallers.{no_cut}
 use Rattle.certificate.proofs.NumberLemmas.{decimal-capped_value, small_decimal-IsNumber, capped_value-decimal}
 use Rattle.certificate.proofs.OpeningLemmas.{states_line_cut, states_field}
 use Rattle.certificate.proofs.opening.read_states_line.Goals as goal

@@ -1,7 +1,7 @@
 use Rattle.std.proofs.Common.{sym, subst}
 use Rattle.protocol_model.specs.System.{IsValid}
 use Rattle.configuration_words.specs.ConfigurationText.{MeansConfiguration}
-use Rattle.configuration_words.proofs.TokenLemmas.{text_means}
+use Rattle.configuration_words.proofs.ForCallers.{text_means}
 use Rattle.certificate.proofs.run.printed_configuration.Goals as goal
 
 pub if_printed-requires-clause-only : goal.if_printed-requires-clause-only

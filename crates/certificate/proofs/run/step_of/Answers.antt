@@ -1,5 +1,5 @@
 use Rattle.std.proofs.Common.{None, subst}
-use Rattle.certificate.specs.NextStep.{IsConfigurationAt}
+use Rattle.certificate.specs.private.NextStep.{IsConfigurationAt}
 use Rattle.certificate.proofs.RunLineLemmas.{step_cut}
 use Rattle.certificate.proofs.run.step_of.Goals as goal
 

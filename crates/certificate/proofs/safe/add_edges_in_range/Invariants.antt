@@ -1,6 +1,6 @@
 use Rattle.std.proofs.Common.{◌≡◌, length, take}
-use Rattle.certificate.specs.Reading.{AddsAll}
-use Rattle.certificate.specs.NextLine.{edges_by}
+use Rattle.certificate.specs.private.Reading.{AddsAll}
+use Rattle.certificate.specs.private.NextLine.{edges_by}
 use Rattle.certificate.proofs.safe.add_edges_in_range.Given as goal
 
 abbrev pub invariant-indices : goal.invariant-indices

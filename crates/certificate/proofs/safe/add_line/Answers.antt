@@ -1,7 +1,7 @@
 use Rattle.std.proofs.Common.{[], OnOk, length, sym, subst}
 use Rattle.std.proofs.lemmas.Result.{on_ok_weaker}
 use Rattle.certificate.specs.SafeText.{said_by}
-use Rattle.certificate.specs.Reading.{AddsAll, HasSecond}
+use Rattle.certificate.specs.private.Reading.{AddsAll, HasSecond}
 use Rattle.certificate.proofs.AddingLemmas.{on_ok_both}
 use Rattle.certificate.proofs.ReadingLemmas.{AddsAll-none, AddsAll-final, AddsAll-edge, HasSecond-after}
 use Rattle.certificate.proofs.safe.add_line.Goals as goal

@@ -3,7 +3,7 @@ use Rattle.std.proofs.lemmas.Result.{err_from_is_err_and}
 use Rattle.std.proofs.lemmas.List.Elements.{All-nil}
 use Rattle.protocol_model.specs.Words.{automata_letters}
 use Rattle.certificate.specs.declared.version.Version.TheVariants.{One}
-use Rattle.certificate.specs.Reading.{GoesOn}
+use Rattle.certificate.specs.private.Reading.{GoesOn}
 use Rattle.certificate.specs.Faults.{FaultInBody}
 use Rattle.certificate.proofs.SafeTextLemmas.{MeansAutomaton-from}
 use Rattle.certificate.proofs.OpeningLemmas.{opening_from}

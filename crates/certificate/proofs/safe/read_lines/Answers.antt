@@ -3,9 +3,9 @@ use Rattle.std.proofs.lemmas.List.{length-append}
 use Rattle.word_automata.specs.Automaton.{IsValid}
 use Rattle.protocol_model.specs.Words.{automata_letters}
 use Rattle.certificate.specs.SafeText.{letters_of, all_said}
-use Rattle.certificate.specs.Reading.{HasRead, HasLines, GoesOn}
+use Rattle.certificate.specs.private.Reading.{HasRead, HasLines, GoesOn}
 use Rattle.certificate.proofs.VersionLemmas.{letters_few}
-use Rattle.certificate.specs.NextLine.{IsNext}
+use Rattle.certificate.specs.private.NextLine.{IsNext}
 use Rattle.certificate.proofs.NextLemmas.{HasRead-push, HasRead-ends}
 use Rattle.certificate.proofs.FaultLemmas.{HasRead-counted, HasRead-fault}
 use Rattle.certificate.proofs.safe.read_lines.Goals as goal

@@ -1,7 +1,7 @@
 use Rattle.std.proofs.Common.{◌≡◌, ◌+◌, List, length}
 use Rattle.certificate.specs.declared.lines.Line.{Line}
 use Rattle.certificate.specs.SafeText.{letters_of}
-use Rattle.certificate.specs.Reading.{HasRead}
+use Rattle.certificate.specs.private.Reading.{HasRead}
 use Rattle.certificate.proofs.safe.read_lines.Given as goal
 
 abbrev pub invariant-lines : goal.invariant-lines

@@ -4,8 +4,8 @@ use Rattle.std.proofs.lemmas.List.{nil_from_length}
 use Rattle.std.specs.Cmp.Lexicographic.{same_text, other_text}
 use Rattle.protocol_model.specs.Words.{automata_letters}
 use Rattle.certificate.specs.SafeText.{letters_of, said_by, IsInRange}
-use Rattle.certificate.specs.Reading.{AddsAll, HasSecond}
-use Rattle.certificate.specs.NextLine.{IsReadingOf}
+use Rattle.certificate.specs.private.Reading.{AddsAll, HasSecond}
+use Rattle.certificate.specs.private.NextLine.{IsReadingOf}
 use Rattle.certificate.proofs.VersionLemmas.{letters_few}
 use Rattle.certificate.proofs.ReadingLemmas.{GoesOn-has_line_feed, second_after}
 use Rattle.certificate.proofs.NextLemmas.{end_then_nothing, no_line, out_of_range, second_edge, taken, taken_text, IsLineOf-of_version}

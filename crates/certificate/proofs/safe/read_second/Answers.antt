@@ -1,10 +1,10 @@
 use Rattle.std.proofs.Common.{◌≡◌, ◌+◌, ◌∷◌, ◌++◌, [], codes, length, inl, inr, subst, ap}
 use Rattle.std.proofs.lemmas.Result.{err_from_is_err_and}
 use Rattle.certificate.specs.declared.version.Version.TheVariants.{Two}
-use Rattle.certificate.specs.Reading.{GoesOn}
+use Rattle.certificate.specs.private.Reading.{GoesOn}
 use Rattle.certificate.specs.SafeText.{AreLettersOf}
 use Rattle.certificate.specs.LineLayout.{letters_text}
-use Rattle.certificate.specs.NextLine.{FaultInLetters}
+use Rattle.certificate.specs.private.NextLine.{FaultInLetters}
 use Rattle.certificate.specs.Faults.{FaultInOpening, FaultInBody}
 use Rattle.certificate.proofs.SafeTextLemmas.{MeansAutomaton-from}
 use Rattle.certificate.proofs.OpeningLemmas.{opening_from, opening_of_two}

@@ -1,6 +1,6 @@
 use Rattle.std.proofs.Common.{◌<◌, ◌∙◌, List, ℕ, All, sym, subst}
 use Rattle.protocol_model.specs.Words.{automata_letters}
-use Rattle.configuration_words.proofs.WordFacts.{word_of-in_range}
+use Rattle.configuration_words.proofs.ForCallers.{word_of-in_range}
 use Rattle.certificate_checker.proofs.Parts.{none-left, outside-left, least-left, least-before, some-before}
 use Rattle.certificate_checker.proofs.judgement.exit_by.Goals as goal
 

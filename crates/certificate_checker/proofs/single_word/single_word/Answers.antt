@@ -1,5 +1,5 @@
 use Rattle.std.proofs.Common.{◌≡◌, List, ℕ, true, sym, subst, ◌∙◌}
-use Rattle.exploration.specs.System.{accepts_by}
+use Rattle.exploration.specs.DeterministicSystem.{accepts_by}
 use Rattle.certificate_checker.specs.SingleWord.{single_word}
 use Rattle.certificate_checker.proofs.SingleWords.{of_word, word_accepted}
 use Rattle.certificate_checker.proofs.single_word.single_word.Goals as goal

@@ -2,7 +2,7 @@ use Rattle.std.proofs.Common.{◌≡◌, ℕ, List, IsPermutation, filter, rules
 use Rattle.std.specs.List.Sorted.{IsStableByKey}
 use Rattle.std.specs.Ordering.{nat_cmp}
 use Rattle.std.proofs.lemmas.List.Sorted.{answers_always, IsNonDecreasingBy-from_sort_by_key}
-use Rattle.certificate_writing.specs.IndexedWritingParts.{has_target}
+use Rattle.certificate_writing.specs.private.IndexedWritingParts.{has_target}
 use Rattle.certificate_writing.proofs.IndexedTextLemmas.{stable_by_target}
 use Rattle.certificate_writing.proofs.indexed_writing.by_target.Goals as goal
 

@@ -3,9 +3,9 @@ use Rattle.std.specs.List.{range_with_len}
 use Rattle.protocol_model.specs.Words.{automata_letters}
 use Rattle.certificate.specs.LineLayout.{letters_text, states_line}
 use Rattle.certificate_writing.specs.Writing.{final_states}
-use Rattle.certificate_writing.specs.WritingParts.{final_text}
+use Rattle.certificate_writing.specs.private.WritingParts.{final_text}
 use Rattle.certificate_writing.specs.IndexedWriting.{used_letters}
-use Rattle.certificate_writing.specs.IndexedWritingParts.{AreIndicesOf, text_from}
+use Rattle.certificate_writing.specs.private.IndexedWritingParts.{AreIndicesOf, text_from}
 use Rattle.certificate_writing.proofs.IndexedLineLemmas.{indexed_text-is}
 use Rattle.certificate_writing.proofs.IndexedMeaningLemmas.{used_in_range, used_distinct}
 use Rattle.certificate_writing.proofs.indexed_writing.indexed_text.Goals as goal

@@ -1,7 +1,7 @@
 use Rattle.std.proofs.Common.{◌++◌, ◌∙◌, ap, flat_map}
 use Rattle.std.specs.List.{range_with_len}
 use Rattle.std.proofs.lemmas.List.{flat_map_more}
-use Rattle.certificate_writing.specs.IndexedWritingParts.{text_from}
+use Rattle.certificate_writing.specs.private.IndexedWritingParts.{text_from}
 use Rattle.certificate_writing.proofs.LetterTableLemmas.{range_more}
 use Rattle.certificate_writing.proofs.indexed_writing.push_edges.Goals as goal
 

@@ -1,6 +1,6 @@
 use Rattle.std.proofs.Common.{◌≡◌, ◌++◌, flat_map}
 use Rattle.std.specs.List.{range_with_len}
-use Rattle.certificate_writing.specs.IndexedWritingParts.{text_from}
+use Rattle.certificate_writing.specs.private.IndexedWritingParts.{text_from}
 use Rattle.certificate_writing.proofs.indexed_writing.push_edges.Given as goal
 
 abbrev pub invariant-states : goal.invariant-states

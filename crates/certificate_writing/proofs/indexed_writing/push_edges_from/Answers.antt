@@ -2,8 +2,8 @@ use Rattle.std.proofs.Common.{◌++◌, ◌<◌, ℕ, List, None, All, length, s
 use Rattle.std.proofs.lemmas.List.Elements.{All-nil}
 use Rattle.std.proofs.lemmas.List.Sorted.{All-permutation}
 use Rattle.word_automata.specs.Path.{edges_of}
-use Rattle.word_automata.proofs.Rows.{All-edges_of}
-use Rattle.certificate_writing.specs.IndexedWritingParts.{AreByTarget, sorted_text}
+use Rattle.word_automata.proofs.ForCallers.{All-edges_of}
+use Rattle.certificate_writing.specs.private.IndexedWritingParts.{AreByTarget, sorted_text}
 use Rattle.certificate_writing.proofs.IndexedTextLemmas.{sorted_text-is}
 use Rattle.certificate_writing.proofs.indexed_writing.push_edges_from.Goals as goal
 

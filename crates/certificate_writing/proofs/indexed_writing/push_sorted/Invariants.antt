@@ -1,5 +1,5 @@
 use Rattle.std.proofs.Common.{◌≡◌, ◌++◌, None, drop}
-use Rattle.certificate_writing.specs.IndexedWritingParts.{sorted_text}
+use Rattle.certificate_writing.specs.private.IndexedWritingParts.{sorted_text}
 use Rattle.certificate_writing.proofs.indexed_writing.push_sorted.Given as goal
 
 abbrev pub invariant-edges : goal.invariant-edges

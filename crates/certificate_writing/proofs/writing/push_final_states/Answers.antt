@@ -1,6 +1,6 @@
 use Rattle.std.proofs.Common.{◌+◌, ◌++◌, drop, flat_map, ap, ◌∙◌, arith}
 use Rattle.certificate_writing.specs.Writing.{final_states}
-use Rattle.certificate_writing.specs.WritingParts.{final_text}
+use Rattle.certificate_writing.specs.private.WritingParts.{final_text}
 use Rattle.certificate_writing.proofs.WritingLemmas.{push_final_step}
 use Rattle.certificate_writing.proofs.writing.push_final_states.Goals as goal
 

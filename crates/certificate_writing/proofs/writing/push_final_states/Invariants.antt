@@ -1,6 +1,6 @@
 use Rattle.std.proofs.Common.{◌≡◌, ◌++◌, drop, flat_map}
 use Rattle.certificate_writing.specs.Writing.{final_states}
-use Rattle.certificate_writing.specs.WritingParts.{final_text}
+use Rattle.certificate_writing.specs.private.WritingParts.{final_text}
 use Rattle.certificate_writing.proofs.writing.push_final_states.Given as goal
 
 abbrev pub invariant-states : goal.invariant-states

@@ -1,6 +1,6 @@
 use Rattle.std.proofs.Common.{arith, ◌≡◌, ◌+◌, ℕ, subst, sym}
 use Rattle.safety_problem.specs.Task.{IsBefore, IsByRule}
-use Rattle.deadlock_query.specs.Together.{AreAutomataOf}
+use Rattle.deadlock_query.specs.private.Together.{AreAutomataOf}
 use Rattle.deadlock_query.proofs.RuleSources.{sources_none, sources_more, sources_moved, sources_of_steps}
 use Rattle.deadlock_query.proofs.sources.sources.Goals as goal
 

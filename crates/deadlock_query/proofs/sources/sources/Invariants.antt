@@ -1,5 +1,5 @@
 use Rattle.safety_problem.specs.Task.{IsBefore, IsByRule}
-use Rattle.deadlock_query.specs.Together.{AreAutomataOf}
+use Rattle.deadlock_query.specs.private.Together.{AreAutomataOf}
 use Rattle.deadlock_query.proofs.sources.sources.Given as goal
 
 abbrev pub invariant-rules : goal.invariant-rules

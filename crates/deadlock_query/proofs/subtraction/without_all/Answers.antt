@@ -1,7 +1,7 @@
 use Rattle.std.proofs.Common.{subst}
 use Rattle.std.proofs.lemmas.List.{take_all}
 use Rattle.safety_problem.specs.Task.{IsAutomatonOf}
-use Rattle.deadlock_query.specs.Together.{IsLeftByAll}
+use Rattle.deadlock_query.specs.private.Together.{IsLeftByAll}
 use Rattle.deadlock_query.proofs.Remainders.{left_by_none, left_by_more}
 use Rattle.deadlock_query.proofs.subtraction.without_all.Goals as goal
 

@@ -1,6 +1,6 @@
 use Rattle.std.proofs.Common.{take}
 use Rattle.safety_problem.specs.Task.{IsAutomatonOf}
-use Rattle.deadlock_query.specs.Together.{IsLeftByAll}
+use Rattle.deadlock_query.specs.private.Together.{IsLeftByAll}
 use Rattle.deadlock_query.proofs.subtraction.without_all.Given as goal
 
 abbrev pub invariant-others : goal.invariant-others

@@ -2,7 +2,7 @@ use Rattle.std.proofs.Common.{◌<◌, ℕ, None, Contains, length, take, get_or
 use Rattle.std.proofs.lemmas.List.{take_more}
 use Rattle.std.proofs.lemmas.List.Elements.{Contains-get_or}
 use Rattle.transducers.specs.declared.Label.{Label}
-use Rattle.transducers.proofs.PathLemmas.{target_in_range}
+use Rattle.transducers.proofs.ForCallers.{target_in_range}
 use Rattle.image_preimage.proofs.PairLemmas.{FollowsAll-more}
 use Rattle.image_preimage.proofs.pairs.expand.Goals as goal
 

@@ -1,5 +1,5 @@
 use Rattle.std.proofs.Common.{◌≡◌, ◌++◌, take}
-use Rattle.memory_moves.specs.Machine.{cut_edges}
+use Rattle.memory_moves.specs.private.Machine.{cut_edges}
 use Rattle.memory_moves.proofs.cut.push_cuts.Given as goal
 
 abbrev pub invariant-letters : goal.invariant-letters

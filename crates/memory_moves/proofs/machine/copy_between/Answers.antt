@@ -1,6 +1,6 @@
 use Rattle.std.proofs.Common.{sym, subst, ◌∙◌}
 use Rattle.transducers.specs.Transducer.{IsValid, Relates}
-use Rattle.memory_moves.specs.Machine.{IsCopiedBetween}
+use Rattle.memory_moves.specs.private.Machine.{IsCopiedBetween}
 use Rattle.memory_moves.proofs.MachineLemmas.{is_machine, IsValid-machine, Relates-machine}
 use Rattle.memory_moves.proofs.machine.copy_between.Goals as goal
 

@@ -1,5 +1,5 @@
 use Rattle.std.proofs.Common.{refl}
-use Rattle.protocol_model.proofs.AllowedTexts.{IsAllowed-read}
+use Rattle.protocol_model.proofs.ForCallers.{IsAllowed-read}
 use Rattle.tests.proofs.systems.read_system.Goals as goal
 
 pub resolve-requires : goal.resolve-requires

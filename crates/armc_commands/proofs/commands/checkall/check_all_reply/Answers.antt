@@ -8,7 +8,7 @@ use Rattle.protocol_properties.specs.declared.properties.Property.{Property}
 use Rattle.armc_commands.specs.declared.search_reply.Telling.TheVariants.{Certificate}
 use Rattle.armc_commands.specs.SearchReply.{IsSearchReply}
 use Rattle.armc_commands.specs.Commands.CheckAll.{property_parts}
-use Rattle.command_replies.proofs.Refused.{by_grammar, by_names}
+use Rattle.command_replies.proofs.ForCallers.{by_grammar, by_names}
 use Rattle.armc_commands.proofs.CheckAllLemmas.{properties-checked, properties-refused}
 use Rattle.armc_commands.proofs.commands.checkall.check_all_reply.Goals as goal
 

@@ -2,7 +2,7 @@ use Rattle.std.proofs.Common.{◌∙◌, List, subst, ap, sym}
 use Rattle.refinement.specs.declared.verdict.Verdict.{Verdict}
 use Rattle.command_replies.specs.Reply.{on_out}
 use Rattle.armc_commands.specs.SearchReply.{status_of}
-use Rattle.armc_commands.specs.PartTexts.{AreTold}
+use Rattle.armc_commands.specs.private.PartTexts.{AreTold}
 use Rattle.command_replies.specs.declared.status.Status.{Status}
 use Rattle.armc_commands.proofs.CheckAllLemmas.{told-reply}
 use Rattle.armc_commands.proofs.commands.checkall.search_properties.Goals as goal

@@ -3,7 +3,7 @@ use Rattle.std.proofs.lemmas.List.{length_push}
 use Rattle.std.proofs.lemmas.Slice.Zip.{zip_turn, zip_end}
 use Rattle.refinement.specs.declared.verdict.Verdict.{Verdict}
 use Rattle.protocol_properties.specs.declared.properties.Property.{Property}
-use Rattle.armc_commands.specs.PartTexts.{AreTold}
+use Rattle.armc_commands.specs.private.PartTexts.{AreTold}
 use Rattle.armc_commands.proofs.CheckAllLemmas.{told-all, told-and-one, verdict-at}
 use Rattle.armc_commands.proofs.commands.checkall.told_parts.Goals as goal
 

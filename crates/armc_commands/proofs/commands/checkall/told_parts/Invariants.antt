@@ -1,5 +1,5 @@
 use Rattle.std.proofs.Common.{length, take}
-use Rattle.armc_commands.specs.PartTexts.{AreTold}
+use Rattle.armc_commands.specs.private.PartTexts.{AreTold}
 use Rattle.armc_commands.proofs.commands.checkall.told_parts.Given as goal
 
 abbrev pub invariant-parts : goal.invariant-parts

@@ -9,5 +9,7 @@ pub returns : goal.returns
 returns g c =
     let r = c.search_reply.result in
     let s = c.args.system.now in
-    let by_search = subst (λ (x : Search). IfOk r (IsSearchReply c.telling_of-telling.result ((record { title = None; system = s; search = x }) ∷ []))) c.search_for-search.ensures.search c.search_reply.ensures in
+    let by_search =
+    subst (λ (x : Search). IfOk r (IsSearchReply c.telling_of-telling.result ((record { title = None; system = s; search = x }) ∷ [])))
+    c.search_for-search.ensures.search c.search_reply.ensures in
     subst (λ (t : Telling). IfOk r (IsSearchReply t (query_parts s c.args.query c.args.limits.budget))) c.telling_of-telling.ensures by_search

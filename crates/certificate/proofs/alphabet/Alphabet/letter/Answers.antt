@@ -3,7 +3,7 @@ use Rattle.std.proofs.lemmas.Option.{IfSome_then}
 use Rattle.protocol_model.specs.System.{SystemData}
 use Rattle.protocol_model.specs.Words.{automata_letters}
 use Rattle.certificate.specs.SafeText.{letter_text}
-use Rattle.certificate.specs.Alphabet.{get_by_bytes}
+use Rattle.certificate.specs.private.Alphabet.{get_by_bytes}
 use Rattle.certificate.proofs.AlphabetLemmas.{letter_found, letter_only}
 use Rattle.certificate.proofs.alphabet.Alphabet.letter.Goals as goal
 

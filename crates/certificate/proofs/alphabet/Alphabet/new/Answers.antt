@@ -1,5 +1,5 @@
 use Rattle.std.proofs.Common.{ap, ◌∙◌, arith, subst}
-use Rattle.certificate.specs.Alphabet.{lists_of, IsIndexOf}
+use Rattle.certificate.specs.private.Alphabet.{lists_of, IsIndexOf}
 use Rattle.certificate.proofs.AlphabetLemmas.{letters_counted}
 use Rattle.certificate.proofs.alphabet.Alphabet.new.Goals as goal
 

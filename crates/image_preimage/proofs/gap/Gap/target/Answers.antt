@@ -1,5 +1,5 @@
 use Rattle.std.proofs.Common.{sym, subst}
-use Rattle.word_automata.proofs.EdgeList.{find_target_at, find_target_gap}
+use Rattle.word_automata.proofs.ForCallers.{find_target_at, find_target_gap}
 use Rattle.image_preimage.specs.Gaps.{IsGap}
 use Rattle.image_preimage.proofs.GapLemmas.{behind_edge, behind_letter}
 use Rattle.image_preimage.proofs.gap.Gap.target.Goals as goal

@@ -1,4 +1,4 @@
--- What reading the lines of a text has found so far. Only private contracts speak of this.
+-- What reading the lines of a text has found so far.
 use Rattle.std.specs.Prelude.{◌≡◌, ℕ, ◌<◌, ◌↔◌, List, [], ◌∷◌, ◌++◌, Some, IsTrue, Contains, AllPairs, map, length}
 use Rattle.std.specs.Prelude.{codes, flat_map, min}
 use Rattle.std.specs.List.{AllByRecursion}

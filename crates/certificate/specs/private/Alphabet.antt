@@ -1,4 +1,4 @@
--- The letters of a system's automata, found by their texts. Only private contracts speak of this.
+-- The letters of a system's automata, found by their texts.
 use Rattle.std.specs.Prelude.{◌≡◌, ℕ, List, [], ◌∷◌, ◌++◌, Option, Some, Vec, IfSome, IsSome, map, codes, slice_get, bytes_eq, flat_map}
 use Rattle.std.specs.HashMap.{HashMap, get_by}
 use Rattle.protocol_model.specs.declared.system.Section.{Section}

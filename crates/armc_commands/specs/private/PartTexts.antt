@@ -1,4 +1,4 @@
--- The texts of the parts of some properties, told one after the other. Only private contracts speak of this.
+-- The texts of the parts of some properties, told one after the other.
 use Rattle.std.specs.Prelude.{◌≡◌, ℕ, List, None, Some, map}
 use Rattle.refinement.specs.declared.verdict.Verdict.{Verdict}
 use Rattle.protocol_properties.specs.declared.properties.Property.{Property}

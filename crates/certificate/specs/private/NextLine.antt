@@ -1,4 +1,4 @@
--- What reading one line of an automaton does. Only private contracts speak of this.
+-- What reading one line of an automaton does.
 use Rattle.std.specs.Prelude.{◌≡◌, ◌+◌, ◌<◌, ℕ, Result, Ok, Err, Option, None, Some, List, [], ◌∷◌, ◌++◌, All, Contains, length, map, get_or, codes}
 use Rattle.word_automata.specs.Automaton.{Automaton}
 use Rattle.protocol_model.specs.System.{SystemData}
@@ -17,7 +17,7 @@ use Rattle.certificate.specs.declared.version.Version.{Version}
 use Rattle.certificate.specs.declared.version.Version.TheVariants.{Two}
 use Rattle.certificate.specs.SafeText.{line_text, letter_line, IsInRange, AreLettersOf, NamesLetters, HasIndices, said_by, all_said}
 use Rattle.certificate.specs.LineLayout.{IsEdgesLine, AreNumbers, letters_text}
-use Rattle.certificate.specs.Reading.{capped_value, HasLines, AddsAll, GoesOn, IsLineOf, IsNoLine}
+use Rattle.certificate.specs.private.Reading.{capped_value, HasLines, AddsAll, GoesOn, IsLineOf, IsNoLine}
 use Rattle.certificate.specs.Faults.{HasNoLayout, NamesNoLetter, IsLetterField, IsLetterLine, FaultInLater, FaultInOpening}
 
 -- the text does not begin with the line `armc 1 unsafe`, or `armc 2 safe`

@@ -1,4 +1,4 @@
--- Transducers that exchange what stands at the two ends of a word and copy what lies between, and the words that they relate. Only private contracts speak of this.
+-- Transducers that exchange what stands at the two ends of a word and copy what lies between, and the words that they relate.
 use Rattle.std.specs.Prelude.{◌≡◌, ℕ, ◌+◌, ◌<◌, true, false, List, [], ◌∷◌, ◌++◌, map, Option, None, Some, IfSome, IsSome, ◌⊎◌}
 use Rattle.std.specs.Option.{option_to_list}
 use Rattle.word_automata.specs.Path.{Node, spelled_one}

@@ -1,4 +1,4 @@
--- The text of the line of an accepting state. Only private contracts speak of this.
+-- The text of the line of an accepting state.
 use Rattle.std.specs.Prelude.{ℕ, List, [], ◌∷◌, ◌++◌, codes, decimal}
 
 -- the line of an accepting state, with its line feed

@@ -1,4 +1,4 @@
--- Flags for the guards of a move: which of them are met. A move has four guards at most. Only private contracts speak of this.
+-- Flags for the guards of a move: which of them are met. A move has four guards at most.
 use Rattle.std.specs.Prelude.{◌&&◌, ◌||◌, ℕ, Bool, true, false, not, List, [], ◌∷◌, Option, None, Some, fold, slice_get, slice_index_or}
 use Rattle.std.specs.Prelude.{if◌then◌else◌}
 use Rattle.std.specs.List.{list_all}

@@ -1,4 +1,4 @@
--- What the reads of one call say of the state of the library. Only private contracts speak of this.
+-- What the reads of one call say of the state of the library.
 use Rattle.std.specs.Prelude.{◌≡◌, ◌≤◌, ◌<◌, ℕ, List, length, true, false, IfSome, IsSome, Vec, Result, Ok, Err}
 use Rattle.std.specs.declared.alloc.Global.{Global}
 use Rattle.armc_io.specs.Faults.{Rose}

@@ -1,4 +1,4 @@
--- The states of the machines for moves that change two positions. Only private contracts speak of this.
+-- The states of the machines for moves that change two positions.
 use Rattle.std.specs.Prelude.{ℕ, ◌+◌, Bool, true, false, List, [], ◌∷◌, ◌++◌}
 use Rattle.word_automata.specs.Path.{Node}
 use Rattle.protocol_model.specs.System.{Move}

@@ -1,4 +1,4 @@
--- The parts of the text of version 2 as they are written. Only private contracts speak of this.
+-- The parts of the text of version 2 as they are written.
 use Rattle.std.specs.Prelude.{◌≡◌, ◌==◌, ◌<◌, ℕ, Bool, List, [], ◌∷◌, ◌++◌, Option, None, Some, map, length, get_or, filter, flat_map}
 use Rattle.std.specs.Prelude.{codes, decimal, if◌then◌else◌}
 use Rattle.std.specs.List.{range_with_len, join_by}

@@ -1,4 +1,4 @@
--- The control states of a machine for an `at` move: whether the moving position has been passed, and which guards are met. Only private contracts speak of this.
+-- The control states of a machine for an `at` move: whether the moving position has been passed, and which guards are met.
 use Rattle.std.specs.Prelude.{◌≡◌, ◌+◌, ◌^◌, ◌<◌, ◌≤◌, ◌⊎◌, ◌&&◌, ℕ, zero, suc, Bool, true, false, List, [], ◌∷◌, Option, None, Some, All}
 use Rattle.std.specs.Prelude.{Contains, IsTrue, map, length, slice_get, slice_index, if◌then◌else◌}
 use Rattle.std.specs.List.{range_with_len}
@@ -9,7 +9,7 @@ use Rattle.protocol_model.specs.System.{Guard}
 use Rattle.protocol_model.specs.Moves.{table_value}
 use Rattle.array_moves.specs.declared.guard_table.ControlState.{ControlState}
 use Rattle.array_moves.specs.declared.guard_table.GuardTable.{GuardTable}
-use Rattle.array_moves.specs.Flags.{union_of, covers, no_flags, effect_of, required_of, reach_of}
+use Rattle.array_moves.specs.private.Flags.{union_of, covers, no_flags, effect_of, required_of, reach_of}
 
 -- the guard table of a move: what the letters do on either side, and what must be met
 pub record IsGuardTable (f t : ℕ) (guards : List Guard) (table : List (ℕ × ℕ)) (count : ℕ) (guard_table : GuardTable) : Type 0 where

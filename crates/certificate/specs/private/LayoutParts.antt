@@ -1,4 +1,4 @@
--- The layout of what a line of a run is cut into. Only private contracts speak of this.
+-- The layout of what a line of a run is cut into.
 use Rattle.std.specs.Prelude.{◌≡◌, ◌==◌, ◌||◌, ℕ, List, ◌∷◌, IsTrue, length, codes}
 use Rattle.std.specs.List.{AllByRecursion, join_by}
 use Rattle.protocol_syntax.specs.declared.protocol.Kind.{Kind}

@@ -1,4 +1,4 @@
--- What reading one line of a run does. Only private contracts speak of this.
+-- What reading one line of a run does.
 use Rattle.std.specs.Prelude.{◌≡◌, ◌<◌, ℕ, Option, List, [], ◌∷◌, ◌++◌, IsTrue, MatchOption, codes, length, position}
 use Rattle.std.specs.Str.{bytes_eq}
 use Rattle.protocol_model.specs.declared.system.Configuration.{Configuration}

@@ -1,4 +1,4 @@
--- What the parts of the judgement find. Only private contracts speak of this.
+-- What the parts of the judgement find.
 use Rattle.std.specs.Prelude.{◌≡◌, ℕ, List, IsTrue}
 use Rattle.word_automata.specs.Automaton.{Automaton, accepts}
 use Rattle.protocol_model.specs.declared.system.Configuration.{Configuration}
@@ -6,7 +6,7 @@ use Rattle.protocol_model.specs.System.{SystemData}
 use Rattle.protocol_model.specs.Patterns.{fits}
 use Rattle.protocol_model.specs.Words.{word_of}
 use Rattle.step_compiler.specs.Rules.{IsRuleStep}
-use Rattle.certificate_checker.specs.Answers.{IsLeastConfiguration, IsLeft, IsAcceptedBefore}
+use Rattle.certificate_checker.specs.Answers.{IsLeastConfiguration, IsExit, IsAcceptedBefore}
 
 -- each word that the automaton accepts is that of a configuration
 abbrev pub AcceptsConfigurations : SystemData → Automaton → Type 0
@@ -18,7 +18,7 @@ IsAcceptedWord s m c = IsTrue (fits s c) × IsTrue (accepts m (word_of s c))
 
 -- d is the least refused configuration to which the rule leads from an accepted one, and c the least of these
 pub record IsLeastExitBy (s : SystemData) (m : Automaton) (r : ℕ) (c d : Configuration) : Type 0 where
-  pub after : IsLeastConfiguration s (IsLeft s m r) d
+  pub after : IsLeastConfiguration s (IsExit s m r) d
   pub before : IsLeastConfiguration s (IsAcceptedBefore s m r d) c
 
 -- the automaton accepts the configuration, and the rule leads from its word to the word w

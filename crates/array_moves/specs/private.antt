@@ -1,0 +1,4 @@
+-- What only contracts of private functions cite.
+pub mod ControlStates
+pub mod Fixed
+pub mod Flags
