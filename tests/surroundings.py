@@ -17,26 +17,29 @@ import time
 TOP = os.path.dirname(os.path.dirname(os.path.abspath(__file__)))
 SECONDS = 300
 
-# A command rt that proves nothing: `all check` and `run` write what they were asked to a list, and `run` makes a program that prints its words.
+# A command rt that proves nothing: `lib` and `run` write what they were asked to a list and want the libraries below, and `run` makes a program
+# that prints its words.
 FAKE = """#!/usr/bin/env bash
 name=$(basename "$PWD")
 case $1 in
-version) echo "$FAKE_KIT logic 0" ;;
-all)
-  for crate in low middle other top armc $([ "$name" = armc ] || echo tests); do
-    echo "$crate" >>"$FAKE_LIST"; sleep "$FAKE_SLEEP"
-    if [ "$crate" = "$FAKE_FAULT" ]; then printf '== %s\\nerror\\n== summary\\n%s: failed (1)\\n' "$crate" "$crate"; exit 1; fi
-    printf '== %s\\nlogic=proved functions=1\\n' "$crate"
-  done
-  printf '== summary\\nall crates ok\\n' ;;
-run) echo "run-$name" >>"$FAKE_LIST"; mkdir -p out; cat >out/armc <<'END'
+version) echo "$FAKE_KIT logic 0"; exit ;;
+try) shift 2; echo "words: $*"; printf 'armc: not proved\\nchecked: ended status=5\\nrun=ended status=5 runners=1 races=unchecked proved=no\\n' >&2; exit 5 ;;
+esac
+mkdir -p out/incremental out/rlib; echo "$name" >>"$FAKE_LIST"; sleep "$FAKE_SLEEP"
+for below in $(sed -n "s/^$name://p" ../../crates.txt); do
+  [ ! -d "../$below" ] || [ -f "../$below/out/rlib/stamp" ] || echo "$name-without-$below" >>"$FAKE_LIST"
+done
+case $name in middle | other)
+  for _ in $(seq 100); do [ "$(grep -c 'middle\\|other' "$FAKE_LIST")" -lt 2 ] || break; sleep 0.1; done ;;
+esac
+[ "$name" != "$FAKE_FAULT" ] || { echo error; exit 1; }
+echo "$*" >out/rlib/stamp
+[ "$1" = lib ] || cat >out/armc <<'END'
 #!/bin/sh
 [ "$1" = verify ] && { echo valid; exit 0; }
 echo "words: $*"; exit 3
 END
-chmod +x out/armc; echo valid ;;
-try) shift 2; echo "words: $*"; printf 'armc: not proved\\nchecked: ended status=5\\nrun=ended status=5 runners=1 races=unchecked proved=no\\n' >&2; exit 5 ;;
-esac
+[ "$1" = lib ] || { chmod +x out/armc; echo valid; }
 """
 CRATES = "low:\nmiddle: low io\nother: low\ntop: middle other\narmc: top\ntests: top\n"
 
@@ -87,8 +90,14 @@ class Tree:
         with open(self.list) as file:
             return {"status": found.returncode, "stdout": found.stdout, "stderr": found.stderr, "asked": file.read().split()}
 
+    def out(self, name, *parts):
+        return os.path.join(self.top, "crates", name, "out", *parts)
+
+    def has(self, name, *parts):
+        return os.path.exists(self.out(name, *parts))
+
     def forget(self):
-        shutil.rmtree(os.path.join(self.top, "crates", "armc", "out"), ignore_errors=True)
+        shutil.rmtree(self.out("armc"), ignore_errors=True)
 
 
 def launcher():
@@ -97,10 +106,15 @@ def launcher():
         tree, wrong = Tree(folder), []
         found = tree.call("show", "a b")
         wrong += differences(found, {"status": 3, "stdout": "words: show a b\n"})
-        if found["asked"] != ["low", "middle", "other", "top", "armc", "run-armc"]:
+        if found["asked"] not in (["low", *two, "top", "armc"] for two in (["middle", "other"], ["other", "middle"])):
             wrong.append(f"it proves {found['asked']}")
-        if "armc: proved 4 of 5 crates, 0 min: top\narmc: proved 5 of 5 crates, 0 min: armc\narmc: the program is built\n" not in found["stderr"]:
+        if "armc: proved 4 of 5 crates, 0 min: top\narmc: the program is built, 0 min\n" not in found["stderr"]:
             wrong.append(f"it says {found['stderr']!r}")
+        wrong += [f"the folder out/ of {name} is not back" for name in ("low", "middle", "other", "top") if not tree.has(name, "rlib", "stamp")]
+        wrong += ["its workspaces are left"] if tree.has("armc", "workspaces") or any(name.startswith("armc-build-") for name in os.listdir(folder)) else []
+        for name, jobs in (("low", 2), ("middle", 2), ("other", 1), ("top", 2)):
+            with open(tree.out(name, "rlib", "stamp")) as file:
+                wrong += differences({f"words for {name}": file.read()}, {f"words for {name}": f"lib --jobs {jobs}\n"})
         wrong += differences(tree.call("x"), {"status": 3, "stdout": "words: x\n", "stderr": "", "asked": []})
         tree.forget()
         found = tree.call("x", FAKE_FAULT="other")
@@ -131,26 +145,39 @@ def launcher_unproved():
         return wrong
 
 
+def stopped_build(tree, number):
+    """Status and standard error of a build that a signal reaches while it proves the first crate."""
+    # (a program that a shell started in the background is handed a SIGINT that is ignored)
+    answering = functools.partial(signal.signal, signal.SIGINT, signal.SIG_DFL)
+    words = [os.path.join(tree.top, "tools", "build-program")]
+    build = subprocess.Popen(words, env={**tree.environment, "FAKE_SLEEP": "30"}, stderr=subprocess.PIPE, text=True, preexec_fn=answering)
+    end = time.monotonic() + 60
+    while not os.path.exists(tree.list) and time.monotonic() < end:
+        time.sleep(0.1)
+    build.send_signal(number)
+    try:
+        said = build.communicate(timeout=SECONDS)[1]
+    except subprocess.TimeoutExpired:
+        build.kill()
+        said = build.communicate()[1]
+    return build.returncode, said
+
+
 def launcher_interrupted():
-    """An interrupt ends what runs, and the next call goes on."""
-    with tempfile.TemporaryDirectory() as folder:
-        tree = Tree(folder)
-        environment = {**tree.environment, "FAKE_SLEEP": "30"}
-        # (a program that a shell started in the background is handed a SIGINT that is ignored)
-        answering = functools.partial(signal.signal, signal.SIGINT, signal.SIG_DFL)
-        words = [os.path.join(tree.top, "tools", "build-program")]
-        build = subprocess.Popen(words, env=environment, stderr=subprocess.PIPE, text=True, preexec_fn=answering)
-        end = time.monotonic() + 60
-        while not os.path.exists(tree.list) and time.monotonic() < end:
-            time.sleep(0.1)
-        build.send_signal(signal.SIGINT)
-        try:
-            said = build.communicate(timeout=SECONDS)[1]
-        except subprocess.TimeoutExpired:
-            build.kill()
-            said = build.communicate()[1]
-        wrong = [] if build.returncode == 130 and "interrupted; what is proved is kept" in said else [f"status {build.returncode}: {said!r}"]
-        return wrong + differences(tree.call("x"), {"status": 3, "stdout": "words: x\n"})
+    """An interrupt ends what runs, what is kept stays, and the next call goes on; so it does after a build that was killed."""
+    wrong = []
+    for number, status, words in ((signal.SIGINT, 130, "interrupted; what is proved is kept"), (signal.SIGKILL, -signal.SIGKILL, "")):
+        with tempfile.TemporaryDirectory() as folder:
+            tree = Tree(folder)
+            ended, said = stopped_build(tree, number)
+            wrong += [] if ended == status and words in said else [f"status {ended}: {said!r}"]
+            wrong += [] if tree.has("low", "incremental") == (number == signal.SIGINT) else ["where is the folder of kept work?"]
+            kept = glob.glob(os.path.join(tree.top, "crates", "**", "low", "out", "incremental"), recursive=True)
+            for each in kept:
+                open(os.path.join(each, "kept"), "w").close()
+            wrong += differences(tree.call("x"), {"status": 3, "stdout": "words: x\n"})
+            wrong += [] if tree.has("low", "incremental", "kept") and not tree.has("armc", "workspaces") else ["the next call does not begin with what was kept"]
+    return wrong
 
 
 def installed():
