@@ -1,5 +1,5 @@
 //! Pairs of states in the order in which they were added. A pair is looked up by its code in the table of places of the pairs that were
-//! found, in constant time, on average.
+//! found, in constant time, on average. Once the pairs stay as they are, rows of bits tell most pairs that are not there before that.
 
 ghost use Rattle.std.specs.Prelude.{◌≡◌, ◌<◌, [], Contains, IsTrue, IfOk, OnOk, length, slice_index_or};
 
@@ -10,12 +10,25 @@ use std::marker::Model;
 /// So many states, or fewer, have pairs of different codes.
 const STATES: usize = 1 << 32;
 
+/// The bits of a word.
+const BITS: usize = 64;
+
+/// Rows of bits may have so many words,
+const MOST_WORDS: usize = 1 << 20;
+
+/// and at most so many for each pair and state.
+const WORDS_OF_A_PAIR: usize = 16;
+
 /// Pairs of states. One that was taken out became a pair of a state with itself, and is not found any more.
 #[derive(Drop)]
 pub struct StatePairs {
     alloc: Global,
     found: FoundStates<(usize, usize)>,
     lows: Vec<bool>,
+    /// For each state a bit for each state: whether they are a pair. There are none where they would take too much memory.
+    bits: Vec<u64>,
+    /// The words of a row of bits.
+    words: usize,
     asked: usize,
 }
 
@@ -36,6 +49,8 @@ impl StatePairs {
             alloc,
             found: FoundStates::new(alloc, usize::MAX)?,
             lows: Vec::new(alloc),
+            bits: Vec::new(alloc),
+            words: 0,
             asked: 0,
         })
     }
@@ -69,9 +84,20 @@ impl StatePairs {
     pub(crate) fn contains(&self, low: usize, high: usize) -> bool
         ensures { IsTrue result → Contains self.now (low, high) }
     {
+        if !self.may_contain(low, high) {
+            return false;
+        }
         match self.found.find(code(low, high), &(low, high)) {
             Some(_) => true,
             None => false,
+        }
+    }
+
+    /// Whether the bits, if there are any, allow that the pair is there.
+    fn may_contain(&self, low: usize, high: usize) -> bool {
+        match self.bits.get(place_of(self.words, low, high)) {
+            Some(word) => *word >> (high % BITS) & 1 == 1,
+            None => true,
         }
     }
 
@@ -108,13 +134,45 @@ impl StatePairs {
             place = place.saturating_add(1);
         }
         self.lows = lows;
+        self.make_bits(count)?;
         Ok(is_some)
+    }
+
+    /// Makes the rows of bits of so many states, unless they would take too much memory.
+    fn make_bits(&mut self, count: usize) -> Result<(), AllocError>
+        ensures { OnOk result (self.new ≡ self.old) }
+    {
+        let words = count / BITS + 1;
+        let total = words.saturating_mul(count);
+        let most = self
+            .found
+            .len()
+            .saturating_add(count)
+            .saturating_mul(WORDS_OF_A_PAIR);
+        if total > most.min(MOST_WORDS) {
+            return Ok(());
+        }
+        let mut bits = vec![in self.alloc; 0u64; total]?;
+        'pairs: for &(low, high) in &self.found.states {
+            let place = place_of(words, low, high);
+            if place < bits.len() {
+                bits[place] |= 1 << (high % BITS);
+            }
+        }
+        self.bits = bits;
+        self.words = words;
+        Ok(())
     }
 
     /// Whether the state was noted.
     pub(crate) fn is_low(&self, state: usize) -> bool {
         state < self.lows.len() && self.lows[state]
     }
+}
+
+/// The place of the word with the bit of the pair, in rows of so many words.
+fn place_of(words: usize, low: usize, high: usize) -> usize {
+    low.saturating_mul(words).saturating_add(high / BITS)
 }
 
 /// The code of the pair.
