@@ -1,7 +1,9 @@
 //! How many classes there are, round after round. Of few states their classes are put into slots, which are tried one after the other
-//! (Knuth, The Art of Computer Programming, volume 3, section 6.4); of many it is counted on how many places they fall. What is in the
-//! tables bears the number of its round, so that nothing is cleared. A count takes time linear in the states. Nothing is promised of it.
+//! (Knuth, The Art of Computer Programming, volume 3, section 6.4), and those of one state are noted; of many it is counted on how many
+//! places they fall. What is in the tables bears the number of its round, so that nothing is cleared. A count takes time linear in the
+//! states. Nothing is promised of it.
 
+use crate::lone_classes::LoneClasses;
 use std::alloc::{AllocError, Global};
 
 /// Classes of so many states, or fewer, are counted exactly.
@@ -10,11 +12,12 @@ const MOST_EXACT: usize = 4096;
 /// Rounds have numbers below this one.
 const ROUNDS: usize = 64;
 
-/// A table of slots, or else one of places, and the number of the last round.
+/// A table of slots, or else one of places, the classes of one state, and the number of the last round.
 #[derive(Drop)]
 pub struct ClassCounter {
     slots: Vec<usize>,
     places: Vec<u8>,
+    lone: LoneClasses,
     round: usize,
 }
 
@@ -27,6 +30,7 @@ impl ClassCounter {
         Ok(ClassCounter {
             slots: vec![in alloc; 0; slots]?,
             places: vec![in alloc; 0; places]?,
+            lone: LoneClasses::new(alloc, if is_exact { size(states, 2) } else { 1 })?,
             round: 0,
         })
     }
@@ -36,11 +40,16 @@ impl ClassCounter {
         self.places.is_empty()
     }
 
-    /// How many different classes but 0 there are.
-    pub fn count(&mut self, classes: &[usize]) -> usize {
+    /// The classes that are known to have one state.
+    pub fn lone(&self) -> &LoneClasses {
+        &self.lone
+    }
+
+    /// How many different classes but 0 there are, where the states that were kept have classes of their own.
+    pub fn count(&mut self, classes: &[usize], kept: &[bool]) -> usize {
         self.round = self.round.wrapping_add(1) % ROUNDS;
         if self.is_exact() {
-            count_slots(&mut self.slots, classes, self.round)
+            count_slots(&mut self.slots, &mut self.lone, classes, kept, self.round)
         } else {
             count_places(&mut self.places, classes, self.round as u8)
         }
@@ -48,12 +57,24 @@ impl ClassCounter {
 }
 
 /// How many slots the classes take in the round.
-fn count_slots(slots: &mut Vec<usize>, classes: &[usize], round: usize) -> usize {
+fn count_slots(
+    slots: &mut Vec<usize>,
+    lone: &mut LoneClasses,
+    classes: &[usize],
+    kept: &[bool],
+    round: usize,
+) -> usize {
     let mut count = 0usize;
-    'classes: for class in classes {
-        let marked = (*class - *class % ROUNDS).wrapping_add(round);
-        if *class != 0 && takes_slot(slots, marked) {
+    'classes: for (class, is_kept) in classes.iter().zip(kept) {
+        if *is_kept {
             count = count.wrapping_add(1);
+        } else if *class != 0 {
+            let marked = (*class - *class % ROUNDS).wrapping_add(round);
+            let is_first = takes_slot(slots, marked);
+            if is_first {
+                count = count.wrapping_add(1);
+            }
+            lone.meet(*class, is_first);
         }
     }
     count

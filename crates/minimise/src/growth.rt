@@ -2,6 +2,7 @@
 //! rounds alone: no contract rests on it. A call takes time linear in the states, as the table does memory.
 
 use crate::class_counter::ClassCounter;
+use crate::lone_classes::LoneClasses;
 use std::alloc::{AllocError, Global};
 
 /// How many classes the last round had, how many of them were new, and how many rounds in a row found few new classes.
@@ -24,10 +25,15 @@ impl Growth {
         })
     }
 
+    /// The classes that are known to have one state.
+    pub fn lone(&self) -> &LoneClasses {
+        self.counter.lone()
+    }
+
     /// Whether further rounds would find next to nothing, or where it is splitters that would find it sooner.
-    pub fn is_over(&mut self, classes: &[usize]) -> bool {
+    pub fn is_over(&mut self, classes: &[usize], kept: &[bool]) -> bool {
         let before = self.count;
-        self.count = self.counter.count(classes);
+        self.count = self.counter.count(classes, kept);
         let grown = self.count.saturating_sub(before);
         if self.counter.is_exact() {
             self.is_over_exactly(before, grown, classes.len())

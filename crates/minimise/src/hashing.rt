@@ -1,13 +1,17 @@
 //! Rounds of refinement (E. F. Moore, 1956) whose classes are hashes of signatures, as in the refinement of colours by B. Weisfeiler and
 //! A. Lehman (1968): a round looks nothing up and stores nothing but the classes. It takes time linear in the edges.
 //!
-//! Signatures with one hash fall into one class, so that classes are at most too coarse.
+//! Signatures with one hash fall into one class, so that classes are at most too coarse. A class that is known to have one state alone
+//! keeps its hash, and its state is not looked at again. Whether a class keeps its hash is told by the hash alone, so that states of one
+//! class do so together, and are not told apart by it.
 
-ghost use Rattle.std.specs.Prelude.{◌≡◌, ◌<◌, IfOk, length};
+ghost use Rattle.std.specs.Prelude.{◌≡◌, IfOk, length, if◌then◌else◌};
 ghost use Rattle.word_automata.specs.Automaton.{IsValid};
-ghost use Rattle.minimise.specs.private.Rounds.{AreToldApart, outgoing, edge_number, mixed_in, hash_of, AreHashes};
+ghost use Rattle.minimise.specs.private.Rounds.{AreToldApart, outgoing_in, hash_of, is_lone, AreHashes};
 
 use crate::growth::Growth;
+use crate::lone_classes::LoneClasses;
+use crate::rows::{Row, rows};
 use std::alloc::{AllocError, Global};
 use word_automata::Dfa;
 
@@ -20,61 +24,47 @@ pub fn hashed_rounds(alloc: Global, automaton: &Dfa) -> Result<Vec<usize>, Alloc
     ensures apart { IfOk result (λ classes. AreToldApart automaton.now classes.items) }
 {
     let count = automaton.states();
+    let rows = rows(alloc, automaton)?;
     let mut growth = Growth::new(alloc, count)?;
     let mut classes = vec![in alloc; 0; count]?;
     let mut finer = vec![in alloc; 0; count]?;
+    let mut kept = vec![in alloc; false; count]?;
     'rounds: for _ in 0..MOST_ROUNDS {
-        hash_all(automaton, &classes, &mut finer);
+        hash_all(&rows, growth.lone(), &classes, &mut finer, &mut kept);
         std::mem::swap(&mut classes, &mut finer);
-        if growth.is_over(&classes) {
+        if growth.is_over(&classes, &kept) {
             return Ok(classes);
         }
     }
     Ok(classes)
 }
 
-/// Puts the hashes of the signatures of all states by the classes in the place of what the list has.
-fn hash_all(automaton: &Dfa, classes: &[usize], finer: &mut Vec<usize>)
-    requires classes { length classes.now ≡ length automaton.now.states }
-    requires finer { length finer.old.items ≡ length automaton.now.states }
-    ensures { AreHashes automaton.now classes.now finer.new.items }
+/// Puts the hashes of the signatures of all states by the classes in the place of what the list has. A state whose class is known to have
+/// no other keeps it, and is noted as such.
+fn hash_all(
+    rows: &[Row],
+    lone: &LoneClasses,
+    classes: &[usize],
+    finer: &mut Vec<usize>,
+    kept: &mut Vec<bool>,
+)
+    requires classes { length classes.now ≡ length rows.now }
+    requires finer { length finer.old.items ≡ length rows.now }
+    requires kept { length kept.old.items ≡ length rows.now }
+    ensures hashes { AreHashes (is_lone lone.now.table.items lone.now.mask) rows.now classes.now finer.new.items }
+    ensures kept { length kept.new.items ≡ length rows.now }
 {
-    'states: for state in 0..automaton.states() {
-        finer[state] = hash_of(automaton, classes, state);
+    'states: for state in 0..rows.len() {
+        let row: &Row = &rows[state];
+        let is_kept = lone.holds(classes[state]);
+        kept[state] = is_kept;
+        finer[state] = next_class(row, classes, classes[state], is_kept);
     }
 }
 
-/// The hash of the signature of the state by the classes, without its own class. That of no word is 0.
-pub fn hash_of(automaton: &Dfa, classes: &[usize], state: usize) -> usize
-    requires count { length classes.now ≡ length automaton.now.states }
-    requires state { state < length automaton.now.states }
-    ensures { result ≡ hash_of (outgoing automaton.now classes.now state) }
+/// The class of the row's state after the round, which has this class before it.
+fn next_class(row: &Row, classes: &[usize], class: usize, is_kept: bool) -> usize
+    ensures { result ≡ (if is_kept then class else hash_of (outgoing_in classes.now row.now)) }
 {
-    let edges = automaton.edges_from(state);
-    let mut value = if automaton.accepting(state) { 1 } else { 0 };
-    'edges: for &(letter, to) in edges {
-        if classes[to] != 0 {
-            value = mixed_in(value, edge_number(letter, classes[to]));
-        }
-    }
-    value
-}
-
-/// A number that few other letters have with their classes.
-fn edge_number(letter: u32, class: usize) -> usize
-    ensures { result ≡ edge_number (letter, class) }
-{
-    (letter as usize)
-        .wrapping_mul(11_400_714_819_323_198_485)
-        .wrapping_add(class)
-}
-
-/// The number in which the part is mixed. Its square makes sums of parts that are alike come to different numbers.
-fn mixed_in(value: usize, part: usize) -> usize
-    ensures { result ≡ mixed_in value part }
-{
-    let product = value
-        .wrapping_add(part)
-        .wrapping_mul(11_400_714_819_323_198_485);
-    product.wrapping_mul(2 * (product / 4_294_967_296) + 1)
+    if is_kept { class } else { row.hash(classes) }
 }

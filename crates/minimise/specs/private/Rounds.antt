@@ -1,7 +1,7 @@
 -- Rounds of refinement by hashes of signatures, and classes that are stable.
-use Rattle.std.specs.Prelude.{◌≡◌, ◌<◌, ◌+◌, ◌*◌, ◌%◌, ◌/◌, ◌^◌, ℕ, suc, List, length, slice_index, if◌then◌else◌}
+use Rattle.std.specs.Prelude.{◌≡◌, ◌==◌, ◌+◌, ◌*◌, ◌%◌, ◌/◌, ◌^◌, ℕ, suc, Bool, false, List, Option, None, Some, length, slice_index, slice_get, bit_and, if◌then◌else◌}
 use Rattle.std.specs.List.{filter_map, fold}
-use Rattle.word_automata.specs.Path.{edges_of, is_accepting}
+use Rattle.word_automata.specs.Path.{Node, edges_of, is_accepting}
 use Rattle.word_automata.specs.Automaton.{Automaton, accepts_from}
 use Rattle.minimise.specs.Signatures.{Signature}
 use Rattle.minimise.specs.Refinement.{live_edge, no_word}
@@ -15,7 +15,10 @@ pub record AreToldApart (m : Automaton) (classes : List ℕ) : Type 0 where
   pub count : length classes ≡ length m.states
   pub told_apart : (p q : ℕ) → (slice_index classes p ≡ slice_index classes q → ⊥) → AreApart m p q
 
--- the signature of the state without its own class
+-- the signature of a state without its own class
+abbrev pub outgoing_in : List ℕ → Node ℕ → Signature
+outgoing_in classes node = record { class = 0; accepting = node.accepting; edges = filter_map (live_edge classes) node.edges }
+
 abbrev pub outgoing : Automaton → List ℕ → ℕ → Signature
 outgoing m classes q = record {
   class = 0;
@@ -41,10 +44,16 @@ mixed_in_edge value edge = mixed_in value (edge_number edge)
 abbrev pub hash_of : Signature → ℕ
 hash_of s = fold mixed_in_edge (if s.accepting then 1 else 0) s.edges
 
--- each state's class in the finer list is the hash of its signature by the coarser
-pub record AreHashes (m : Automaton) (classes finer : List ℕ) : Type 0 where
-  pub count : length finer ≡ length m.states
-  pub each : (q : ℕ) → q < length m.states → slice_index finer q ≡ hash_of (outgoing m classes q)
+-- the class stands at its place in the table
+abbrev pub is_lone : List ℕ → ℕ → ℕ → Bool
+is_lone table mask class = elim (slice_get table (bit_and (class / 65536) mask)) [ None ↦ false | Some held ↦ held == class ]
+
+-- each state's class in the finer list is its class in the coarser where that is to be kept, and else the hash of its signature by the
+-- coarser
+pub record AreHashes (keeps : ℕ → Bool) (states : List (Node ℕ)) (classes finer : List ℕ) : Type 0 where
+  pub count : length finer ≡ length states
+  pub each : (q : ℕ) (state : Node ℕ) → slice_get states q ≡ Some state
+      → slice_index finer q ≡ (if keeps (slice_index classes q) then slice_index classes q else hash_of (outgoing_in classes state))
 
 -- the state has the signature of the least state of its class, and that of no word in class 0
 pub record IsLikeLeast (m : Automaton) (classes : List ℕ) (q : ℕ) : Type 0 where

@@ -1,9 +1,12 @@
-use Rattle.std.proofs.Common.{◌≡◌, ◌<◌, ℕ, length, slice_index}
-use Rattle.minimise.specs.private.Rounds.{outgoing, hash_of}
+use Rattle.std.proofs.Common.{◌≡◌, ◌<◌, ℕ, Some, length, slice_index, slice_get, if◌then◌else◌}
+use Rattle.word_automata.specs.Path.{Node}
+use Rattle.minimise.specs.private.Rounds.{outgoing_in, hash_of, is_lone}
 use Rattle.minimise.proofs.hashing.hash_all.Given as goal
 
 abbrev pub invariant-states : goal.invariant-states
 invariant-states l = record {
-  count : length l.finer.items ≡ length l.automaton.states;
-  each : (q : ℕ) → q < l.state → slice_index l.finer.items q ≡ hash_of (outgoing l.automaton l.classes q);
+  finer : length l.finer.items ≡ length l.rows;
+  kept : length l.kept.items ≡ length l.rows;
+  each : (q : ℕ) (state : Node ℕ) → q < l.state → slice_get l.rows q ≡ Some state
+      → slice_index l.finer.items q ≡ (if is_lone l.lone.table.items l.lone.mask (slice_index l.classes q) then slice_index l.classes q else hash_of (outgoing_in l.classes state));
 }
