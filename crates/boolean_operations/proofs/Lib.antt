@@ -13,4 +13,5 @@ pub mod ProductLanguages
 pub mod SearchCalls
 pub mod SearchSteps
 pub mod SearchWords
+pub mod SpelledWords
 pub mod StateWalks

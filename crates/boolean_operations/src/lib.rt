@@ -13,6 +13,7 @@ mod merged_edges;
 mod optional_states;
 mod products;
 mod search;
+mod spelling;
 
 pub use common_words::least_common_word;
 pub use complementation::complement;
@@ -20,3 +21,4 @@ pub use inclusion::included;
 pub use least_words::{is_empty, least_word};
 pub use merged_edges::search_near;
 pub use products::{difference, intersect, union};
+pub use spelling::single_word;

@@ -3,5 +3,4 @@ pub mod Soundness
 pub mod SameLanguage
 pub mod Least
 pub mod Parts
-pub mod SingleWords
 pub mod OneAnswerLemmas

@@ -13,8 +13,7 @@ ghost use Rattle.certificate_checker.specs.Answers.{IsMissing, IsHeld, IsExit, I
 ghost use Rattle.certificate_checker.specs.private.Parts.{AcceptsConfigurations, IsAcceptedWord, IsBefore, IsLeastExitBy};
 
 use crate::answer::Answer;
-use crate::single_word::single_word;
-use boolean_operations::{difference, included, intersect, least_word};
+use boolean_operations::{difference, included, intersect, least_word, single_word};
 use certificate::Certificate;
 use configuration_words::decode;
 use determinise::determinise;

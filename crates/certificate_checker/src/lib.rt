@@ -5,7 +5,6 @@
 mod answer;
 mod judgement;
 mod law;
-mod single_word;
 
 pub use answer::Answer;
 pub use judgement::check_certificate;

@@ -1,5 +1,4 @@
 pub mod ForCallers
-mod Spelling
 mod Levels
 mod RunLemmas
 pub mod Climbs
