@@ -1,3 +1,2 @@
 -- What only contracts of private functions cite.
-pub mod Digest
 pub mod Subsets

@@ -18,6 +18,7 @@ use crate::silent::silent_flags;
 use crate::subsets::Subsets;
 use exploration::explore_languages;
 use reduction::{StatePairs, live_part, pruned, simulation};
+pub use state_set::StateSet;
 use std::alloc::{AllocError, Global};
 use word_automata::{Dfa, Nfa};
 

@@ -7,7 +7,7 @@ ghost use Rattle.std.specs.Cmp.{partial_equiv_from_equiv};
 ghost use Rattle.std.specs.Cmp.Lexicographic.{pointwise, bytes_decides, nat_list_eq_equiv};
 ghost use Rattle.std.specs.Hash as fed;
 ghost use Rattle.std.proofs.Common.{ap};
-ghost use Rattle.determinise.specs.private.Digest.{mixed, digest};
+ghost use Rattle.determinise.specs.Digest.{mixed, digest};
 
 use smallvec::SmallVec;
 use std::alloc::Global;

@@ -4,7 +4,7 @@
 ghost use Rattle.std.specs.Prelude.{◌≡◌, ◌↔◌, ◌<◌, ◌≤◌, [], ℕ, All, Contains, IfOk, OnOk, length};
 ghost use Rattle.past_abstraction.specs.private.WordSets.{HasEmptyLists, PutsEdges, AreImages, HaveSameStates};
 
-use crate::state_set::StateSet;
+use determinise::StateSet;
 use std::alloc::{AllocError, Global};
 use word_automata::Dfa;
 

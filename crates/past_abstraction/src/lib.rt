@@ -4,7 +4,6 @@
 
 mod images;
 mod pasts;
-mod state_set;
 mod word_sets;
 
 pub use pasts::Pasts;

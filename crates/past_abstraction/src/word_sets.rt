@@ -9,8 +9,8 @@ ghost use Rattle.past_abstraction.specs.Pasts.{is_related};
 ghost use Rattle.past_abstraction.specs.private.WordSets.{HasEmptyLists, AreBlocksOf, AddsSet, AddsStates, AddsImages, AddsImagesOf, AreWordSets};
 
 use crate::images::{all_states, empty_lists, put_images, take_states};
-use crate::state_set::StateSet;
 use abstraction::Partition;
+use determinise::StateSet;
 use indexmap::IndexSet;
 use std::alloc::{AllocError, Global};
 use word_automata::Dfa;

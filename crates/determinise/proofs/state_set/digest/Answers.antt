@@ -1,6 +1,6 @@
 use Rattle.std.proofs.Common.{◌<◌, length, take, get_or, ap, sym, ◌∙◌, arith}
 use Rattle.std.proofs.lemmas.List.{take_more}
-use Rattle.determinise.specs.private.Digest.{mixed, digest}
+use Rattle.determinise.specs.Digest.{mixed, digest}
 use Rattle.determinise.proofs.Digests.{digest_more}
 use Rattle.determinise.proofs.state_set.digest.Goals as goal
 

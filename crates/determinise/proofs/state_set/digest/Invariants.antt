@@ -1,5 +1,5 @@
 use Rattle.std.proofs.Common.{◌≡◌, take}
-use Rattle.determinise.specs.private.Digest.{digest}
+use Rattle.determinise.specs.Digest.{digest}
 use Rattle.determinise.proofs.state_set.digest.Given as goal
 
 abbrev pub invariant-states : goal.invariant-states

@@ -1,6 +1,0 @@
-use Rattle.std.proofs.Common.{◌≡◌, take}
-use Rattle.determinise.specs.private.Digest.{digest}
-use Rattle.past_abstraction.proofs.state_set.digest.Given as goal
-
-abbrev pub invariant-states : goal.invariant-states
-invariant-states l = l.number ≡ digest (take l.state-index l.states)
