@@ -10,4 +10,4 @@ mod rounds;
 
 pub use known::no_round;
 pub use laws::rounds_are_bounded;
-pub use rounds::{round, round_after};
+pub use rounds::round;
