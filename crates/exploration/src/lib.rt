@@ -2,7 +2,8 @@
 //!
 //! A product, a union or a complement is a [`TransitionSystem`], told by its steps. A subset construction is a
 //! [`LanguageSystem`], told by the languages of its states alone. [`explore`] and [`explore_languages`] go through the states that
-//! are reached, breadth first, and number them in the order in which they find them. [`Incoming`] has the edges of an automaton by the
+//! are reached, breadth first, and number them in the order in which they find them; an [`Exploration`] can be stopped and gone on
+//! with. [`Incoming`] has the edges of an automaton by the
 //! states that they lead to.
 #![tactic(auto)]
 
@@ -17,7 +18,7 @@ mod state_table;
 mod stepwise;
 mod transition_system;
 
-pub use construction::{explore, explore_languages};
+pub use construction::{Exploration, explore, explore_languages};
 pub use found_states::FoundStates;
 pub use incoming::Incoming;
 pub use language_system::LanguageSystem;

@@ -1,6 +1,6 @@
 use Rattle.std.proofs.Common.{◌-◌, ◌^◌, []}
 use Rattle.exploration.specs.private.Worklist.{Explored}
-use Rattle.exploration.proofs.construction.explore_languages.Given as goal
+use Rattle.exploration.proofs.construction.expand_within.Given as goal
 
 abbrev pub invariant-states : goal.invariant-states
 invariant-states g l =
