@@ -3,3 +3,4 @@ pub mod Digests
 pub mod ForCallers
 pub mod Grouping
 pub mod MoveLists
+pub mod Signatures

@@ -4,23 +4,39 @@
 #![tactic(auto)]
 
 mod moves;
+mod signed_sets;
 mod silent;
 mod state_set;
 mod subset;
 mod subsets;
 
-ghost use Rattle.std.specs.Prelude.{◌≡◌, ◌↔◌, List, ℕ, IsTrue, IfOk};
+ghost use Rattle.std.specs.Prelude.{◌≡◌, ◌↔◌, List, ℕ, IsTrue, IfOk, IfSome};
 ghost use Rattle.word_automata.specs.Automaton.{accepts, IsValid};
 ghost use Rattle.word_automata.specs.Nondeterministic.{Accepts};
+ghost use Rattle.determinise.specs.private.Subsets.{IsPlain};
 ghost use Rattle.reduction.specs.Simulation.{AreIncluded};
 
-use crate::silent::silent_flags;
+use crate::signed_sets::SignedSets;
+use crate::silent::{has_true, silent_flags};
 use crate::subsets::Subsets;
-use exploration::explore_languages;
+use atoms::find_atoms;
+use exploration::{Exploration, explore_languages};
 use reduction::{StatePairs, live_part, pruned, simulation};
 pub use state_set::StateSet;
 use std::alloc::{AllocError, Global};
 use word_automata::{Dfa, Nfa};
+
+/// Where there are more sets of states, the atoms of the states are looked for.
+const FIRST_SETS: usize = 16_384;
+
+/// At first at most so many edges and sets are looked at for them.
+const FIRST_WORK: usize = 4_000_000;
+
+/// Where there are more sets of states, the atoms are looked for once more.
+const SECOND_SETS: usize = 131_072;
+
+/// Then at most so many edges and sets are looked at for them.
+const SECOND_WORK: usize = 256_000_000;
 
 /// The deterministic automaton of the sets of states that words lead to (M. O. Rabin and D. Scott, 1959), which accepts the same
 /// words. States are numbered breadth first, which is no clause here. States from which no word is accepted stand in no set, nor, as far
@@ -72,5 +88,44 @@ fn subsets_of(alloc: Global, automaton: &Nfa, pairs: &StatePairs) -> Result<Dfa,
     ensures valid { IfOk result IsValid }
 {
     let silent = silent_flags(alloc, automaton)?;
-    Ok(explore_languages(alloc, &Subsets::new(automaton, &silent, pairs))?)
+    let subsets = Subsets::new(automaton, &silent, pairs);
+    let begun = Exploration::begin(alloc, &subsets)?;
+    let first = begun.advance(FIRST_SETS)?;
+    if first.is_done() || has_true(&silent) {
+        return Ok(first.finish()?);
+    }
+    if let Some(dfa) = languages_of(alloc, automaton, &subsets, FIRST_WORK)? {
+        return Ok(dfa);
+    }
+    let second = first.advance(SECOND_SETS)?;
+    if second.is_done() {
+        return Ok(second.finish()?);
+    }
+    if let Some(dfa) = languages_of(alloc, automaton, &subsets, SECOND_WORK)? {
+        return Ok(dfa);
+    }
+    Ok(second.finish()?)
+}
+
+/// The deterministic automaton of the languages of the sets, told apart by the atoms of the automaton's states, or `None` where more than
+/// `most` edges and sets would be looked at to find these.
+fn languages_of(
+    alloc: Global,
+    automaton: &Nfa,
+    subsets: &Subsets,
+    most: usize,
+) -> Result<Option<Dfa>, AllocError>
+    requires same { subsets.now.automaton.now ≡ automaton.now }
+    requires plain { (p : ℕ) → IsPlain automaton.now p }
+    ensures language { IfOk result (λ found. IfSome found (λ dfa. (w : List ℕ) → IsTrue (accepts dfa w) ↔ Accepts automaton.now w)) }
+    ensures letters { IfOk result (λ found. IfSome found (λ dfa. dfa.letters ≡ automaton.now.letters)) }
+    ensures valid { IfOk result (λ found. IfSome found IsValid) }
+{
+    let Some(atoms) = find_atoms(alloc, automaton, most)? else {
+        return Ok(None);
+    };
+    let count = automaton.states();
+    let signed = SignedSets::new(automaton, subsets, &atoms);
+    let dfa = explore_languages(alloc, &signed)?;
+    Ok(Some(dfa))
 }

@@ -1,7 +1,7 @@
 //! Which states have edges without a letter, so that sets of the others need no closure.
 //! It takes one pass over the edges.
 
-ghost use Rattle.std.specs.Prelude.{◌≡◌, ℕ, false, None, Contains, IfOk, length};
+ghost use Rattle.std.specs.Prelude.{◌≡◌, ◌<◌, ℕ, true, false, None, Contains, IfOk, length, slice_index_or};
 ghost use Rattle.determinise.specs.private.Subsets.{ArePlainWhereFalse};
 
 use std::alloc::{AllocError, Global};
@@ -25,6 +25,18 @@ fn has_silent_edge(edges: &[(Option<u32>, usize)]) -> bool
 {
     'edges: for (letter, _) in edges {
         if letter.is_none() {
+            return true;
+        }
+    }
+    false
+}
+
+/// Whether one of the flags is true.
+pub fn has_true(flags: &[bool]) -> bool
+    ensures { result ≡ false → (p : ℕ) → p < length flags.now → slice_index_or flags.now p true ≡ false }
+{
+    'flags: for flag in flags {
+        if *flag {
             return true;
         }
     }

@@ -1,0 +1,9 @@
+use Rattle.std.proofs.Common.{get_or}
+use Rattle.atoms.specs.Covers.{HasAt}
+use Rattle.atoms.specs.private.Adding.{HasRoom}
+use Rattle.atoms.specs.private.Places.{IsSource}
+use Rattle.atoms.proofs.Additions.{AddsFirst}
+use Rattle.atoms.proofs.preimages.add_preimages.Given as goal
+
+abbrev pub invariant-places : goal.invariant-places
+invariant-places l = AddsFirst HasAt HasRoom (λ m. IsSource l.into l.used (get_or l.places m 0)) l.place-index l.fn.sets.items l.sets.items

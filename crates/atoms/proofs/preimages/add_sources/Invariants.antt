@@ -1,0 +1,8 @@
+use Rattle.std.proofs.Common.{◌≡◌, get_or}
+use Rattle.atoms.specs.Covers.{HasAt}
+use Rattle.atoms.specs.private.Adding.{HasRoom}
+use Rattle.atoms.proofs.Additions.{AddsFirst}
+use Rattle.atoms.proofs.preimages.add_sources.Given as goal
+
+abbrev pub invariant-edges : goal.invariant-edges
+invariant-edges l = AddsFirst HasAt HasRoom (λ m a j. (a ≡ (get_or l.edges m (0, 0)).0) × (j ≡ (get_or l.edges m (0, 0)).1)) l.letter-index l.fn.sets.items l.sets.items

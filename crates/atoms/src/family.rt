@@ -1,0 +1,201 @@
+//! A family of sets of states of which every atom is a union: the accepting states, and with each set those from which a letter leads
+//! into it, without those that are unions of sets of the family. Since preimages of unions are unions of preimages, what is left out
+//! need not be gone on from. A set costs its edges, and a comparison with each set of the family while many are unions.
+
+ghost use Rattle.std.specs.Prelude.{◌≡◌, ◌↔◌, ◌<◌, [], ℕ, IsTrue, IfOk, IfSome, OnOk, length, slice_index_or};
+ghost use Rattle.word_automata.specs.StateSets.{AreStates};
+ghost use Rattle.bit_set.specs.Bits.{Has};
+ghost use Rattle.atoms.specs.private.Adding.{IsListed, AreEmpty};
+ghost use Rattle.atoms.specs.private.Places.{AcceptsAt, AreUsed};
+ghost use Rattle.atoms.specs.private.Family.{IsUnion, AreUnions, AddsUnion, AddsUnions, AddsPreimages, IsEmptied, Covers};
+
+use crate::preimages::add_preimages;
+use crate::set_lists::empty_sets;
+use crate::turned_edges::{EdgesInto, edges_into};
+use bit_set::BitSet;
+use indexmap::IndexSet;
+use std::alloc::{AllocError, Global};
+use word_automata::Nfa;
+
+/// Of so many sets each is compared with those of the family. Of later ones only while more than half were unions of these.
+const ALWAYS_ASKED: usize = 1024;
+
+/// The sets of the family, all that were seen, of which each is a union of these, and how much was looked at.
+#[derive(Drop)]
+struct Family {
+    sets: Vec<BitSet>,
+    seen: IndexSet<BitSet>,
+    work: usize,
+}
+
+impl Family {
+    /// The family of one set.
+    fn new(alloc: Global, set: &BitSet, places: usize) -> Result<Family, AllocError>
+        ensures seen { IfOk result (λ family. AreUnions family.sets.items family.seen.keys) }
+        ensures union { IfOk result (λ family. IsUnion family.sets.items (Has set.now)) }
+    {
+        let mut family = Family {
+            sets: Vec::new(alloc),
+            seen: IndexSet::new(alloc),
+            work: 0,
+        };
+        family.add(alloc, set, places)?;
+        Ok(family)
+    }
+
+    /// Adds the set, unless it was seen or is told to be a union of sets of the family.
+    fn add(&mut self, alloc: Global, set: &BitSet, places: usize) -> Result<(), AllocError>
+        requires { AreUnions self.old.sets.items self.old.seen.keys }
+        ensures seen { OnOk result (AreUnions self.new.sets.items self.new.seen.keys) }
+        ensures added { OnOk result (AddsUnion self.old.sets.items self.new.sets.items (Has set.now)) }
+    {
+        if self.seen.contains(set) {
+            return Ok(());
+        }
+        let copy = set.copy(alloc)?;
+        self.seen.insert(copy)?;
+        let is_asked = self.asks_for_unions();
+        self.work = self.work.saturating_add(self.comparisons(is_asked));
+        if is_union(alloc, &self.sets, set, places, is_asked)? {
+            return Ok(());
+        }
+        let last = set.copy(alloc)?;
+        self.sets.push(last)?;
+        Ok(())
+    }
+
+    /// Whether enough of the sets that were seen are unions for it to be worth asking.
+    fn asks_for_unions(&self) -> bool {
+        self.seen.len() <= ALWAYS_ASKED || self.sets.len() < self.seen.len() / 2
+    }
+
+    /// With how many sets one is compared.
+    fn comparisons(&self, is_asked: bool) -> usize {
+        if is_asked { self.sets.len() } else { 0 }
+    }
+
+    /// Adds the set, if it has a number, and takes its numbers out.
+    fn take(&mut self, alloc: Global, set: &mut BitSet, places: usize) -> Result<(), AllocError>
+        requires { AreUnions self.old.sets.items self.old.seen.keys }
+        ensures seen { OnOk result (AreUnions self.new.sets.items self.new.seen.keys) }
+        ensures added { OnOk result (AddsUnion self.old.sets.items self.new.sets.items (Has set.old)) }
+        ensures none { OnOk result ((k : ℕ) → Has set.new k → ⊥) }
+        ensures room { OnOk result (length set.new ≡ length set.old) }
+    {
+        if set.is_empty() {
+            return Ok(());
+        }
+        self.add(alloc, set, places)?;
+        set.clear();
+        Ok(())
+    }
+
+    /// Adds each of the sets that has a number, and takes their numbers out.
+    fn take_each(
+        &mut self,
+        alloc: Global,
+        sets: &mut Vec<BitSet>,
+        places: usize,
+    ) -> Result<(), AllocError>
+        requires { AreUnions self.old.sets.items self.old.seen.keys }
+        ensures seen { OnOk result (AreUnions self.new.sets.items self.new.seen.keys) }
+        ensures added { OnOk result (AddsUnions self.old.sets.items self.new.sets.items sets.old.items (length sets.old.items)) }
+        ensures none { OnOk result (IsEmptied sets.old.items sets.new.items) }
+    {
+        'sets: for at in 0..sets.len() {
+            let set: &mut BitSet = &mut sets[at];
+            self.take(alloc, set, places)?;
+        }
+        Ok(())
+    }
+
+    /// Adds the preimages of the set with this number. The sets, one for each letter, are empty before and after.
+    fn expand(
+        &mut self,
+        alloc: Global,
+        into: &[EdgesInto],
+        used: &[usize],
+        preimages: &mut Vec<BitSet>,
+        number: usize,
+    ) -> Result<(), AllocError>
+        requires within { number < length self.old.sets.items }
+        requires unions { AreUnions self.old.sets.items self.old.seen.keys }
+        requires empty { AreEmpty (length preimages.old.items) (length used.now) preimages.old.items }
+        requires sources { (p a j : ℕ) → IsListed into.now p (a, j) → j < length used.now }
+        ensures seen { OnOk result (AreUnions self.new.sets.items self.new.seen.keys) }
+        ensures empty { OnOk result (AreEmpty (length preimages.old.items) (length used.now) preimages.new.items) }
+        ensures added { OnOk result (AddsPreimages into.now used.now (slice_index_or self.old.sets.items number [])
+            (length preimages.old.items) self.old.sets.items self.new.sets.items) }
+    {
+        let places = self.sets[number].numbers(alloc)?;
+        let looked = add_preimages(preimages, into, used, &places);
+        self.work = self.work.saturating_add(looked);
+        self.take_each(alloc, preimages, used.len())?;
+        Ok(())
+    }
+}
+
+/// Whether those of the sets that lie in this one have together all that it has, if that is asked.
+fn is_union(
+    alloc: Global,
+    sets: &[BitSet],
+    set: &BitSet,
+    places: usize,
+    is_asked: bool,
+) -> Result<bool, AllocError>
+    ensures { IfOk result (λ union. IsTrue union → IsUnion sets.now (Has set.now)) }
+{
+    if !is_asked {
+        return Ok(false);
+    }
+    let mut union = BitSet::new(alloc, places)?;
+    'sets: for other in sets {
+        if !other.is_within(set) {
+            continue;
+        }
+        union.add_all(other);
+    }
+    Ok(set.is_within(&union))
+}
+
+/// A family of sets of places of which every atom of the automaton's states is a union, or `None` where more than `most` edges and sets
+/// would be looked at.
+pub fn covering_sets(
+    alloc: Global,
+    automaton: &Nfa,
+    used: &[usize],
+    most: usize,
+) -> Result<Option<Vec<BitSet>>, AllocError>
+    requires { AreUsed automaton.now used.now }
+    ensures { IfOk result (λ found. IfSome found (λ sets. Covers automaton.now used.now sets.items)) }
+{
+    let into = edges_into(alloc, automaton, used)?;
+    let accepting = accepting_places(alloc, automaton, used)?;
+    let mut preimages = empty_sets(alloc, automaton.letters() as usize + 1, used.len())?;
+    let mut family = Family::new(alloc, &accepting, used.len())?;
+    let _in_range = automaton.states();
+    let mut next = 0;
+    'sets: while next < family.sets.len() {
+        if family.work > most {
+            return Ok(None);
+        }
+        family.expand(alloc, &into, used, &mut preimages, next)?;
+        next += 1;
+    }
+    Ok(Some(family.sets))
+}
+
+/// The places of accepting states.
+fn accepting_places(alloc: Global, automaton: &Nfa, used: &[usize]) -> Result<BitSet, AllocError>
+    requires { AreStates automaton.now used.now }
+    ensures { IfOk result (λ set. (place : ℕ) → Has set place ↔ AcceptsAt automaton.now used.now place) }
+{
+    let mut set = BitSet::new(alloc, used.len())?;
+    'places: for place in 0..used.len() {
+        if !automaton.accepting(used[place]) {
+            continue;
+        }
+        set.insert(place);
+    }
+    Ok(set)
+}

@@ -1,0 +1,5 @@
+use Rattle.bit_set.proofs.Sets.{AreNumbers}
+use Rattle.bit_set.proofs.BitSet.numbers.Given as goal
+
+abbrev pub invariant-words : goal.invariant-words
+invariant-words l = AreNumbers l.self l.numbers.items l.at

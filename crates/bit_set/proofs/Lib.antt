@@ -1,0 +1,3 @@
+pub mod Digests
+pub mod Bits
+pub mod Sets
