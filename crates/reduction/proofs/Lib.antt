@@ -3,4 +3,5 @@ pub mod ForCallers
 pub mod PairEquality
 pub mod Reductions
 pub mod Rejection
+pub mod SilentMoves
 pub mod Simulations

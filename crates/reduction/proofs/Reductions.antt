@@ -1,9 +1,8 @@
 -- Copies with fewer start states and edges that accept along the same labels accept the same words.
-use Rattle.std.proofs.Common.{◌≡◌, ◌+◌, ◌≤◌, ◌↔◌, ℕ, List, [], ◌∷◌, ◌++◌, Option, Contains, IsPermutation, IsTrue, length, map, refl, sym, ap, subst, ◌∙◌, inl, inr, arith}
+use Rattle.std.proofs.Common.{◌≡◌, ◌+◌, ◌≤◌, ◌↔◌, ℕ, List, [], ◌∷◌, ◌++◌, Option, Contains, IsTrue, length, map, refl, sym, ap, subst, ◌∙◌, inl, inr, arith}
 use Rattle.std.proofs.lemmas.Bool.{cases_eq}
 use Rattle.std.proofs.lemmas.List.{length-map}
-use Rattle.std.proofs.lemmas.List.Elements.{Contains-append_left, Contains-push, Contains-push_cases}
-use Rattle.std.proofs.lemmas.List.Sorted.{Contains-permutation, IsPermutation-sym}
+use Rattle.std.proofs.lemmas.List.Elements.{Contains-append_cases, Contains-append_left, Contains-append_right, Contains-push, Contains-push_cases}
 use Rattle.word_automata.specs.Path.{edges_of, is_accepting, IsPath, spelled, spelled_one}
 use Rattle.word_automata.specs.Nondeterministic.{NondeterministicAutomaton, Accepts, AcceptsFromAny}
 use Rattle.word_automata.proofs.ForCallers.{Contains-none}
@@ -90,37 +89,26 @@ module _ (n m : NondeterministicAutomaton) (next : ℕ) (so : IsReduced n m next
         (start.0, path.0, path.1, start.1, path.2, path.3, path.4 ∙ sym (spelled_path run.1) ∙ run.6),
   )
 
--- states one by one, of which some are kept
-pub states_keep_none : (n : NondeterministicAutomaton) → KeepsStarts n [] []
-states_keep_none n = record { only = λ q there. there; kept = λ q labels there along. absurd (Contains-none q there) }
-
-module _ (n : NondeterministicAutomaton) (xs ys : List ℕ) (x : ℕ) (so : KeepsStarts n xs ys) where
-  pub states_keep_skip : ((labels : List (Option ℕ)) → AcceptsAlong n x labels → (r : ℕ) × Contains ys r × AcceptsAlong n r labels) → KeepsStarts n (xs ++ x ∷ []) ys
-  states_keep_skip covered = record {
-    only = λ q there. Contains-append_left xs (x ∷ []) q (so.only q there);
-    kept = λ q labels there along. elim (Contains-push_cases xs x q there) [
-      | inl earlier ↦ so.kept q labels earlier along
-      | inr is ↦ covered labels (subst (λ s. AcceptsAlong n s labels) (sym is) along)
+-- a state less, where others accept along the labels along which it does
+module _ (n : NondeterministicAutomaton) (before : List ℕ) (x : ℕ) (after : List ℕ) where
+  pub states_keep_less : ((labels : List (Option ℕ)) → AcceptsAlong n x labels → (r : ℕ) × Contains (before ++ after) r × AcceptsAlong n r labels)
+      → KeepsStarts n (before ++ x ∷ after) (before ++ after)
+  states_keep_less covered = record {
+    only = λ q there. elim (Contains-append_cases before after q there) [
+      | inl earlier ↦ Contains-append_left before (x ∷ after) q earlier
+      | inr later ↦ Contains-append_right before (x ∷ after) q (Contains-append_right (x ∷ []) after q later)
+    ];
+    kept = λ q labels there along. elim (Contains-append_cases before (x ∷ after) q there) [
+      | inl earlier ↦ (q, Contains-append_left before after q earlier, along)
+      | inr rest ↦ elim (Contains-append_cases (x ∷ []) after q rest) [
+        | inl here ↦ elim (Contains-push_cases [] x q here) [
+          | inl none ↦ absurd (Contains-none q none)
+          | inr is ↦ covered labels (subst (λ s. AcceptsAlong n s labels) (sym is) along)
+        ]
+        | inr later ↦ (q, Contains-append_right before after q later, along)
+      ]
     ];
   }
-
-  pub states_keep_more : KeepsStarts n (xs ++ x ∷ []) (ys ++ x ∷ [])
-  states_keep_more = record {
-    only = λ q there. elim (Contains-push_cases ys x q there) [
-      | inl earlier ↦ Contains-append_left xs (x ∷ []) q (so.only q earlier)
-      | inr is ↦ subst (Contains (xs ++ x ∷ [])) is (Contains-push xs x)
-    ];
-    kept = λ q labels there along. elim (Contains-push_cases xs x q there) [
-      | inl earlier ↦ let k = so.kept q labels earlier along in (k.0, Contains-append_left ys (x ∷ []) k.0 k.1, k.2)
-      | inr is ↦ (x, Contains-push ys x, subst (λ s. AcceptsAlong n s labels) (sym is) along)
-    ];
-  }
-
-pub states_keep_turned : (n : NondeterministicAutomaton) (old new turned : List ℕ) → KeepsStarts n old new → IsPermutation new turned → KeepsStarts n old turned
-states_keep_turned n old new turned so turns = record {
-  only = λ q there. so.only q (Contains-permutation turned new q (IsPermutation-sym new turned turns) there);
-  kept = λ q labels there along. let k = so.kept q labels there along in (k.0, Contains-permutation new turned k.0 turns k.1, k.2);
-}
 
 pub states_keep_twice : (n : NondeterministicAutomaton) (old mid new : List ℕ) → KeepsStarts n old mid → KeepsStarts n mid new → KeepsStarts n old new
 states_keep_twice n old mid new once twice = record {

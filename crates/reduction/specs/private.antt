@@ -2,3 +2,4 @@
 pub mod Copies
 pub mod Emptiness
 pub mod Pruning
+pub mod SilentMoves

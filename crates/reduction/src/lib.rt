@@ -1,6 +1,7 @@
-//! Smaller nondeterministic automata of the same words: without edges to states from which no word is accepted, and without edges and
-//! states that others simulate. [`live_part`] takes time linear in the edges, up to sorting; [`simulation`], which compares a bounded
-//! number of pairs of states, finds what [`pruned`] and [`maximal_states`] leave out.
+//! Smaller nondeterministic automata of the same words: without edges to states from which no word is accepted, without edges without
+//! a letter where these reach few states, and without edges and states that others simulate. [`live_part`] takes time linear in the
+//! edges, up to sorting; [`simulation`], which compares a bounded number of pairs of states, finds what [`pruned`] and
+//! [`maximal_states`] leave out.
 #![tactic(auto)]
 
 mod copying;
@@ -8,6 +9,7 @@ mod emptiness;
 mod maximal;
 mod order;
 mod pruning;
+mod silent_edges;
 mod simulation_search;
 mod state_pairs;
 mod traces;

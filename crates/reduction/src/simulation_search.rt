@@ -42,7 +42,7 @@ pub fn simulation(alloc: Global, automaton: &Nfa) -> Result<Option<StatePairs>, 
     'rounds: for _ in 0..MOST_ROUNDS {
         let is_changed = take_out_unmatched(&mut pairs, automaton);
         if !is_changed {
-            let is_some = pairs.note_lows(automaton.states(), siblings)?;
+            let is_some = pairs.list_above(automaton.states(), siblings)?;
             if is_some {
                 return Ok(Some(pairs));
             }

@@ -1,5 +1,6 @@
 //! Pairs of states in the order in which they were added. A pair is looked up by its code in the table of places of the pairs that were
-//! found, in constant time, on average. Once the pairs stay as they are, rows of bits tell most pairs that are not there before that.
+//! found, in constant time, on average. Once the pairs stay as they are, rows of bits tell most pairs that are not there before that,
+//! and one list has the states above each state.
 
 ghost use Rattle.std.specs.Prelude.{◌≡◌, ◌<◌, [], Contains, IsTrue, IfOk, OnOk, length, slice_index_or};
 
@@ -24,7 +25,10 @@ const WORDS_OF_A_PAIR: usize = 16;
 pub struct StatePairs {
     alloc: Global,
     found: FoundStates<(usize, usize)>,
-    lows: Vec<bool>,
+    /// For each state the place in `above` where the states above it begin, and at the end the number of all.
+    firsts: Vec<usize>,
+    /// The states above each state, state by state.
+    above: Vec<usize>,
     /// For each state a bit for each state: whether they are a pair. There are none where they would take too much memory.
     bits: Vec<u64>,
     /// The words of a row of bits.
@@ -48,7 +52,8 @@ impl StatePairs {
         Ok(StatePairs {
             alloc,
             found: FoundStates::new(alloc, usize::MAX)?,
-            lows: Vec::new(alloc),
+            firsts: Vec::new(alloc),
+            above: Vec::new(alloc),
             bits: Vec::new(alloc),
             words: 0,
             asked: 0,
@@ -119,21 +124,23 @@ impl StatePairs {
         self.found.states[place] = (low, low);
     }
 
-    /// Notes which of so many states are the first of a pair of different states, and tells whether one of the first pairs is left.
-    pub(crate) fn note_lows(&mut self, count: usize, first: usize) -> Result<bool, AllocError>
+    /// Lists the states above each of so many states, and tells whether one of the first pairs is left.
+    pub(crate) fn list_above(&mut self, count: usize, first: usize) -> Result<bool, AllocError>
         ensures { OnOk result (self.new ≡ self.old) }
     {
-        let mut lows = vec![in self.alloc; false; count]?;
+        let mut firsts = ends_of(self.alloc, &self.found.states, count)?;
+        let mut above = vec![in self.alloc; 0usize; self.found.len()]?;
         let mut is_some = false;
         let mut place: usize = 0;
         'pairs: for &(low, high) in &self.found.states {
-            if low != high && low < lows.len() {
-                lows[low] = true;
+            if low != high {
+                put_before(&mut above, &mut firsts, low, high);
                 is_some = is_some || place < first;
             }
             place = place.saturating_add(1);
         }
-        self.lows = lows;
+        self.firsts = firsts;
+        self.above = above;
         self.make_bits(count)?;
         Ok(is_some)
     }
@@ -164,9 +171,52 @@ impl StatePairs {
         Ok(())
     }
 
-    /// Whether the state was noted.
+    /// Whether the list of the states above the state has some.
     pub(crate) fn is_low(&self, state: usize) -> bool {
-        state < self.lows.len() && self.lows[state]
+        !self.above(state).is_empty()
+    }
+
+    /// The states above the state, as they were listed.
+    pub(crate) fn above(&self, state: usize) -> &[usize] {
+        match self.firsts.get(state..) {
+            Some([from, to, ..]) if *from <= *to && *to <= self.above.len() => {
+                &self.above[*from..*to]
+            }
+            _ => &self.above[..0],
+        }
+    }
+}
+
+/// For each of so many states the number of pairs of different states whose first one is that state or one before it, and at the end
+/// the number of all.
+fn ends_of(
+    alloc: Global,
+    pairs: &[(usize, usize)],
+    count: usize,
+) -> Result<Vec<usize>, AllocError> {
+    let mut ends = vec![in alloc; 0usize; count]?;
+    'pairs: for &(low, high) in pairs {
+        if low != high && low < ends.len() {
+            ends[low] = ends[low].wrapping_add(1);
+        }
+    }
+    let mut end: usize = 0;
+    'states: for state in 0..ends.len() {
+        end = end.wrapping_add(ends[state]);
+        ends[state] = end;
+    }
+    ends.push(end)?;
+    Ok(ends)
+}
+
+/// Puts the state before those that were put into the list of the state `low`.
+fn put_before(above: &mut Vec<usize>, firsts: &mut Vec<usize>, low: usize, high: usize) {
+    if low < firsts.len() {
+        let place = firsts[low].wrapping_sub(1);
+        if place < above.len() {
+            above[place] = high;
+            firsts[low] = place;
+        }
     }
 }
 

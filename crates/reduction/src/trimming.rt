@@ -1,5 +1,6 @@
 //! The part of an automaton whose edges lead to states from which some word is accepted (S. Eilenberg, 1974: the coaccessible part),
-//! with the same states, and with the edges of each state in order. It takes time linear in the states and edges, up to sorting.
+//! with the same states, with the edges of each state in order, and where these are few without edges without a letter. It takes time
+//! linear in the states and edges, up to sorting.
 
 ghost use Rattle.std.specs.Prelude.{◌≡◌, ◌↔◌, ◌+◌, ◌<◌, ℕ, List, true, false, IsTrue, IfOk, IfSome, OnOk, length, slice_index_or};
 ghost use Rattle.word_automata.specs.Path.{edges_of};
@@ -10,13 +11,30 @@ ghost use Rattle.reduction.specs.private.Copies.{KeepsEdges, KeepsWhere, IsReduc
 use crate::copying::{add_edges, add_starts, states_alone};
 use crate::emptiness::{dead_flags, is_flagged};
 use crate::order::{are_ordered, has_ordered_edges, order_edges};
+use crate::silent_edges::without_silent;
 use std::alloc::{AllocError, Global};
 use word_automata::{Nfa, NfaBuilder};
 
 /// The automaton without edges to states from which no word is accepted and without such start states, or `None` where a search finds
 /// none of these and the edges are in order. Edges are in order by letter and target. That each such state is found is no clause.
+/// Edges without a letter go first, where they reach few states from each: a state then has the edges of the states that they reach.
 /// `AllocError` where memory runs out.
 pub fn live_part(alloc: Global, automaton: &Nfa) -> Result<Option<Nfa>, AllocError>
+    ensures language { IfOk result (λ found. IfSome found (λ live. (w : List ℕ) → Accepts live w ↔ Accepts automaton.now w)) }
+    ensures letters { IfOk result (λ found. IfSome found (λ live. live.letters ≡ automaton.now.letters)) }
+{
+    match without_silent(alloc, automaton)? {
+        Some(plain) => match ordered_part(alloc, &plain)? {
+            Some(live) => Ok(Some(live)),
+            None => Ok(Some(plain)),
+        },
+        None => Ok(ordered_part(alloc, automaton)?),
+    }
+}
+
+/// The automaton without edges to states from which no word is accepted and without such start states, with edges in order, or `None`
+/// where a search finds none of these and they are in order.
+fn ordered_part(alloc: Global, automaton: &Nfa) -> Result<Option<Nfa>, AllocError>
     ensures language { IfOk result (λ found. IfSome found (λ live. (w : List ℕ) → Accepts live w ↔ Accepts automaton.now w)) }
     ensures letters { IfOk result (λ found. IfSome found (λ live. live.letters ≡ automaton.now.letters)) }
 {
