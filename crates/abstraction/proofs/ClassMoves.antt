@@ -1,12 +1,9 @@
 -- The nondeterministic automaton over classes, edge by edge.
-use Rattle.std.proofs.Common.{◌≡◌, ◌<◌, ◌≤◌, ◌+◌, ◌↔◌, ◌⊎◌, ℕ, zero, suc, Bool, true, false, not, eqb, if◌then◌else◌, List, [], ◌∷◌, ◌++◌, Option, Some, Contains, IsTrue, length, map, take, get_or, slice_index, refl, sym, ap, subst, ◌∙◌, inl, inr, arith}
-use Rattle.std.proofs.lemmas.Bool.{cases_lt, cases_Bool, false≢true}
+use Rattle.std.proofs.Common.{◌≡◌, ◌<◌, ◌≤◌, ◌+◌, ◌↔◌, ◌⊎◌, ℕ, zero, suc, Bool, true, false, eqb, if◌then◌else◌, List, [], ◌∷◌, ◌++◌, Option, Some, Contains, IsTrue, length, map, take, get_or, slice_index, refl, sym, ap, subst, ◌∙◌, inl, inr, arith}
+use Rattle.std.proofs.lemmas.Bool.{cases_lt, cases_Bool}
 use Rattle.std.proofs.lemmas.Bool.Decides.{nat_tests}
 use Rattle.std.proofs.lemmas.List.{get_or_default, take_more, take_all, map-append, length-map}
 use Rattle.std.proofs.lemmas.List.Elements.{Contains-get_or, Contains-append_left, Contains-push, Contains-push_cases}
-use Rattle.std.specs.List.{list_any}
-use Rattle.indexmap.specs.IndexSet.{insert_key}
-use Rattle.indexmap.proofs.CallerLemmas.{Contains-list_any}
 use Rattle.word_automata.specs.Path.{Node, edges_of, is_accepting}
 use Rattle.word_automata.specs.Automaton.{Automaton}
 use Rattle.word_automata.specs.Nondeterministic.{NondeterministicAutomaton, AddsMove}
@@ -141,38 +138,23 @@ moves_next a firsts seen n i j all before = record {
   seen_added = before.seen_added;
 }
 
-module _ (eq : ClassEdge → ClassEdge → Bool) (same : (x y : ClassEdge) → eq x y ≡ true → x ≡ y) (old new : List ClassEdge) (step : ClassEdge)
-    (inserted : new ≡ insert_key eq old step) where
-  -- the set of seen edges has the edge, and what it had
-  seen_cases : (other : ClassEdge) → Contains new other → Contains old other ⊎ (other ≡ step)
-  seen_cases other there = elim (cases_Bool (list_any (eq step) old)) [
-    | inl known ↦ inl (subst (λ ms. Contains ms other) (inserted ∙ ap (λ (b : Bool). if b then old else old ++ step ∷ []) known) there)
-    | inr unknown ↦
-        elim (Contains-push_cases old step other (subst (λ ms. Contains ms other) (inserted ∙ ap (λ (b : Bool). if b then old else old ++ step ∷ []) unknown) there)) [
-          | inl before ↦ inl before
-          | inr last ↦ inr (sym last)
-        ]
-  ]
-
+module _ (old new : List ClassEdge) (step : ClassEdge) where
   -- an edge that was seen
-  pub once_seen : (n : NondeterministicAutomaton) → not (list_any (eq step) old) ≡ false → AddsMoveOnce old new n n step
-  once_seen n known = record {
+  pub once_seen : new ≡ old → Contains old step → (n : NondeterministicAutomaton) → AddsMoveOnce old new n n step
+  once_seen same there n = record {
     same_letters = refl;
     same_starts = refl;
     same_size = refl;
     same_acceptance = λ q. refl;
     kept = λ q edge there. there;
     only = λ q edge there. inl there;
-    seen = seen_cases;
-    added = elim (cases_Bool (list_any (eq step) old)) [
-      | inl there ↦ inl (Contains-list_any eq same old step there)
-      | inr absent ↦ absurd (false≢true (sym known ∙ ap not absent))
-    ];
+    seen = λ other among. inl (subst (λ ms. Contains ms other) same among);
+    added = inl there;
   }
 
   -- a new edge
-  pub once_added : (before after : NondeterministicAutomaton) → AddsMove before after step.from (Some step.letter) step.to → AddsMoveOnce old new before after step
-  once_added before after adds = record {
+  pub once_added : new ≡ old ++ step ∷ [] → (before after : NondeterministicAutomaton) → AddsMove before after step.from (Some step.letter) step.to → AddsMoveOnce old new before after step
+  once_added pushed before after adds = record {
     same_letters = adds.same_letters;
     same_starts = adds.same_starts;
     same_size = adds.same_size;
@@ -188,7 +170,10 @@ module _ (eq : ClassEdge → ClassEdge → Bool) (same : (x y : ClassEdge) → e
       ]
       | inr other ↦ inl (subst (λ es. Contains es edge) (row q false other) there)
     ];
-    seen = seen_cases;
+    seen = λ other among. elim (Contains-push_cases old step other (subst (λ ms. Contains ms other) pushed among)) [
+      | inl earlier ↦ inl earlier
+      | inr last ↦ inr (sym last)
+    ];
     added = inr (elim (cases_Bool (eqb step.from step.from)) [
       | inl here ↦ subst (λ es. Contains es (Some step.letter, step.to)) (sym (row step.from true here)) (Contains-push (edges_of before.states step.from) (Some step.letter, step.to))
       | inr other ↦ absurd (grind (arith, nat_tests))

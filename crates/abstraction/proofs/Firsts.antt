@@ -1,9 +1,10 @@
 -- The first states of classes, state by state.
-use Rattle.std.proofs.Common.{◌≡◌, ◌≢◌, ◌↔◌, ◌<◌, ◌+◌, ◌⊎◌, ℕ, List, [], ◌∷◌, ◌++◌, Option, None, Some, length, slice_index, slice_get, get_or, sym, ap, subst, ◌∙◌, inl, inr, arith, length-append}
+use Rattle.std.proofs.Common.{◌≡◌, ◌≢◌, ◌↔◌, ◌<◌, ◌≤◌, ◌+◌, ◌-◌, ◌⊎◌, ℕ, zero, suc, List, [], ◌∷◌, ◌++◌, Option, None, Some, length, slice_index, slice_get, get_or, set, refl, sym, ap, subst, ◌∙◌, inl, inr, arith, length-append}
 use Rattle.std.proofs.lemmas.Bool.{cases_eq, cases_lt}
-use Rattle.std.proofs.lemmas.List.{get_or_append_left, get_or_push}
+use Rattle.std.proofs.lemmas.List.{get_or_append_left, get_or_push, get_or_past, get_or-set_same, get_or-set_other, get_or-replicate, length-replicate}
 use Rattle.std.proofs.lemmas.Option.{slice_get-get_or, slice_get_within, same_Some}
-use Rattle.abstraction.specs.ClassAutomata.{IsKnownFirst, IsNewFirst}
+use Rattle.std.specs.Prelude.{replicate}
+use Rattle.abstraction.specs.ClassAutomata.{IsKnownFirst, IsNewFirst, before, known_at}
 use Rattle.abstraction.specs.FirstStates.{AreFirsts}
 
 -- the states before i have the first states of their classes, which are known
@@ -91,3 +92,30 @@ module _ (classes firsts : List ℕ) (are : AreFirsts classes firsts) where
       ]
     ],
   )
+
+-- a table of zeros knows nothing
+pub known_none : (places : ℕ) (table : List ℕ) → table ≡ replicate places 0 → (c : ℕ) → known_at table c ≡ None
+known_none places table is c = elim (cases_lt c places) [
+  | inl there ↦ ap before (ap (λ xs. get_or xs c 0) is ∙ get_or-replicate places c 0 0 there)
+  | inr past ↦ ap before (ap (λ xs. get_or xs c 0) is ∙ get_or_past (replicate places 0) c 0 (subst (λ n. n ≤ c) (sym (length-replicate places 0)) past))
+]
+
+-- what stands above 0 is known
+known_some : (n : ℕ) → 0 < n → before n ≡ Some (n - 1)
+known_some zero above = absurd (omega arith)
+known_some (suc n) above = ap (λ (x : ℕ). Some x) {x = n} {y = suc n - 1} (omega arith)
+
+module _ (table : List ℕ) (class first : ℕ) (read : get_or table class 0 ≡ first) where
+  pub is_known_first : 0 < first → IsKnownFirst (known_at table) (known_at table) class (first - 1)
+  is_known_first above = record {
+    known = ap before read ∙ known_some first above;
+    same = λ c. refl;
+  }
+
+  pub is_new_first : (state : ℕ) → class < length table → first ≡ 0 → IsNewFirst (known_at table) (known_at (set table class (state + 1))) class state state
+  is_new_first state there none = record {
+    unknown = ap before (read ∙ none);
+    first_is = refl;
+    added = ap before (get_or-set_same table class (state + 1) 0 there) ∙ known_some (state + 1) (omega arith) ∙ ap (λ (x : ℕ). Some x) {x = state + 1 - 1} {y = state} (omega arith);
+    same = λ c other. ap before (get_or-set_other table class c (state + 1) 0 (λ same. other (sym same)));
+  }

@@ -1,7 +1,11 @@
 -- Words of merged automata.
-use Rattle.std.proofs.Common.{◌<◌, ◌↔◌, ℕ, List, [], ◌∷◌, length, arith}
-use Rattle.word_automata.specs.Automaton.{Automaton, IsValid}
+use Rattle.std.proofs.Common.{◌≡◌, ◌<◌, ◌↔◌, ℕ, Bool, false, List, [], ◌∷◌, Option, None, Some, IsTrue, length, get_or, slice_get, refl, sym, ap, subst, ◌∙◌, arith}
+use Rattle.std.proofs.lemmas.Bool.{false≢true}
+use Rattle.std.proofs.lemmas.Option.{slice_get-get_or, same_Some}
+use Rattle.word_automata.specs.Path.{is_accepting}
+use Rattle.word_automata.specs.Automaton.{Automaton, accepts_from, target, IsValid}
 use Rattle.word_automata.proofs.ForCallers.{accepting_within, leads_within, target_within}
+use Rattle.minimise.specs.Canonical.{IsCanonical}
 use Rattle.safety_problem.specs.Task.{IsAutomatonOf}
 use Rattle.abstraction.specs.Merging.{AreClasses, HaveEqualClasses, IsMergedFrom, IsMerged}
 
@@ -36,3 +40,41 @@ automaton_by_classes a valid R classes are m is = record {
   same_letters = is.same_letters;
   language = λ w. let same = merged_by_classes a valid R classes are w in (λ accepts. same.0 ((is.language w).0 accepts), λ merged. (is.language w).1 (same.1 merged));
 }
+
+-- where each state is alone in its class, merging changes nothing
+abbrev after : (a : Automaton) (w : List ℕ) → Option ℕ → Bool
+after a w o = elim o as (λ o. Bool) [ None ↦ false | Some r ↦ accepts_from a r w ]
+
+alone_first : (a : Automaton) (q letter : ℕ) (w : List ℕ) → ((r : ℕ) → IsTrue (accepts_from a r w) → IsMergedFrom ◌≡◌ a r w)
+    → (o : Option ℕ) → target a q letter ≡ o → IsTrue (after a w (target a q letter)) → IsMergedFrom ◌≡◌ a q (letter ∷ w)
+alone_first a q letter w rest None is accepts = absurd (false≢true (sym (ap (after a w) is) ∙ accepts))
+alone_first a q letter w rest (Some r) is accepts = (q, refl, r, is, rest r (sym (ap (after a w) is) ∙ accepts))
+
+alone_from : (a : Automaton) (w : List ℕ) (q : ℕ) → IsMergedFrom ◌≡◌ a q w ↔ IsTrue (accepts_from a q w)
+alone_from a [] q = (
+  λ merged. subst (λ p. IsTrue (is_accepting a.states p)) (sym merged.1) merged.2,
+  λ accepts. (q, refl, accepts),
+)
+alone_from a (letter ∷ w) q = (
+  λ (p, same, r, leads, rest). ap (after a w) (subst (λ k. target a k letter ≡ Some r) (sym same) leads) ∙ (alone_from a w r).0 rest,
+  λ accepts. alone_first a q letter w (λ r. (alone_from a w r).1) (target a q letter) refl accepts,
+)
+
+pub automaton_alone : (a : Automaton) → IsCanonical a → (classes : List ℕ) → length classes ≡ length a.states → ((p : ℕ) → p < length classes → get_or classes p 0 ≡ p)
+    → IsAutomatonOf a.letters (IsMerged (HaveEqualClasses classes) a) a
+automaton_alone a canonical classes count alone = record {
+  canonical = canonical;
+  same_letters = refl;
+  language = λ w.
+      let same = merged_by_classes a canonical.valid ◌≡◌ classes are w in
+      (λ accepts. same.1 ((alone_from a w 0).1 accepts), λ merged. (alone_from a w 0).0 (same.0 merged));
+}
+  where
+    at : (p : ℕ) → p < length a.states → slice_get classes p ≡ Some p
+    at p there = slice_get-get_or classes p 0 (omega arith) ∙ ap (λ (c : ℕ). Some c) (alone p (omega arith))
+
+    are : AreClasses ◌≡◌ (length a.states) classes
+    are = record {
+      count = count;
+      related = λ p q lp lq. (λ e. same_Some p q (sym (at p lp) ∙ e ∙ at q lq), λ same. ap (slice_get classes) same);
+    }

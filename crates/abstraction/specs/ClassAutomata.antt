@@ -1,9 +1,18 @@
 -- Cited by private functions alone: the nondeterministic automaton over classes of states, each of which has the number of its first state.
-use Rattle.std.specs.Prelude.{◌≡◌, ◌↔◌, ◌⊎◌, ◌<◌, ℕ, List, Option, None, Some, IsTrue, Contains, length, slice_index, slice_index_or}
+use Rattle.std.specs.Prelude.{◌≡◌, ◌↔◌, ◌⊎◌, ◌<◌, ℕ, zero, suc, List, Option, None, Some, IsTrue, Contains, length, slice_index, slice_index_or}
 use Rattle.word_automata.specs.Path.{edges_of, is_accepting}
 use Rattle.word_automata.specs.Automaton.{Automaton}
 use Rattle.word_automata.specs.Nondeterministic.{NondeterministicAutomaton}
 use Rattle.abstraction.specs.declared.class_automaton.ClassEdge.{ClassEdge}
+
+-- one less than a number above 0
+abbrev pub before : ℕ → Option ℕ
+before zero = None
+before (suc n) = Some n
+
+-- what a table knows of the class: the state before the number that stands there, and none at 0
+abbrev pub known_at : List ℕ → ℕ → Option ℕ
+known_at table class = before (slice_index table class)
 
 -- the first state of the class is known, and what is known stays
 pub record IsKnownFirst (old new : ℕ → Option ℕ) (class first : ℕ) : Type 0 where

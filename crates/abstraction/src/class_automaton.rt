@@ -8,12 +8,12 @@ ghost use Rattle.abstraction.specs.Merging.{HaveEqualClasses, IsMerged};
 ghost use Rattle.abstraction.specs.ClassAutomata.{AreTargetsOf, IsAcceptingClass, HasClassMoves, AddsMoveOnce};
 
 use crate::class_numbers::first_states;
-use indexmap::IndexSet;
+use exploration::FoundStates;
 use std::alloc::{AllocError, Global};
 use word_automata::{Dfa, Nfa, NfaBuilder};
 
 /// An edge that leads from class to class.
-#[derive(Clone, Copy, PartialEq, Eq, Hash, Debug)]
+#[derive(Clone, Copy, PartialEq, Eq, Debug)]
 pub(crate) struct ClassEdge {
     pub(crate) from: usize,
     pub(crate) letter: u32,
@@ -28,7 +28,7 @@ pub fn class_automaton(alloc: Global, a: &Dfa, classes: &[usize]) -> Result<Nfa,
 {
     let firsts = first_states(alloc, classes)?;
     let mut builder = class_states(alloc, a, &firsts)?;
-    let mut seen = IndexSet::new(alloc);
+    let mut seen = FoundStates::new(alloc, codes(a))?;
     'states: for state in 0..a.states() {
         add_edges(a, &firsts, &mut seen, &mut builder, state)?;
     }
@@ -71,14 +71,14 @@ fn accepting_classes(alloc: Global, a: &Dfa, firsts: &[usize]) -> Result<Vec<boo
 fn add_edges(
     a: &Dfa,
     firsts: &[usize],
-    seen: &mut IndexSet<ClassEdge>,
+    seen: &mut FoundStates<ClassEdge>,
     builder: &mut NfaBuilder,
     state: usize,
 ) -> Result<(), AllocError>
     requires within { state < length a.now.states }
     requires firsts { AreTargetsOf a.now firsts.now }
-    requires before { HasClassMoves a.now firsts.now seen.old.keys builder.old state 0 }
-    ensures { OnOk result (HasClassMoves a.now firsts.now seen.new.keys builder.new (state + 1) 0) }
+    requires before { HasClassMoves a.now firsts.now seen.old.states.items builder.old state 0 }
+    ensures { OnOk result (HasClassMoves a.now firsts.now seen.new.states.items builder.new (state + 1) 0) }
 {
     let from = firsts[state];
     'edges: for &(letter, to) in a.edges_from(state) {
@@ -87,23 +87,39 @@ fn add_edges(
             letter,
             to: firsts[to],
         };
-        add_edge(seen, builder, step)?;
+        add_edge(seen, code(a, step), builder, step)?;
     }
     Ok(())
 }
 
-/// Adds the edge, unless it was seen before.
+/// A number above the codes of all edges from class to class.
+fn codes(a: &Dfa) -> usize {
+    let targets = a.states().saturating_mul(a.states());
+    targets.saturating_mul(a.letters() as usize)
+}
+
+/// The code of the edge: no other edge has it.
+fn code(a: &Dfa, step: ClassEdge) -> usize {
+    let target = step.from.wrapping_mul(a.states()).wrapping_add(step.to);
+    target
+        .wrapping_mul(a.letters() as usize)
+        .wrapping_add(step.letter as usize)
+}
+
+/// Adds the edge, unless it was seen before. It is looked up by its code.
 fn add_edge(
-    seen: &mut IndexSet<ClassEdge>,
+    seen: &mut FoundStates<ClassEdge>,
+    code: usize,
     builder: &mut NfaBuilder,
     step: ClassEdge,
 ) -> Result<(), AllocError>
     requires { IsMoveInRange builder.old step.from (Some step.letter) step.to }
-    ensures { OnOk result (AddsMoveOnce seen.old.keys seen.new.keys builder.old builder.new step) }
+    ensures { OnOk result (AddsMoveOnce seen.old.states.items seen.new.states.items builder.old builder.new step) }
 {
-    let is_new = seen.insert(step)?;
-    if is_new {
-        builder.edge(step.from, Some(step.letter), step.to)?;
+    if let Some(_known) = seen.look_up(code, &step)? {
+        return Ok(());
     }
+    seen.push(step)?;
+    builder.edge(step.from, Some(step.letter), step.to)?;
     Ok(())
 }

@@ -10,7 +10,7 @@ mod merging;
 mod partition;
 
 pub use abstractions::{Abstraction, Excluding, Refinable};
-pub use class_numbers::first_states;
+pub use class_numbers::{are_single, first_states};
 pub use laws::one_merged_language;
 pub use merging::{merge, merge_related};
 pub use partition::Partition;

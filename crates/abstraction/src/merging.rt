@@ -8,14 +8,20 @@ ghost use Rattle.abstraction.specs.Merging.{IsOver, HaveEqualClasses, IsMerged};
 
 use crate::abstractions::Abstraction;
 use crate::class_automaton::class_automaton;
+use crate::class_numbers::are_single;
 use minimise::{Canon, canonical_nfa};
 use std::alloc::{AllocError, Global};
 
-/// The canonical automaton of `a` with the states of one class merged. There is one class for each state.
+/// The canonical automaton of `a` with the states of one class merged. There is one class for each state. Where each state is alone in its
+/// class, this is `a`.
 pub fn merge(alloc: Global, a: &Canon, classes: &[usize]) -> Result<Canon, AllocError>
     requires { length classes.now ≡ length a.now.states }
     ensures { IfOk result (IsAutomatonOf a.now.letters (IsMerged (HaveEqualClasses classes.now) a.now)) }
 {
+    let _canonical = a.size();
+    if are_single(classes) {
+        return Ok(a.copy(alloc)?);
+    }
     let automaton = class_automaton(alloc, a.as_dfa(), classes)?;
     Ok(canonical_nfa(alloc, &automaton)?)
 }

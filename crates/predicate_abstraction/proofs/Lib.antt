@@ -1,8 +1,8 @@
 pub mod ForCallers
 pub mod Adding
 pub mod ClassPairs
+pub mod CodeLemmas
 pub mod Edges
-pub mod Links
 pub mod Marks
 pub mod Parts
 pub mod Sharing

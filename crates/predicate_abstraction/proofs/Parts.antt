@@ -1,110 +1,147 @@
--- Classes that are split, by the states of predicate automata and by one predicate automaton after another.
-use Rattle.std.proofs.Common.{◌≡◌, ◌<◌, ◌+◌, ◌↔◌, ℕ, Some, List, [], ◌∷◌, ◌++◌, Contains, length, get_or, take, refl, sym, ap, subst, ◌∙◌, inl, inr, arith}
+-- Classes that are split, by the rows of a set of pairs and by one predicate automaton after another.
+use Rattle.std.proofs.Common.{◌≡◌, ◌<◌, ◌≤◌, ◌+◌, ◌↔◌, ℕ, Some, List, [], ◌∷◌, ◌++◌, Contains, length, get_or, take, drop, refl, sym, ap, subst, ◌∙◌, inl, inr, arith}
 use Rattle.std.specs.Prelude.{replicate}
 use Rattle.std.proofs.lemmas.Bool.{cases_lt}
 use Rattle.std.proofs.lemmas.Option.{slice_get-get_or, same_Some}
-use Rattle.std.proofs.lemmas.List.{length-replicate, get_or-replicate, take_more}
+use Rattle.std.proofs.lemmas.List.{length-replicate, get_or-replicate, take_more, take-append-drop}
 use Rattle.std.proofs.lemmas.List.Elements.{Contains-append_left, Contains-push}
 use Rattle.word_automata.specs.Automaton.{Automaton}
 use Rattle.abstraction.specs.Merging.{AreClasses}
 use Rattle.predicate_abstraction.specs.Predicates.{SharesWord, MeetSame}
-use Rattle.predicate_abstraction.specs.private.Pairs.{Pairs, AreRowsOf}
+use Rattle.predicate_abstraction.specs.private.Pairs.{Pairs}
 use Rattle.predicate_abstraction.specs.private.SharedWords.{AreShared}
-use Rattle.abstraction.specs.Partitions.{AreNumbers, IsRefined, IsNumbering}
+use Rattle.abstraction.specs.Partitions.{AreNumbers}
 use Rattle.abstraction.proofs.ForCallers.{take_cases}
-use Rattle.predicate_abstraction.specs.private.Splitting.{AreClassesBy, IsSplitBefore}
+use Rattle.predicate_abstraction.specs.private.Splitting.{AreClassesBy, HaveSame, HaveSameRows, IsSplit, IsSplitByRows}
 
--- no column
-pub split_none : (a b : Automaton) (old blocks : List ℕ) → blocks ≡ old → length old ≡ length a.states → IsSplitBefore a b 0 old blocks
-split_none a b old blocks same count = record {
-  count = ap length same ∙ count;
+-- no row
+pub rows_none : (set : Pairs) (classes split : List ℕ) → split ≡ classes → AreNumbers set.columns classes → IsSplitByRows set 0 0 classes split
+rows_none set classes split same numbers = record {
+  numbers = subst (AreNumbers set.columns) (sym same) numbers;
   apart = λ p q lp lq. (
-    λ e. (sym (ap (λ xs. get_or xs p 0) same) ∙ e ∙ ap (λ xs. get_or xs q 0) same, λ s below. absurd (omega arith)),
+    λ e. (sym (ap (λ xs. get_or xs p 0) same) ∙ e ∙ ap (λ xs. get_or xs q 0) same, λ row from below. absurd (omega arith)),
     λ both. ap (λ xs. get_or xs p 0) same ∙ both.0 ∙ sym (ap (λ xs. get_or xs q 0) same),
   );
 }
 
--- one more column
-pub split_more : (a b : Automaton) (set : Pairs) → AreShared a b set → (classes blocks finer rows : List ℕ) (i : ℕ) → AreRowsOf set i rows → IsSplitBefore a b i classes blocks
-    → IsRefined rows blocks finer → IsSplitBefore a b (i + 1) classes finer
-split_more a b set shared classes blocks finer rows i of before refined = record {
-  count = refined.count ∙ before.count;
+-- rows in which each column is as the first one of its class
+pub rows_whole : (set : Pairs) (first end : ℕ) (classes : List ℕ) → AreNumbers set.columns classes
+    → ((p : ℕ) → p < set.columns → HaveSameRows set first end (get_or classes p 0) p) → IsSplitByRows set first end classes classes
+rows_whole set first end classes numbers same = record {
+  numbers = numbers;
+  apart = λ p q lp lq. (
+    λ e. (
+      e,
+      λ row from below within.
+          let as_p = (same p lp).same row from below within in
+          let as_q = subst (λ k. HaveSame set row k q) (sym e) ((same q lq).same row from below within) in
+          (λ h. as_q.0 (as_p.1 h), λ h. as_p.0 (as_q.1 h)),
+    ),
+    λ both. both.0,
+  );
+}
+
+-- more rows
+pub rows_more : (set : Pairs) (middle end : ℕ) (classes split finer : List ℕ) → middle ≤ end → IsSplitByRows set 0 middle classes split → IsSplitByRows set middle end split finer
+    → IsSplitByRows set 0 end classes finer
+rows_more set middle end classes split finer order before later = record {
+  numbers = later.numbers;
   apart = λ p q lp lq.
-      let count = before.count in
-      let now = refined.apart p q (omega arith) (omega arith) in
+      let now = later.apart p q lp lq in
       let earlier = before.apart p q lp lq in (
         λ e.
             let x = now.0 e in
             let y = earlier.0 x.0 in (
               y.0,
-              λ s below. elim (cases_lt s i) [
-                | inl lower ↦ y.1 s lower
-                | inr from ↦
-                    let here : i ≡ s = omega arith in
-                    subst (λ t. SharesWord a p b t ↔ SharesWord a q b t) here
-                    (λ h. (shares q).0 (x.1.0 ((shares p).1 h)), λ h. (shares p).0 (x.1.1 ((shares q).1 h)))
+              λ row from below within. elim (cases_lt row middle) [
+                | inl lower ↦ y.1 row from lower within
+                | inr upper ↦ x.1 row upper below within
               ],
             ),
         λ both. now.1 (
-          earlier.1 (both.0, λ s below. both.1 s (omega arith)),
-          (λ h. (shares q).1 ((both.1 i (omega arith)).0 ((shares p).0 h)), λ h. (shares p).1 ((both.1 i (omega arith)).1 ((shares q).0 h))),
+          earlier.1 (both.0, λ row from below within. both.1 row from (omega arith) within),
+          λ row from below within. both.1 row (omega arith) below within,
+        ),
+      );
+}
+
+-- all rows: as many as there are, or as are needed for each column to be alone
+module _ (set : Pairs) (end : ℕ) (classes split : List ℕ) (before : IsSplitByRows set 0 end classes split) where
+  rows_enough : ((p q row : ℕ) → p < set.columns → q < set.columns → get_or split p 0 ≡ get_or split q 0 → row < set.rows → HaveSame set row p q)
+      → IsSplitByRows set 0 set.rows classes split
+  rows_enough same = record {
+    numbers = before.numbers;
+    apart = λ p q lp lq.
+        let now = before.apart p q lp lq in (
+          λ e. ((now.0 e).0, λ row from below within. same p q row lp lq e within),
+          λ both. now.1 (both.0, λ row from below within. both.1 row from within within),
+        );
+  }
+
+  pub rows_all : set.rows ≤ end → IsSplitByRows set 0 set.rows classes split
+  rows_all all = rows_enough (λ p q row lp lq e within. ((before.apart p q lp lq).0 e).1 row (omega arith) (omega arith) within)
+
+  pub rows_alone : ((p : ℕ) → p < length split → get_or split p 0 ≡ p) → IsSplitByRows set 0 set.rows classes split
+  rows_alone alone = rows_enough (λ p q row lp lq e within.
+      let count = before.numbers.count in
+      let here : p ≡ q = sym (alone p (omega arith)) ∙ e ∙ alone q (omega arith) in
+      subst (HaveSame set row p) here (λ h. h, λ h. h))
+
+-- rows of pairs that share a word
+pub split_by_shared : (a b : Automaton) (set : Pairs) (classes finer : List ℕ) → AreShared b a set → IsSplitByRows set 0 set.rows classes finer → IsSplit a b classes finer
+split_by_shared a b set classes finer shared split = record {
+  numbers = subst (λ n. AreNumbers n finer) shared.columns split.numbers;
+  apart = λ p q lp lq.
+      let columns = shared.columns in
+      let rows = shared.rows in
+      let now = split.apart p q (omega arith) (omega arith) in (
+        λ e.
+            let x = now.0 e in (
+              x.0,
+              λ s below.
+                  let same = x.1 s (omega arith) (omega arith) (omega arith) in (
+                    λ h. (shares q s).0 (same.0 ((shares p s).1 h)),
+                    λ h. (shares p s).0 (same.1 ((shares q s).1 h)),
+                  ),
+            ),
+        λ both. now.1 (
+          both.0,
+          λ s from below within.
+              let same = both.1 s (omega arith) in (
+                λ h. (shares q s).1 (same.0 ((shares p s).0 h)),
+                λ h. (shares p s).1 (same.1 ((shares q s).0 h)),
+              ),
         ),
       );
 }
   where
-    shares : (p : ℕ) → Contains rows p ↔ SharesWord a p b i
-    shares p = (λ h. (shared.shared p i).0 ((of.same p).0 h), λ h. (of.same p).1 ((shared.shared p i).1 h))
-
--- states are in one block where they share words with the same states of each automaton
-pub record AreBlocksBy (predicates : List Automaton) (a : Automaton) (blocks : List ℕ) : Type 0 where
-  pub count : length blocks ≡ length a.states
-  pub apart : (p q : ℕ) → p < length a.states → q < length a.states → (get_or blocks p 0 ≡ get_or blocks q 0) ↔ MeetSame predicates a p q
-
--- other numbers of the blocks
-pub blocks_by_numbers : (predicates : List Automaton) (a : Automaton) (blocks numbers : List ℕ) → AreBlocksBy predicates a blocks → IsNumbering blocks numbers → AreBlocksBy predicates a numbers
-blocks_by_numbers predicates a blocks numbers by numbering = record {
-  count = numbering.numbers.count ∙ by.count;
-  apart = λ p q lp lq.
-      let count = by.count in
-      let now = by.apart p q lp lq in
-      let same = numbering.same p q (omega arith) (omega arith) in
-      (λ e. now.0 (same.0 e), λ meet. same.1 (now.1 meet));
-}
-
-pub classes_by_numbers : (predicates : List Automaton) (a : Automaton) (blocks classes : List ℕ) → AreBlocksBy predicates a blocks → IsNumbering blocks classes → AreClassesBy predicates a classes
-classes_by_numbers predicates a blocks classes by numbering = record {
-  numbers = subst (λ n. AreNumbers n classes) by.count numbering.numbers;
-  apart = (blocks_by_numbers predicates a blocks classes by numbering).apart;
-}
+    shares : (p s : ℕ) → Contains set.pairs (s, p) ↔ SharesWord a p b s
+    shares p s = (λ h. let word = (shared.shared s p).0 h in (word.0, word.2, word.1), λ word. (shared.shared s p).1 (word.0, word.2, word.1))
 
 -- no predicate automaton
-pub numbers_none : (n : ℕ) (zeros : List ℕ) → zeros ≡ replicate n 0 → AreNumbers (length zeros) zeros
-numbers_none n zeros is = record {
-  count = refl;
-  below = λ p there.
-      let size = ap length is ∙ length-replicate n 0 in
-      let zero = ap (λ xs. get_or xs p 0) is ∙ get_or-replicate n p 0 0 (omega arith) in omega arith;
-}
-
-pub blocks_by_none : (a : Automaton) (blocks : List ℕ) (predicates : List Automaton) → blocks ≡ replicate (length a.states) 0 → predicates ≡ [] → AreBlocksBy predicates a blocks
-blocks_by_none a blocks predicates is empty = record {
-  count = ap length is ∙ length-replicate (length a.states) 0;
+pub classes_by_none : (a : Automaton) (classes : List ℕ) (predicates : List Automaton) → classes ≡ replicate (length a.states) 0 → predicates ≡ [] → AreClassesBy predicates a classes
+classes_by_none a classes predicates is empty = record {
+  numbers = record {
+    count = ap length is ∙ length-replicate (length a.states) 0;
+    below = λ p there. let zero = zero_at p there in omega arith;
+  };
   apart = λ p q lp lq. (
     λ e b there. absurd (none b there),
     λ same. zero_at p lp ∙ sym (zero_at q lq),
   );
 }
   where
-    zero_at : (p : ℕ) → p < length a.states → get_or blocks p 0 ≡ 0
+    zero_at : (p : ℕ) → p < length a.states → get_or classes p 0 ≡ 0
     zero_at p there = ap (λ xs. get_or xs p 0) is ∙ get_or-replicate (length a.states) p 0 0 there
 
     none : (b : Automaton) → Contains predicates b → ⊥
     none b there = let x = subst (λ ps. Contains ps b) empty there in (let l = x.1 in omega arith)
 
-pub blocks_by_more : (a : Automaton) (predicates : List Automaton) (i : ℕ) (b : Automaton) (blocks finer : List ℕ) → i < length predicates → b ≡ get_or predicates i b
-    → IsSplitBefore a b (length b.states) blocks finer → AreBlocksBy (take i predicates) a blocks → AreBlocksBy (take (i + 1) predicates) a finer
-blocks_by_more a predicates i b blocks finer within read split before = record {
-  count = split.count;
+-- one more predicate automaton
+pub classes_by_more : (a : Automaton) (predicates : List Automaton) (i : ℕ) (b : Automaton) (classes finer : List ℕ) → i < length predicates → b ≡ get_or predicates i b
+    → IsSplit a b classes finer → AreClassesBy (take i predicates) a classes → AreClassesBy (take (i + 1) predicates) a finer
+classes_by_more a predicates i b classes finer within read split before = record {
+  numbers = split.numbers;
   apart = λ p q lp lq.
       let now = split.apart p q lp lq in
       let earlier = before.apart p q lp lq in (
@@ -121,6 +158,21 @@ blocks_by_more a predicates i b blocks finer within read split before = record {
   where
     more : take (i + 1) predicates ≡ take i predicates ++ get_or predicates i b ∷ []
     more = take_more predicates i b within
+
+-- where each state is alone, no further predicate automaton splits
+pub classes_by_alone : (a : Automaton) (predicates : List Automaton) (i : ℕ) (classes : List ℕ) → ((p : ℕ) → p < length classes → get_or classes p 0 ≡ p)
+    → AreClassesBy (take i predicates) a classes → AreClassesBy predicates a classes
+classes_by_alone a predicates i classes alone before = record {
+  numbers = before.numbers;
+  apart = λ p q lp lq. (
+    λ e.
+        let count = before.numbers.count in
+        let here : p ≡ q = sym (alone p (omega arith)) ∙ e ∙ alone q (omega arith) in
+        subst (MeetSame predicates a p) here (λ b there s below. (λ h. h, λ h. h)),
+    λ meet. (before.apart p q lp lq).1 (λ b there.
+        meet b (subst (λ ps. Contains ps b) (take-append-drop i predicates) (Contains-append_left (take i predicates) (drop i predicates) b there))),
+  );
+}
 
 pub classes_by_all : (predicates : List Automaton) (a : Automaton) (classes : List ℕ) → AreClassesBy predicates a classes → AreClasses (MeetSame predicates a) (length a.states) classes
 classes_by_all predicates a classes has = record {

@@ -120,7 +120,7 @@ shares_word_tells a valid p b s = (
     words : List (List ℕ)
     words = words_up_to a.letters (length a.states * length b.states)
 
-same_test : (x y : Bool) → ((x ≡ true) → y ≡ true) → ((y ≡ true) → x ≡ true) → x ≡ y
+pub same_test : (x y : Bool) → ((x ≡ true) → y ≡ true) → ((y ≡ true) → x ≡ true) → x ≡ y
 same_test true y to from = sym (to refl)
 same_test false true to from = from refl
 same_test false false to from = refl

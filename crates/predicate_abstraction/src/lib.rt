@@ -2,11 +2,12 @@
 //! (Bouajjani, Habermehl and Vojnar, CAV 2004). A refuted set is one more of these automata.
 #![tactic(auto)]
 
-mod columns;
+mod codes;
 mod common_classes;
 mod laws;
 mod pair_set;
 mod place;
+mod predicate;
 mod predicates;
 mod shared_words;
 mod shares;

@@ -1,7 +1,7 @@
 //! Sets of pairs of small numbers: a mark for each possible pair, and the pairs in the order in which they were added.
 //! A pair is looked up and added in constant time; a set takes a byte for each possible pair.
 
-ghost use Rattle.std.specs.Prelude.{◌≡◌, ◌<◌, [], Some, IfOk, OnOk, length, slice_get};
+ghost use Rattle.std.specs.Prelude.{◌≡◌, ◌↔◌, ◌<◌, [], true, Some, Contains, IfOk, OnOk, length, slice_get};
 ghost use Rattle.predicate_abstraction.specs.private.Pairs.{AddsPairs};
 
 use crate::place::place;
@@ -43,6 +43,13 @@ impl PairSet {
         })
     }
 
+    /// The number of rows.
+    pub fn rows(&self) -> usize
+        ensures { result ≡ self.now.rows }
+    {
+        self.rows
+    }
+
     /// The number of columns.
     pub fn columns(&self) -> usize
         ensures { result ≡ self.now.columns }
@@ -80,5 +87,15 @@ impl PairSet {
             self.marks[at] = true;
         }
         Ok(())
+    }
+
+    /// Whether the pair is in the set.
+    pub fn has(&self, row: usize, column: usize) -> bool
+        requires row { row < self.now.rows }
+        requires column { column < self.now.columns }
+        ensures { (result ≡ true) ↔ Contains self.now.pairs (row, column) }
+    {
+        let at = place(self.rows, self.columns, row, column);
+        self.marks[at]
     }
 }

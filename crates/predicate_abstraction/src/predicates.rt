@@ -6,6 +6,7 @@ ghost use Rattle.predicate_abstraction.specs.Predicates.{predicates, key_of, ref
 ghost use Rattle.predicate_abstraction.specs.PredicateLaws.{related-equivalence, related-finer, next_key-over};
 ghost use Rattle.predicate_abstraction.specs.PredicateLaws.{refined-key, first-stays, refuted-added, related-excludes};
 
+use crate::predicate::Predicate;
 use crate::shares::classes_in_threads;
 use abstraction::{Abstraction, Excluding, Refinable};
 use minimise::Canon;
@@ -19,7 +20,7 @@ use std::thread::Threads;
 pub struct Predicates<'a, R: Threads + Sync> {
     runtime: &'a R,
     workers: u32,
-    automata: Vec<Canon>,
+    automata: Vec<Predicate>,
     started: usize,
 }
 
@@ -60,7 +61,7 @@ impl<'a, R: Threads + Sync> Predicates<'a, R> {
         ensures { IfOk result (λ made. made ≡ record { first = predicates (bad.now ∷ []); refuted = [] }) }
     {
         let mut automata = Vec::new(alloc);
-        automata.push(bad.copy(alloc)?)?;
+        automata.push(Predicate::new(alloc, bad)?)?;
         Ok(Predicates {
             runtime,
             workers,
@@ -88,8 +89,8 @@ impl<'a, R: Threads + Sync> Refinable for Predicates<'a, R> {
     ghost after = { refined_with };
 
     fn refine(&mut self, alloc: Global, refuted: &Canon) -> Result<(), AllocError> {
-        let copy = refuted.copy(alloc)?;
-        self.automata.push(copy)?;
+        let predicate = Predicate::new(alloc, refuted)?;
+        self.automata.push(predicate)?;
         Ok(())
     }
 

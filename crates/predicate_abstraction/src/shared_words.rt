@@ -9,29 +9,30 @@ ghost use Rattle.predicate_abstraction.specs.private.SharedWords.{AreShared, Sha
 
 use crate::pair_set::PairSet;
 use crate::place::place;
-use crate::sources::sources_by_letter;
 use exploration::Incoming;
 use std::alloc::{AllocError, Global};
 use word_automata::{Dfa, Nfa};
 
-/// The pairs of a state of `a`, whose edges are listed by their targets, and one of `b` that share a word.
+/// The pairs of a state of `a`, whose edges are listed by their targets, and one of `b`, whose edges are kept by their targets and letters,
+/// that share a word.
 pub fn shared_words(
     alloc: Global,
     a: &Dfa,
     into_a: &[Vec<(u32, usize)>],
     b: &Dfa,
+    into_b: &Nfa,
 ) -> Result<PairSet, AllocError>
     requires letters { b.now.letters ≡ a.now.letters }
     requires edges { AreEdgesByTarget a.now into_a.now (length a.now.states) }
+    requires sources { AreSourcesByLetter b.now into_b.now }
     ensures { IfOk result (AreShared a.now b.now) }
 {
-    let into_b = sources_by_letter(alloc, b)?;
     let mut shared = accepting_pairs(alloc, a, b)?;
     let mut next = 0;
     'pairs: while next < shared.len() {
         let (p, s) = shared.pair(next);
         let edges: &Vec<(u32, usize)> = &into_a[p];
-        add_predecessors(&mut shared, edges, b, &into_b, s)?;
+        add_predecessors(&mut shared, edges, b, into_b, s)?;
         next += 1;
     }
     Ok(shared)

@@ -2,19 +2,16 @@
 //! the automata of its share alone, and the classes of all shares are put together.
 
 ghost use Rattle.std.specs.Prelude.{◌≡◌, All, IfOk};
-ghost use Rattle.abstraction.specs.Partitions.{IsNumbering};
 ghost use Rattle.predicate_abstraction.specs.private.Splitting.{AreClassesBy};
 
 use crate::common_classes::common_classes;
-use crate::shared_words::edges_into;
+use crate::predicate::Predicate;
+use crate::sources::sources_by_letter;
 use crate::splitting::split_by_predicate;
-use abstraction::Partition;
+use abstraction::are_single;
 use minimise::Canon;
 use std::alloc::{AllocError, Global};
 use std::thread::{Threads, join};
-
-/// Blocks are numbered anew after so many states were moved into others, since each move may make a block that takes memory.
-const MOST_MOVES: usize = 32_768;
 
 /// So many pairs of a state and a predicate's state are worth a thread.
 const PAIRS_OF_A_SHARE: usize = 65_536;
@@ -25,7 +22,7 @@ pub fn classes_in_threads<R: Threads>(
     runtime: &R,
     workers: u32,
     a: &Canon,
-    predicates: &[Canon],
+    predicates: &[Predicate],
 ) -> Result<Vec<usize>, AllocError>
     requires { All (λ m. m.letters ≡ a.now.letters) predicates.now }
     ensures { IfOk result (λ classes. AreClassesBy predicates.now a.now classes.items) }
@@ -36,7 +33,7 @@ pub fn classes_in_threads<R: Threads>(
 }
 
 /// The number of states of all automata, or the largest number where that is less.
-fn states(automata: &[Canon]) -> usize {
+fn states(automata: &[Predicate]) -> usize {
     let mut total = 0usize;
     'automata: for automaton in automata {
         total = total.saturating_add(automaton.size());
@@ -50,7 +47,7 @@ fn classes_in_shares<R: Threads>(
     runtime: &R,
     shares: usize,
     a: &Canon,
-    predicates: &[Canon],
+    predicates: &[Predicate],
 ) -> Result<Vec<usize>, AllocError>
     requires { All (λ m. m.letters ≡ a.now.letters) predicates.now }
     ensures { IfOk result (λ classes. AreClassesBy predicates.now a.now classes.items) }
@@ -74,36 +71,23 @@ fn classes_in_shares<R: Threads>(
     common_classes(alloc, &first?, &rest?)
 }
 
-/// The classes, split automaton by automaton.
-fn classes_in_turn(alloc: Global, a: &Canon, predicates: &[Canon]) -> Result<Vec<usize>, AllocError>
+/// The classes, split automaton by automaton until each state is alone in its own.
+fn classes_in_turn(
+    alloc: Global,
+    a: &Canon,
+    predicates: &[Predicate],
+) -> Result<Vec<usize>, AllocError>
     requires { All (λ m. m.letters ≡ a.now.letters) predicates.now }
     ensures { IfOk result (λ classes. AreClassesBy predicates.now a.now classes.items) }
 {
     let automaton = a.as_dfa();
-    let into = edges_into(alloc, automaton)?;
-    let mut partition = Partition::new(alloc, &vec![in alloc; 0; a.size()]?)?;
-    let mut moves = 0usize;
+    let into = sources_by_letter(alloc, automaton)?;
+    let mut classes = vec![in alloc; 0; a.size()]?;
     'predicates: for predicate in predicates {
-        if moves > MOST_MOVES {
-            partition = renumbered(alloc, &partition)?;
-            moves = 0;
+        if are_single(&classes) {
+            return Ok(classes);
         }
-        let pairs = split_by_predicate(
-            alloc,
-            &mut partition,
-            automaton,
-            &into,
-            predicate.as_dfa(),
-        )?;
-        moves = moves.saturating_add(pairs);
+        classes = split_by_predicate(alloc, &classes, automaton, &into, predicate)?;
     }
-    partition.classes(alloc)
-}
-
-/// The same partition, whose blocks have numbers below that of the states.
-fn renumbered(alloc: Global, partition: &Partition) -> Result<Partition, AllocError>
-    ensures { IfOk result (λ made. IsNumbering partition.now made) }
-{
-    let classes = partition.classes(alloc)?;
-    Partition::new(alloc, &classes)
+    Ok(classes)
 }

@@ -1,4 +1,7 @@
-use Rattle.std.proofs.Common.{rules, ◌≡◌, true, sym, ◌∙◌}
+use Rattle.std.proofs.Common.{rules, ◌≡◌, ◌∙◌, ◌++◌, ◌∷◌, [], true, Some, Contains, slice_get, ap, subst}
+use Rattle.std.specs.Prelude.{IfSome}
+use Rattle.std.proofs.lemmas.List.Elements.{Contains-get_or}
+use Rattle.std.proofs.lemmas.Option.{get_or_from_slice_get, slice_get_within}
 use Rattle.abstraction.specs.declared.class_automaton.ClassEdge.{ClassEdge}
 use Rattle.abstraction.specs.contracts.class_automaton.ClassEdgePartialEq.TheImpl.{eq-value}
 use Rattle.abstraction.proofs.ClassMoves.{once_seen, once_added}
@@ -7,11 +10,21 @@ use Rattle.abstraction.proofs.class_automaton.add_edge.Goals as goal
 same : (x y : ClassEdge) → eq-value.it x y ≡ true → x ≡ y
 same x y e = search rules
 
-pub returns-in_ok-edge : goal.returns-in_ok-edge
-returns-in_ok-edge c =
-    once_added eq-value.it same c.args.seen.now.keys c.insert.new.self.keys c.args.step c.in_ok-is_new.ensures.keys c.args.builder.now c.edge.new.self c.in_ok-edge.ensures.ok
+pub look_up-requires : goal.look_up-requires
+look_up-requires c = same
 
-pub returns-else-is_new : goal.returns-else-is_new
-returns-else-is_new c =
-    once_seen eq-value.it same c.args.seen.now.keys c.insert.new.self.keys c.args.step c.in_ok-is_new.ensures.keys c.args.builder.now
-    (sym c.in_ok-is_new.ensures.added ∙ c.if-is_new.false)
+pub returns-in-Some : goal.returns-in-Some
+returns-in-Some c =
+    let seen = c.args.seen.now.states.items in
+    let step = c.args.step in
+    let place = c.in-Some._known in
+    let at = subst (λ o. IfSome o (λ place. slice_get seen place ≡ Some step)) c.in-Some.is c.in_ok-_known.ensures.place in
+    once_seen seen c.look_up.new.self.states.items step c.look_up.ensures.same
+    (subst (Contains seen) (get_or_from_slice_get seen place step step at) (Contains-get_or seen place step (slice_get_within seen place step at)))
+    c.args.builder.now
+
+pub returns : goal.returns
+returns c =
+    let step = c.args.step in
+    once_added c.args.seen.now.states.items c.push.new.self.states.items step (c.in_ok-push.ensures ∙ ap (λ xs. xs ++ step ∷ []) c.look_up.ensures.same)
+    c.args.builder.now c.edge.new.self c.in_ok-edge.ensures.ok

@@ -9,4 +9,4 @@ returns-clause-language c w =
     let end : c.states.state ≡ length c.args.a.now.states = (let count = c.states-state-end.ensures.count in omega arith) in
     subst (λ n. Accepts n w ↔ IsMerged (HaveEqualClasses c.args.classes.now) c.args.a.now w) (sym c.finish.ensures)
     (class_words c.args.a.now c.states-state-end.ensures.valid c.args.classes.now c.in_ok-firsts.firsts.items c.requires c.in_ok-firsts.ensures
-    c.states.seen.keys c.states.builder c.states.state end c.states.invariant w)
+    c.states.seen.states.items c.states.builder c.states.state end c.states.invariant w)

@@ -25,7 +25,7 @@ add_predecessors-requires-clause-letters c =
 pub pairs-preserved : goal.pairs-preserved
 pairs-preserved c =
     let old = c.pairs.shared in
-    shares_more c.args.a.now c.args.b.now c.requires.edges.valid c.in_ok-into_b.into_b c.in_ok-into_b.ensures c.requires.letters old
+    shares_more c.args.a.now c.args.b.now c.requires.edges.valid c.args.into_b.now c.requires.sources c.requires.letters old
     c.add_predecessors.new.shared c.pairs.next c.pair-p.result c.deref.result.now (edges_of_pair (goal.at.pairs-preserved c).After-deref)
     (let len = c.len.ensures in omega arith) (get_or_from_slice_get old.pairs c.pairs.next c.pair-p.result (0, 0) c.pair-p.ensures.pair)
     c.in_ok-add_predecessors.ensures c.pairs.invariant

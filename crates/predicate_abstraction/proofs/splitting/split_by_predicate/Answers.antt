@@ -1,19 +1,16 @@
-use Rattle.std.proofs.Common.{◌≡◌, ℕ, List, length, subst, arith}
-use Rattle.abstraction.specs.Partitions.{IsRefined}
-use Rattle.predicate_abstraction.specs.private.Splitting.{IsSplitBefore}
-use Rattle.predicate_abstraction.proofs.Parts.{split_more}
+use Rattle.std.proofs.Common.{List, ℕ, length, sym, subst}
+use Rattle.std.proofs.lemmas.Result.{IfOk-weaker}
+use Rattle.predicate_abstraction.specs.private.SharedWords.{AreShared}
+use Rattle.predicate_abstraction.specs.private.Splitting.{IsSplit, IsSplitByRows}
+use Rattle.predicate_abstraction.proofs.Parts.{split_by_shared}
 use Rattle.predicate_abstraction.proofs.splitting.split_by_predicate.Goals as goal
-
-pub columns-preserved : goal.columns-preserved
-columns-preserved c =
-    let old = c.columns.partition in
-    let new = c.refine.new.self in
-    split_more c.args.a.now c.args.b.now c.in_ok-shared.shared c.in_ok-shared.ensures c.args.partition.now old new
-    c.put_rows.new.rows.items c.columns.column c.in_ok-put_rows.ensures c.columns.invariant
-    (subst (λ (xs : List ℕ). IsRefined xs old new) c.deref.ensures.value c.in_ok-refine.ensures)
 
 pub returns : goal.returns
 returns c =
+    let set = c.in_ok-shared.shared in
+    let a = c.args.a.now in
     let b = c.args.b.now in
-    let end : c.columns.column ≡ length b.states = (let count = c.states-column-end.ensures.count in omega arith) in
-    subst (λ i. IsSplitBefore c.args.a.now b i c.args.partition.now c.columns.partition) end c.columns.invariant
+    let classes = c.args.classes.now in
+    IfOk-weaker c.split_by_pairs.result (λ finer. IsSplitByRows set 0 set.rows classes finer.items) (λ finer. IsSplit a b classes finer.items)
+    (λ finer split. split_by_shared a b set classes finer.items (subst (λ m. AreShared m a set) c.as_dfa.ensures c.in_ok-shared.ensures) split)
+    c.split_by_pairs.ensures

@@ -1,7 +1,7 @@
 use Rattle.std.proofs.Common.{◌≡◌, ◌+◌, length, nat_eq, sym, subst, arith}
 use Rattle.std.specs.HashMap.{get}
 use Rattle.abstraction.proofs.Firsts.{HasFirsts, has_firsts_more, has_firsts_all}
-use Rattle.abstraction.proofs.class_numbers.first_states.Goals as goal
+use Rattle.abstraction.proofs.class_numbers.first_states_by_map.Goals as goal
 
 pub states-preserved : goal.states-preserved
 states-preserved c =
