@@ -2,10 +2,10 @@
 //! in it has no edge, and the edge behind it is looked at first. Letters that are asked for in increasing order thus merge two lists;
 //! others are searched by halves, in logarithmic time.
 
-ghost use Rattle.std.specs.Prelude.{◌≡◌, ◌≤◌, ◌<◌, ℕ, IfOk, IfErr, length};
+ghost use Rattle.std.specs.Prelude.{◌≡◌, ◌≤◌, ◌<◌, ℕ, IsTrue, IfOk, IfErr, length};
 ghost use Rattle.word_automata.specs.Automaton.{HasIncreasingLetters, find_target};
 ghost use Rattle.word_automata.specs.EdgeList.{letter_at, IsEdgeAt, IsGapFor};
-ghost use Rattle.image_preimage.specs.Gaps.{IsGap};
+ghost use Rattle.image_preimage.specs.Gaps.{IsGap, IsInGap};
 
 use boolean_operations::search_near;
 
@@ -27,6 +27,16 @@ impl Gap {
             low: 0,
             high: letter_from(edges, 0),
             place: 0,
+        }
+    }
+
+    /// Whether this is a letter in the gap, which has no edge then.
+    pub(crate) fn has(&self, letter: Option<u32>) -> bool
+        ensures { IsTrue result → IsInGap self.now.low self.now.high letter }
+    {
+        match letter {
+            None => false,
+            Some(letter) => self.low < letter && letter < self.high,
         }
     }
 

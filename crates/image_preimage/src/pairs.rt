@@ -52,6 +52,9 @@ pub(crate) fn expand(
         gap: Gap::new(edges),
     };
     'edges: for edge in t.edges(pair.left) {
+        if near.gap.has(edge.0.read) {
+            continue;
+        }
         follow(t, a, found, builder, from, pair, *edge, edges, &mut near)?;
     }
     Ok(())

@@ -60,9 +60,31 @@ pub fn take_states(alloc: Global, list: &mut Vec<usize>) -> Result<StateSet, All
     ensures same { IfOk result (HaveSameStates list.old.items) }
     ensures cleared { OnOk result (list.new.items ≡ []) }
 {
-    list.sort_unstable();
-    list.dedup();
+    put_in_order(list);
     let states = Vec::from_slice(alloc, list)?;
     list.clear();
     Ok(StateSet::from_vec(states))
+}
+
+/// Puts the states of the list in their order, each once.
+fn put_in_order(list: &mut Vec<usize>)
+    ensures { HaveSameStates list.old.items list.new.items }
+{
+    if are_rising(list) {
+        return;
+    }
+    list.sort_unstable();
+    list.dedup();
+}
+
+/// Whether the states are in their order, each once. Nothing but time depends on it.
+fn are_rising(states: &[usize]) -> bool {
+    let mut next = 0;
+    'states: for &state in states {
+        if state < next {
+            return false;
+        }
+        next = state.saturating_add(1);
+    }
+    true
 }

@@ -9,7 +9,7 @@ ghost use Rattle.past_abstraction.specs.Pasts.{is_related};
 ghost use Rattle.past_abstraction.specs.private.WordSets.{HasEmptyLists, AreBlocksOf, AddsSet, AddsStates, AddsImages, AddsImagesOf, AreWordSets};
 
 use crate::images::{all_states, empty_lists, put_images, take_states};
-use abstraction::Partition;
+use abstraction::{Partition, are_single};
 use determinise::StateSet;
 use indexmap::IndexSet;
 use std::alloc::{AllocError, Global};
@@ -26,6 +26,7 @@ pub fn classes_by_words(alloc: Global, a: &Dfa, bound: u64) -> Result<Vec<usize>
     let mut blocks = Partition::new(alloc, &none)?;
     let mut sets = IndexSet::new(alloc);
     add_set(a, &mut sets, &mut blocks, all_states(alloc, a.states())?)?;
+    let mut lists = empty_lists(alloc, a.letters())?;
     let mut first = 0;
     'rounds: for _ in 0..bound {
         let end = sets.len();
@@ -38,7 +39,7 @@ pub fn classes_by_words(alloc: Global, a: &Dfa, bound: u64) -> Result<Vec<usize>
                 return Ok(classes);
             }
         }
-        add_images_from(alloc, a, &mut sets, &mut blocks, first)?;
+        add_images_from(alloc, a, &mut lists, &mut sets, &mut blocks, first)?;
         first = end;
     }
     blocks.classes(alloc)
@@ -50,33 +51,23 @@ fn are_many(a: &Dfa, first: usize, end: usize) -> bool {
     end.saturating_sub(first) >= a.states() / SINGLE_PART
 }
 
-/// Whether each state has its own number as that of its class.
-fn are_single(classes: &[usize]) -> bool
-    ensures { IsTrue result → (p : ℕ) → p < length classes.now → slice_index classes.now p ≡ p }
-{
-    'states: for state in 0..classes.len() {
-        if classes[state] != state {
-            return false;
-        }
-    }
-    true
-}
-
-/// Adds the images of the sets from the first one on.
+/// Adds the images of the sets from the first one on. The lists, one for each letter, are empty before and after.
 fn add_images_from(
     alloc: Global,
     a: &Dfa,
+    lists: &mut Vec<Vec<usize>>,
     sets: &mut IndexSet<StateSet>,
     blocks: &mut Partition,
     first: usize,
 ) -> Result<(), AllocError>
-    requires { AreBlocksOf a.now sets.old.keys blocks.old }
+    requires lists { HasEmptyLists a.now.letters lists.old.items }
+    requires before { AreBlocksOf a.now sets.old.keys blocks.old }
+    ensures lists { OnOk result (HasEmptyLists a.now.letters lists.new.items) }
     ensures blocks { OnOk result (AreBlocksOf a.now sets.new.keys blocks.new) }
     ensures images { OnOk result (AddsImagesOf a.now first (length sets.old.keys) sets.old.keys sets.new.keys) }
 {
-    let mut lists = empty_lists(alloc, a.letters())?;
     'sets: for number in first..sets.len() {
-        add_images(alloc, a, &mut lists, sets, blocks, number)?;
+        add_images(alloc, a, lists, sets, blocks, number)?;
     }
     Ok(())
 }

@@ -3,7 +3,8 @@ use Rattle.std.proofs.lemmas.List.{take_more}
 use Rattle.std.proofs.lemmas.List.Elements.{Contains-get_or}
 use Rattle.transducers.specs.declared.Label.{Label}
 use Rattle.transducers.proofs.ForCallers.{target_in_range}
-use Rattle.image_preimage.proofs.PairLemmas.{FollowsAll-more}
+use Rattle.image_preimage.proofs.GapLemmas.{in_gap}
+use Rattle.image_preimage.proofs.PairLemmas.{FollowsAll-more, Follows-none}
 use Rattle.image_preimage.proofs.pairs.expand.Goals as goal
 
 pub follow-requires-clause-in_range : goal.follow-requires-clause-in_range
@@ -28,4 +29,22 @@ edges-preserved c =
           c.edges.found.states.items c.follow.new.found.states.items c.edges.builder c.follow.new.builder (take c.edges.edge-index edges)
           (get_or edges c.edges.edge-index none) c.edges.invariant.0 c.in_ok-follow.ensures.follows),
       c.in_ok-follow.ensures.gap,
+    )
+
+pub edges-preserved-then-has : goal.edges-preserved-then-has
+edges-preserved-then-has c =
+    let t = c.args.t.now in
+    let a = c.args.a.now in
+    let edges = c.edges-edge-items.result.now in
+    let none : Label × ℕ = (record { read = None; write = None }, 0) in
+    let lt : c.edges.edge-index < length edges = omega arith in
+    let edge = get_or edges c.edges.edge-index none in
+    let found = c.edges.found.states.items in
+    let nowhere = in_gap a c.pair_at-pair.result.right c.edges_from-edges.result.now c.edges.near.gap.low c.edges.near.gap.high edge.0.read
+    c.edges_from-edges.ensures.edges c.edges.invariant.1 (c.has.ensures c.if-has.true) in (
+      rw (take_more edges c.edges.edge-index none lt)
+          (FollowsAll-more t a c.args.found.now.states.items c.args.builder.now c.args.from c.pair_at-pair.result
+          found found c.edges.builder c.edges.builder (take c.edges.edge-index edges) edge c.edges.invariant.0
+          (Follows-none t a found c.edges.builder c.args.from c.pair_at-pair.result edge c.edges.invariant.0.reached nowhere)),
+      c.edges.invariant.1,
     )

@@ -1,4 +1,4 @@
-use Rattle.std.proofs.Common.{◌≡◌, ◌<◌, ◌↔◌, ◌+◌, ℕ, Contains, length, slice_index, sym, subst, arith}
+use Rattle.std.proofs.Common.{rules, ◌≡◌, ◌<◌, ◌↔◌, ◌+◌, ℕ, Contains, length, slice_index, sym, subst, arith}
 use Rattle.std.proofs.lemmas.Result.{IfOk-weaker}
 use Rattle.word_automata.proofs.ForCallers.{All-from_contains}
 use Rattle.abstraction.specs.Bounds.{up_to}
@@ -22,6 +22,7 @@ rounds-init c =
     let sets = c.add_set.new.sets.keys in
     let all = subst (λ n. (p : ℕ) → Contains set p ↔ (p < n)) c.states-2.ensures.count c.in_ok-all_states.ensures in
     record {
+      lists = search rules;
       blocks = c.in_ok-add_set.ensures.blocks;
       words = first_sets c.args.a.now set sets all (subst (λ old. AddsSet set old sets) c.new-sets.ensures.empty c.in_ok-add_set.ensures.set);
     }
@@ -50,6 +51,7 @@ rounds-preserved c =
     let new = c.add_images_from.new.sets.keys in
     let before = c.rounds.invariant in
     record {
+      lists = c.in_ok-add_images_from.ensures.lists;
       blocks = c.in_ok-add_images_from.ensures.blocks;
       words = subst (λ n. AreWordSets a (c.rounds.counter + 1) n new) (sym c.len-end.ensures.len)
           (next_sets a c.rounds.counter c.rounds.first old new c.in_ok-add_images_from.ensures.images before.words);
