@@ -1,13 +1,13 @@
 -- Sets of numbers, word by word.
-use Rattle.std.proofs.Common.{◌≡◌, ◌↔◌, ◌⊎◌, ℕ, ◌+◌, ◌*◌, ◌/◌, ◌%◌, ◌<◌, ◌≤◌, List, [], ◌∷◌, ◌++◌, Contains, length, take, get_or, set, refl, sym, ◌∙◌, ap, subst, inl, inr, arith}
+use Rattle.std.proofs.Common.{◌≡◌, ◌↔◌, ◌⊎◌, ℕ, ◌+◌, ◌*◌, ◌/◌, ◌%◌, ◌^◌, ◌<◌, ◌≤◌, List, [], ◌∷◌, ◌++◌, Contains, length, take, get_or, set, refl, sym, ◌∙◌, ap, subst, inl, inr, arith}
 use Rattle.std.proofs.lemmas.Bool.{cases_lt, cases_eq}
-use Rattle.std.proofs.lemmas.List.{get_or_past, get_or-set_same, get_or-set_other, length-set, take_more}
+use Rattle.std.proofs.lemmas.List.{get_or_past, get_or_read, get_or-set_same, get_or-set_other, length-set, take_more}
 use Rattle.std.proofs.lemmas.List.Elements.{Contains-push, Contains-push_cases, Contains-append_left}
 use Rattle.std.specs.Prelude.{bit_or}
 use Rattle.std.specs.Int.{bit_at}
 use Rattle.bit_set.specs.Bits.{Has}
-use Rattle.bit_set.specs.private.Words.{HasBit, IsPart, AddsBit, IsWordOfAll}
-use Rattle.bit_set.proofs.Bits.{HasBit-zero, HasBit-or}
+use Rattle.bit_set.specs.private.Words.{HasBit, IsPart, AddsBit, TakesBit, AreCommonBits, IsWordOfAll}
+use Rattle.bit_set.proofs.Bits.{HasBit-zero, HasBit-or, some_bit}
 
 -- the number of a bit of the word at a place is in the set
 pub Has-word : (words : List ℕ) (at i : ℕ) → i < 64 → HasBit (get_or words at 0) i ↔ Has words (at * 64 + i)
@@ -32,17 +32,16 @@ Has-within words k has = elim (cases_lt (k / 64) (length words)) [
   | inr past ↦ absurd (HasBit-zero (k % 64) (subst (λ w. bit_at w (k % 64) ≡ 1) (get_or_past words (k / 64) 0 past) has))
 ]
 
--- a set whose word at a place has one more bit
-module _ (words : List ℕ) (at bit word : ℕ) (within : at < length words) (small : bit < 64) (adds : AddsBit (get_or words at 0) bit word) where
-  new : List ℕ
-  new = set words at word
-
-  word_at : (k : ℕ) → k / 64 ≡ at → get_or (set words at word) (k / 64) 0 ≡ word
-  word_at k same = ap (λ a. get_or (set words at word) a 0) same ∙ get_or-set_same words at word 0 within
+-- a set with another word at a place
+module _ (words : List ℕ) (at word : ℕ) where
+  word_at : at < length words → (k : ℕ) → k / 64 ≡ at → get_or (set words at word) (k / 64) 0 ≡ word
+  word_at within k same = ap (λ a. get_or (set words at word) a 0) same ∙ get_or-set_same words at word 0 within
 
   word_beside : (k : ℕ) → (k / 64 ≡ at → ⊥) → get_or (set words at word) (k / 64) 0 ≡ get_or words (k / 64) 0
   word_beside k other = get_or-set_other words at (k / 64) word 0 other
 
+-- a set whose word at a place has one more bit
+module _ (words : List ℕ) (at bit word : ℕ) (within : at < length words) (small : bit < 64) (adds : AddsBit (get_or words at 0) bit word) where
   pub inserted_only : (k : ℕ) → Has (set words at word) k → Has words k ⊎ (k ≡ at * 64 + bit)
   inserted_only k has = elim (cases_eq (k / 64) at) [
     | inl same ↦ elim (cases_eq (k % 64) bit) [
@@ -50,26 +49,52 @@ module _ (words : List ℕ) (at bit word : ℕ) (within : at < length words) (sm
       | inr other ↦ inl (
           ap (λ a. bit_at (get_or words a 0) (k % 64)) same
           ∙ sym (adds.others (k % 64) other)
-          ∙ ap (λ w. bit_at w (k % 64)) (sym (word_at k same)) ∙ has)
+          ∙ ap (λ w. bit_at w (k % 64)) (sym (word_at words at word within k same)) ∙ has)
     ]
-    | inr other ↦ inl (ap (λ w. bit_at w (k % 64)) (sym (word_beside k other)) ∙ has)
+    | inr other ↦ inl (ap (λ w. bit_at w (k % 64)) (sym (word_beside words at word k other)) ∙ has)
   ]
 
   pub inserted_kept : (k : ℕ) → Has words k → Has (set words at word) k
   inserted_kept k has = elim (cases_eq (k / 64) at) [
     | inl same ↦ elim (cases_eq (k % 64) bit) [
-      | inl bits ↦ ap (λ w. bit_at w (k % 64)) (word_at k same) ∙ ap (bit_at word) bits ∙ adds.added
+      | inl bits ↦ ap (λ w. bit_at w (k % 64)) (word_at words at word within k same) ∙ ap (bit_at word) bits ∙ adds.added
       | inr other ↦
-          ap (λ w. bit_at w (k % 64)) (word_at k same)
+          ap (λ w. bit_at w (k % 64)) (word_at words at word within k same)
           ∙ adds.others (k % 64) other
           ∙ ap (λ a. bit_at (get_or words a 0) (k % 64)) (sym same) ∙ has
     ]
-    | inr other ↦ ap (λ w. bit_at w (k % 64)) (word_beside k other) ∙ has
+    | inr other ↦ ap (λ w. bit_at w (k % 64)) (word_beside words at word k other) ∙ has
   ]
 
   pub inserted_added : (k : ℕ) → k ≡ at * 64 + bit → Has (set words at word) k
   inserted_added k is =
-      ap (λ w. bit_at w (k % 64)) (word_at k (omega arith)) ∙ ap (bit_at word) (let e : k % 64 ≡ bit = omega arith in e) ∙ adds.added
+      ap (λ w. bit_at w (k % 64)) (word_at words at word within k (omega arith)) ∙ ap (bit_at word) (let e : k % 64 ≡ bit = omega arith in e) ∙ adds.added
+
+-- a set whose word at a place has one bit less
+module _ (words : List ℕ) (at bit word : ℕ) (within : at < length words) (takes : TakesBit (get_or words at 0) bit word) where
+  pub removed_taken : (k : ℕ) → k / 64 ≡ at → k % 64 ≡ bit → Has (set words at word) k → ⊥
+  removed_taken k same bits has = takes.taken (ap (bit_at word) (sym bits) ∙ ap (λ w. bit_at w (k % 64)) (sym (word_at words at word within k same)) ∙ has)
+
+  pub removed_kept : (k : ℕ) → (k / 64 ≡ at → k % 64 ≡ bit → ⊥) → Has words k → Has (set words at word) k
+  removed_kept k other has = elim (cases_eq (k / 64) at) [
+    | inl same ↦
+        ap (λ w. bit_at w (k % 64)) (word_at words at word within k same)
+        ∙ takes.others (k % 64) (omega arith) (other same)
+        ∙ ap (λ a. bit_at (get_or words a 0) (k % 64)) (sym same) ∙ has
+    | inr apart ↦ ap (λ w. bit_at w (k % 64)) (word_beside words at word k apart) ∙ has
+  ]
+
+  pub removed_only : (k : ℕ) → Has (set words at word) k → Has words k
+  removed_only k has = elim (cases_eq (k / 64) at) [
+    | inl same ↦ elim (cases_eq (k % 64) bit) [
+      | inl bits ↦ absurd (removed_taken k same bits has)
+      | inr other ↦
+          ap (λ a. bit_at (get_or words a 0) (k % 64)) same
+          ∙ sym (takes.others (k % 64) (omega arith) other)
+          ∙ ap (λ w. bit_at w (k % 64)) (sym (word_at words at word within k same)) ∙ has
+    ]
+    | inr other ↦ ap (λ w. bit_at w (k % 64)) (sym (word_beside words at word k other)) ∙ has
+  ]
 
 -- the words before the place are those of both sets together, and the others as before
 pub record AreJoined (old other new : List ℕ) (at : ℕ) : Type 0 where
@@ -134,64 +159,111 @@ within_all words other at before all k has = before k (let l = Has-within words 
 pub within_part : (words other : List ℕ) (at : ℕ) → ((k : ℕ) → Has words k → Has other k) → IsPart (get_or words at 0) (get_or other at 0)
 within_part words other at all i small has = (Has-word other at i small).1 (all (at * 64 + i) ((Has-word words at i small).0 has))
 
--- the list has in addition the numbers of the first bits of the word
-pub record HasNumbers (old new : List ℕ) (first word bit : ℕ) : Type 0 where
+-- the list has in addition the numbers of the bits of the word that are not left
+pub record HasNumbers (old new : List ℕ) (first word rest : ℕ) : Type 0 where
   pub kept : (k : ℕ) → Contains old k → Contains new k
-  pub added : (i : ℕ) → i < bit → HasBit word i → Contains new (first + i)
+  pub added : (i : ℕ) → i < 64 → HasBit word i → Contains new (first + i) ⊎ HasBit rest i
   pub only : (k : ℕ) → Contains new k → Contains old k ⊎ ((i : ℕ) × (i < 64) × HasBit word i × (k ≡ first + i))
+  pub part : (i : ℕ) → i < 64 → HasBit rest i → HasBit word i
 
-module _ (old new : List ℕ) (first word bit : ℕ) (h : HasNumbers old new first word bit) where
-  pub numbers_skipped : (HasBit word bit → ⊥) → HasNumbers old new first word (bit + 1)
-  numbers_skipped none = record {
-    kept = h.kept;
-    added = λ i l has. elim (cases_eq i bit) [
-      | inl same ↦ absurd (none (subst (HasBit word) same has))
-      | inr other ↦ h.added i (omega arith) has
-    ];
-    only = h.only;
-  }
+pub numbers_begun : (old : List ℕ) (first word : ℕ) → HasNumbers old old first word word
+numbers_begun old first word = record { kept = λ k there. there; added = λ i l has. inr has; only = λ k there. inl there; part = λ i l has. has }
 
-  pub numbers_pushed : bit < 64 → HasBit word bit → HasNumbers old (new ++ (first + bit) ∷ []) first word (bit + 1)
-  numbers_pushed small here = record {
-    kept = λ k there. Contains-append_left new ((first + bit) ∷ []) k (h.kept k there);
-    added = λ i l has. elim (cases_eq i bit) [
-      | inl same ↦ subst (λ x. Contains (new ++ (first + bit) ∷ []) (first + x)) (sym same) (Contains-push new (first + bit))
-      | inr other ↦ Contains-append_left new ((first + bit) ∷ []) (first + i) (h.added i (omega arith) has)
-    ];
-    only = λ k there. elim (Contains-push_cases new (first + bit) k there) [
-      | inl before ↦ h.only k before
-      | inr same ↦ inr (bit, small, here, sym same)
-    ];
-  }
+pub numbers_pushed : (old new : List ℕ) (first word rest bit less : ℕ) → HasNumbers old new first word rest → bit < 64 → HasBit rest bit → TakesBit rest bit less
+    → HasNumbers old (new ++ (first + bit) ∷ []) first word less
+numbers_pushed old new first word rest bit less h small here takes = record {
+  kept = λ k there. Contains-append_left new ((first + bit) ∷ []) k (h.kept k there);
+  added = λ i l has. elim (cases_eq i bit) [
+    | inl same ↦ inl (subst (λ x. Contains (new ++ (first + bit) ∷ []) (first + x)) (sym same) (Contains-push new (first + bit)))
+    | inr other ↦ elim (h.added i l has) [
+      | inl there ↦ inl (Contains-append_left new ((first + bit) ∷ []) (first + i) there)
+      | inr left ↦ inr (takes.others i l other ∙ left)
+    ]
+  ];
+  only = λ k there. elim (Contains-push_cases new (first + bit) k there) [
+    | inl before ↦ h.only k before
+    | inr same ↦ inr (bit, small, h.part bit small here, sym same)
+  ];
+  part = λ i l has. elim (cases_eq i bit) [
+    | inl same ↦ absurd (takes.taken (subst (HasBit less) same has))
+    | inr other ↦ h.part i l (sym (takes.others i l other) ∙ has)
+  ];
+}
 
--- the numbers are those of the words before the place
-pub record AreNumbers (words numbers : List ℕ) (at : ℕ) : Type 0 where
-  pub some : (k : ℕ) → Contains numbers k → Has words k
-  pub all : (k : ℕ) → k < at * 64 → Has words k → Contains numbers k
+pub numbers_ended : (old new : List ℕ) (first word rest : ℕ) → HasNumbers old new first word rest → rest ≡ 0 → (i : ℕ) → i < 64 → HasBit word i → Contains new (first + i)
+numbers_ended old _ first word rest h none i l has = elim (h.added i l has) [
+  | inl there ↦ there
+  | inr left ↦ absurd (HasBit-zero i (subst (λ w. HasBit w i) none left))
+]
+
+-- the list has in addition the numbers of all bits of the word
+pub numbers_added : (old new : List ℕ) (first word : ℕ) → ((k : ℕ) → Contains old k → Contains new k) → ((i : ℕ) → i < 64 → HasBit word i → Contains new (first + i))
+    → ((k : ℕ) → Contains new k → Contains old k ⊎ ((i : ℕ) × (i < 64) × HasBit word i × (k ≡ first + i))) → HasNumbers old new first word 0
+numbers_added old new first word kept added only = record { kept = kept; added = λ i l has. inl (added i l has); only = only; part = λ i l has. absurd (HasBit-zero i has) }
+
+-- the numbers have the property, and are all those of the first words that have it
+pub record AreNumbers (P : ℕ → Type 0) (numbers : List ℕ) (at : ℕ) : Type 0 where
+  pub some : (k : ℕ) → Contains numbers k → P k
+  pub all : (k : ℕ) → k < at * 64 → P k → Contains numbers k
 
 nothing : (k : ℕ) → Contains [] k → ⊥
 nothing k (place, within, here) = omega arith
 
-pub numbers_none : (words : List ℕ) → AreNumbers words [] 0
-numbers_none words = record { some = λ k there. absurd (nothing k there); all = λ k l has. absurd (omega arith) }
+pub numbers_none : (P : ℕ → Type 0) → AreNumbers P [] 0
+numbers_none P = record { some = λ k there. absurd (nothing k there); all = λ k l has. absurd (omega arith) }
 
-pub numbers_more : (words old new : List ℕ) (at : ℕ) → AreNumbers words old at → HasNumbers old new (at * 64) (get_or words at 0) 64 → AreNumbers words new (at + 1)
-numbers_more words old new at h adds = record {
+-- the numbers of one more word, whose bits tell of which the property holds
+pub numbers_more : (P : ℕ → Type 0) (word : ℕ) (old new : List ℕ) (at : ℕ) → ((i : ℕ) → i < 64 → HasBit word i ↔ P (at * 64 + i)) → AreNumbers P old at
+    → HasNumbers old new (at * 64) word 0 → AreNumbers P new (at + 1)
+numbers_more P word old new at bits h adds = record {
   some = λ k there. elim (adds.only k there) [
     | inl before ↦ h.some k before
-    | inr bit ↦ subst (Has words) (sym bit.3) ((Has-word words at bit.0 bit.1).0 bit.2)
+    | inr bit ↦ subst P (sym bit.3) ((bits bit.0 bit.1).0 bit.2)
   ];
   all = λ k l has. elim (cases_lt k (at * 64)) [
     | inl less ↦ adds.kept k (h.all k less has)
     | inr past ↦
-        let place : k / 64 ≡ at = omega arith in
         let number : at * 64 + k % 64 ≡ k = omega arith in
-        subst (Contains new) number (adds.added (k % 64) (omega arith) (subst (λ a. bit_at (get_or words a 0) (k % 64) ≡ 1) place has))
+        let here : HasBit word (k % 64) = (bits (k % 64) (omega arith)).1 (subst P (sym number) has) in
+        subst (Contains new) number (numbers_ended old new (at * 64) word 0 adds refl (k % 64) (omega arith) here)
   ];
 }
 
-pub numbers_all : (words numbers : List ℕ) (at : ℕ) → AreNumbers words numbers at → length words ≤ at → (k : ℕ) → Contains numbers k ↔ Has words k
-numbers_all words numbers at h all k = (h.some k, λ has. h.all k (let l = Has-within words k has in omega arith) has)
+pub numbers_all : (P : ℕ → Type 0) (numbers : List ℕ) (at : ℕ) → AreNumbers P numbers at → ((k : ℕ) → P k → k / 64 < at) → (k : ℕ) → Contains numbers k ↔ P k
+numbers_all P numbers at h within k = (h.some k, λ has. h.all k (let l = within k has in omega arith) has)
+
+-- the word that is read at a place of a set
+pub word_read : (words now : List ℕ) (at word : ℕ) → at < length words → word ≡ get_or words at word → words ≡ now → word ≡ get_or now at 0
+word_read words now at word inside is same = subst (λ (xs : List ℕ). word ≡ get_or xs at 0) same (get_or_read words at word inside is 0)
+
+-- numbers of two sets
+abbrev pub HaveBoth : List ℕ → List ℕ → ℕ → Type 0
+HaveBoth words other k = Has words k × Has other k
+
+pub both_bits : (words other : List ℕ) (at common : ℕ) → AreCommonBits (get_or words at 0) (get_or other at 0) common
+    → (i : ℕ) → i < 64 → HasBit common i ↔ HaveBoth words other (at * 64 + i)
+both_bits words other at common is i small =
+    let mine = Has-word words at i small in
+    let its = Has-word other at i small in
+    (λ has. let both = (is i).0 has in (mine.0 both.0, its.0 both.1), λ both. (is i).1 (mine.1 both.0, its.1 both.1))
+
+-- a number of a common bit
+pub both_found : (words other : List ℕ) (at common : ℕ) → AreCommonBits (get_or words at 0) (get_or other at 0) common → common < 2 ^ 64 → (common ≡ 0 → ⊥)
+    → (k : ℕ) × Has words k × Has other k
+both_found words other at common is small some =
+    let bit = some_bit common small some in
+    let both = (both_bits words other at common is bit.0 bit.1).0 bit.2 in
+    (at * 64 + bit.0, both.0, both.1)
+
+-- none of both in one more word
+pub apart_more : (words other : List ℕ) (at : ℕ) → ((k : ℕ) → k < at * 64 → HaveBoth words other k → ⊥) → AreCommonBits (get_or words at 0) (get_or other at 0) 0
+    → (k : ℕ) → k < (at + 1) * 64 → HaveBoth words other k → ⊥
+apart_more words other at before is k below both = elim (cases_lt k (at * 64)) [
+  | inl less ↦ before k less both
+  | inr past ↦
+      let number : at * 64 + k % 64 ≡ k = omega arith in
+      HasBit-zero (k % 64) ((both_bits words other at 0 is (k % 64) (omega arith)).1 (subst (HaveBoth words other) (sym number) both))
+]
 
 -- the words of one more set
 module _ (sets : List (List ℕ)) (places : List ℕ) (i at word : ℕ) (h : IsWordOfAll sets (take i places) at word) (within : i < length places) where

@@ -1,3 +1,4 @@
 pub mod Bits
 pub mod Digest
+pub mod SetLists
 pub mod private

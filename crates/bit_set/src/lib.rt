@@ -2,6 +2,7 @@
 //! section 7.1.3). A call on whole sets takes time linear in their words, and memory only where it makes a set or a list.
 #![tactic(auto)]
 
+mod set_lists;
 mod words;
 
 ghost use Rattle.std.specs.Prelude.{◌≡◌, ◌↔◌, ◌⊎◌, ◌<◌, ◌≤◌, ◌*◌, ◌+◌, ◌/◌, [], ℕ, List, Contains, IsTrue, IfOk, OnOk, length, nat_eq, slice_index, slice_index_or};
@@ -13,7 +14,8 @@ ghost use Rattle.bit_set.specs.Bits.{Has};
 ghost use Rattle.bit_set.specs.Digest.{digest};
 ghost use Rattle.bit_set.specs.private.Words.{HasBit, IsWordOfAll};
 
-use crate::words::{digest, has_bit, is_part, with_bit};
+use crate::words::{common_bits, digest, has_bit, is_part, lowest_bit, with_bit, without_bit};
+pub use set_lists::{empty_sets, insert_at};
 use std::alloc::{AllocError, Global};
 use std::hash::{Hash, Hasher};
 use std::marker::Model;
@@ -65,6 +67,20 @@ impl BitSet {
         }
     }
 
+    /// Takes out the number.
+    pub fn remove(&mut self, number: usize)
+        ensures taken { Has self.new number → ⊥ }
+        ensures kept { (k : ℕ) → Has self.old k → (k ≡ number → ⊥) → Has self.new k }
+        ensures only { (k : ℕ) → Has self.new k → Has self.old k }
+        ensures room { length self.new ≡ length self.old }
+    {
+        if !self.has(number) {
+            return;
+        }
+        let at = number / 64;
+        self.words[at] = without_bit(self.words[at], number % 64);
+    }
+
     /// Adds the numbers of the other set that there is room for.
     pub fn add_all(&mut self, other: &BitSet)
         ensures only { (k : ℕ) → Has self.new k → Has self.old k ⊎ Has other.now k }
@@ -88,6 +104,18 @@ impl BitSet {
             }
         }
         true
+    }
+
+    /// Whether the sets have a number in common.
+    pub fn meets(&self, other: &BitSet) -> bool
+        ensures { IsTrue result ↔ ((k : ℕ) × Has self.now k × Has other.now k) }
+    {
+        'words: for at in 0..self.words.len() {
+            if common_bits(self.words[at], other.word(at)) != 0 {
+                return true;
+            }
+        }
+        false
     }
 
     /// Whether the set has what the sets at the places have together. Places past the sets have none. It takes no memory.
@@ -157,6 +185,18 @@ impl BitSet {
         Ok(numbers)
     }
 
+    /// The numbers that both sets have, in increasing order.
+    pub fn common_numbers(&self, alloc: Global, other: &BitSet) -> Result<Vec<usize>, AllocError>
+        ensures { IfOk result (λ numbers. (k : ℕ) → Contains numbers.items k ↔ (Has self.now k × Has other.now k)) }
+    {
+        let mut numbers = Vec::new(alloc);
+        'words: for at in 0..self.words.len() {
+            let common = common_bits(self.words[at], other.word(at));
+            add_numbers(&mut numbers, at * 64, common)?;
+        }
+        Ok(numbers)
+    }
+
     /// The word at the place, which is 0 past the words.
     fn word(&self, at: usize) -> u64
         ensures { result ≡ slice_index self.now at }
@@ -184,14 +224,11 @@ fn add_numbers(numbers: &mut Vec<usize>, first: usize, word: u64) -> Result<(), 
     ensures only { OnOk result ((k : ℕ) → Contains numbers.new.items k
         → Contains numbers.old.items k ⊎ ((i : ℕ) × (i < 64) × HasBit word i × (k ≡ first + i))) }
 {
-    if word == 0 {
-        return Ok(());
-    }
-    'bits: for bit in 0..64usize {
-        if !has_bit(word, bit) {
-            continue;
-        }
+    let mut rest = word;
+    'bits: while rest != 0 {
+        let bit = lowest_bit(rest);
         numbers.push(first + bit)?;
+        rest = without_bit(rest, bit);
     }
     Ok(())
 }

@@ -3,7 +3,7 @@
 
 ghost use Rattle.std.specs.Prelude.{◌≡◌, ◌↔◌, ◌<◌, ◌+◌, ℕ, Contains, IsTrue, OnOk};
 ghost use Rattle.bit_set.specs.Digest.{mixed, digest};
-ghost use Rattle.bit_set.specs.private.Words.{HasBit, IsPart, AddsBit};
+ghost use Rattle.bit_set.specs.private.Words.{HasBit, IsPart, AddsBit, TakesBit, AreCommonBits};
 
 /// An odd number by which words are spread over 64 bits.
 const MULTIPLIER: u64 = 11400714819323198485;
@@ -22,6 +22,31 @@ pub fn with_bit(word: u64, bit: usize) -> u64
     ensures { AddsBit word bit result }
 {
     word | 1u64 << bit as u32
+}
+
+/// The lowest bit of the word.
+pub fn lowest_bit(word: u64) -> usize
+    requires { 0 < word }
+    ensures within { result < 64 }
+    ensures bit { HasBit word result }
+{
+    word.trailing_zeros() as usize
+}
+
+/// The word without the bit.
+pub fn without_bit(word: u64, bit: usize) -> u64
+    requires within { bit < 64 }
+    requires bit { HasBit word bit }
+    ensures { TakesBit word bit result }
+{
+    word & !(1u64 << bit as u32)
+}
+
+/// The bits that both words have.
+pub fn common_bits(word: u64, other: u64) -> u64
+    ensures { AreCommonBits word other result }
+{
+    word & other
 }
 
 /// Whether the other word has each bit of this one.

@@ -1,5 +1,5 @@
 -- Words of 64 bits, bit by bit.
-use Rattle.std.specs.Prelude.{◌≡◌, ◌<◌, ℕ, List, [], Contains, slice_index, slice_index_or}
+use Rattle.std.specs.Prelude.{◌≡◌, ◌↔◌, ◌<◌, ℕ, List, [], Contains, slice_index, slice_index_or}
 use Rattle.std.specs.Int.{bit_at}
 
 -- the bit is set
@@ -10,10 +10,20 @@ HasBit word i = bit_at word i ≡ 1
 abbrev pub IsPart : ℕ → ℕ → Type 0
 IsPart word other = (i : ℕ) → i < 64 → HasBit word i → HasBit other i
 
+-- the bits that both words have
+abbrev pub AreCommonBits : ℕ → ℕ → ℕ → Type 0
+AreCommonBits word other common = (i : ℕ) → HasBit common i ↔ (HasBit word i × HasBit other i)
+
 -- the word with one more bit
 pub record AddsBit (old bit new : ℕ) : Type 0 where
   pub added : HasBit new bit
   pub others : (i : ℕ) → (i ≡ bit → ⊥) → bit_at new i ≡ bit_at old i
+
+-- the word with one bit less
+pub record TakesBit (old bit new : ℕ) : Type 0 where
+  pub taken : HasBit new bit → ⊥
+  pub others : (i : ℕ) → i < 64 → (i ≡ bit → ⊥) → bit_at new i ≡ bit_at old i
+  pub less : new < old
 
 -- the word has the bits that the words at the place of the sets have together
 pub record IsWordOfAll (sets : List (List ℕ)) (places : List ℕ) (at word : ℕ) : Type 0 where

@@ -1,0 +1,40 @@
+//! Lists of sets of numbers, all with room for numbers below a bound. A call takes time linear in the words that it makes.
+
+ghost use Rattle.std.specs.Prelude.{◌≡◌, ◌+◌, ◌/◌, ℕ, IfOk, length};
+ghost use Rattle.bit_set.specs.Bits.{Has};
+ghost use Rattle.bit_set.specs.SetLists.{AddsNumbers, AreEmpty};
+
+use crate::BitSet;
+use std::alloc::{AllocError, Global};
+
+/// So many empty sets, with room for the numbers below the bound.
+pub fn empty_sets(alloc: Global, count: usize, bound: usize) -> Result<Vec<BitSet>, AllocError>
+    ensures { IfOk result (λ sets. AreEmpty count bound sets.items) }
+{
+    let none = BitSet::new(alloc, bound)?;
+    Ok(copies(alloc, &none, count)?)
+}
+
+/// So many copies of an empty set.
+fn copies(alloc: Global, none: &BitSet, count: usize) -> Result<Vec<BitSet>, AllocError>
+    requires { (k : ℕ) → Has none.now k → ⊥ }
+    ensures { IfOk result (λ sets. (bound : ℕ) → length none.now ≡ bound / 64 + 1 → AreEmpty count bound sets.items) }
+{
+    let mut sets = Vec::with_capacity(alloc, count)?;
+    'sets: for _ in 0..count {
+        let set = none.copy(alloc)?;
+        sets.push(set)?;
+    }
+    Ok(sets)
+}
+
+/// Adds the number to the set at the place, if it is there and has room.
+pub fn insert_at(sets: &mut Vec<BitSet>, place: usize, number: usize)
+    ensures { AddsNumbers (λ k x. (k ≡ place) × (x ≡ number)) sets.old.items sets.new.items }
+{
+    if place >= sets.len() {
+        return;
+    }
+    let set: &mut BitSet = &mut sets[place];
+    set.insert(number);
+}
