@@ -8,7 +8,7 @@ use Rattle.reduction.specs.Reduction.{AcceptsAlong}
 use Rattle.atoms.specs.private.Adding.{IsListed}
 use Rattle.atoms.specs.private.Places.{label_number, IsUsed, AreUsed, IsPlaceOf, HoldsState, AreTurned, IsSource, LeadsInto}
 use Rattle.atoms.specs.private.Family.{IsUnionOf, IsClosedUpTo, Covers}
-use Rattle.atoms.proofs.Unions.{has_within}
+use Rattle.bit_set.proofs.ForCallers.{HasAt-within}
 
 -- letters of the same number are the same
 pub same_letter : (label other : Option ℕ) → label_number label ≡ label_number other → label ≡ other
@@ -67,7 +67,7 @@ module _ (n : NondeterministicAutomaton) (into : List (List (ℕ × ℕ))) (used
         let edge_at = subst (λ x. Contains (edges_of n.states x) (label, p)) (sym place.1.1) edge in
         let listed = turned.complete place.0 p label place.1.0 edge_at in
         let source : IsSource into used held.0 (label_number label) place.0 = (held.1.0, subst (λ x. IsListed into x (label_number label, place.0)) (sym held.1.1) listed) in
-        let union = closed.preimages k (label_number label) (has_within sets k held.0 held.2) (in_range q p label edge) place.0 (held.0, held.2, source) in
+        let union = closed.preimages k (label_number label) (HasAt-within sets k held.0 held.2) (in_range q p label edge) place.0 (held.0, held.2, source) in
         (union.0, (place.0, place.1, union.1), λ r back. from r back.0 back.1 (union.2 back.0 back.2))
       where
         from : (r place : ℕ) → IsPlaceOf used place r → LeadsInto into used (get_or sets k []) (label_number label) place

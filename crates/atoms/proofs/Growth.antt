@@ -1,53 +1,18 @@
 -- How a family grows by the preimages of its sets.
-use Rattle.std.proofs.Common.{◌≡◌, ◌<◌, ◌≤◌, ◌+◌, ◌*◌, ◌/◌, ◌⊎◌, ◌↔◌, ◌++◌, ◌∷◌, [], ℕ, List, Option, None, Some, Contains, All, IfSome, length, get_or, set, subst, inl, inr, refl, sym, ap, ◌∙◌, arith}
-use Rattle.std.proofs.lemmas.Bool.{cases_eq, cases_lt}
-use Rattle.std.proofs.lemmas.List.{get_or_append_left, get_or_push, get_or-set_same, get_or-set_other, length-set, length_push}
+use Rattle.std.proofs.Common.{◌≡◌, ◌<◌, ◌≤◌, ◌+◌, ◌*◌, ◌/◌, ◌⊎◌, ◌↔◌, [], ℕ, List, Option, None, Some, Contains, All, IfSome, length, get_or, set, subst, inl, inr, refl, sym, ap, ◌∙◌, arith}
+use Rattle.std.proofs.lemmas.Bool.{cases_eq}
+use Rattle.std.proofs.lemmas.List.{get_or-set_same, get_or-set_other, length-set}
 use Rattle.std.proofs.lemmas.List.Elements.{All-contains}
 use Rattle.word_automata.specs.Path.{edges_of}
 use Rattle.word_automata.specs.Nondeterministic.{NondeterministicAutomaton, IsInRange}
 use Rattle.word_automata.proofs.ForCallers.{Contains-none, All-from_contains, All-edges_of}
 use Rattle.bit_set.specs.Bits.{Has}
-use Rattle.atoms.specs.Covers.{HasAt}
-use Rattle.atoms.specs.private.Adding.{IsListed, AddsNumbers, AreEmpty}
+use Rattle.bit_set.specs.SetLists.{HasAt, AddsNumbers, AreEmpty}
+use Rattle.bit_set.proofs.ForCallers.{HasAt-within, same_lengths}
+use Rattle.atoms.specs.private.Adding.{IsListed}
 use Rattle.atoms.specs.private.Places.{label_number, IsSource, LeadsInto, AcceptsAt}
 use Rattle.atoms.specs.private.Family.{IsUnion, AddsUnion, AddsUnions, AddsPreimages, IsClosedUpTo, IsEmptied}
-use Rattle.atoms.proofs.Unions.{has_none, has_within, begins_same, begins_both, union_begins, union_same}
-
--- words that have bits for the same numbers are as many
-pub same_room : (a b : ℕ) → ((y : ℕ) → (y < 64 * a) ↔ (y < 64 * b)) → a ≡ b
-same_room a b fits = elim (cases_lt a b) [
-  | inl less ↦ absurd (let h : 64 * a < 64 * a = (fits (64 * a)).1 (omega arith) in omega arith)
-  | inr more ↦ elim (cases_lt b a) [
-    | inl less ↦ absurd (let h : 64 * b < 64 * b = (fits (64 * b)).0 (omega arith) in omega arith)
-    | inr same ↦ omega arith
-  ]
-]
-
--- empty sets, one by one
-pub empty_none : (bound : ℕ) → AreEmpty 0 bound []
-empty_none bound = record {
-  count = refl;
-  none = λ k number has. has_none number has;
-  room = λ k l. absurd (omega arith);
-}
-
-pub empty_more : (amount bound : ℕ) (sets : List (List ℕ)) (empty : List ℕ) → AreEmpty amount bound sets → ((k : ℕ) → Has empty k → ⊥) → length empty ≡ bound / 64 + 1
-    → AreEmpty (amount + 1) bound (sets ++ empty ∷ [])
-empty_more amount bound sets empty before none room = record {
-  count = length_push sets empty ∙ ap (λ k. k + 1) before.count;
-  none = λ k number has. elim (cases_lt k (length sets)) [
-    | inl earlier ↦ before.none k number (subst (λ s. Has s number) (get_or_append_left sets (empty ∷ []) [] k earlier) has)
-    | inr past ↦
-        let end : length sets ≡ k = (let l = has_within (sets ++ empty ∷ []) k number has in let e = length_push sets empty in omega arith) in
-        none number (subst (λ s. Has s number) (get_or_push sets empty [] k end) has)
-  ];
-  room = λ k l. elim (cases_lt k (length sets)) [
-    | inl earlier ↦ ap length (get_or_append_left sets (empty ∷ []) [] k earlier) ∙ before.room k (let e = before.count in omega arith)
-    | inr past ↦
-        let end : length sets ≡ k = (let e = before.count in omega arith) in
-        ap length (get_or_push sets empty [] k end) ∙ room
-  ];
-}
+use Rattle.atoms.proofs.Unions.{begins_same, begins_both, union_begins, union_same}
 
 -- the first sets lost their numbers, and the others are as they were
 pub record IsEmptiedBelow (old : List (List ℕ)) (bound : ℕ) (new : List (List ℕ)) : Type 0 where
@@ -79,7 +44,7 @@ emptied_more old sets at was empty within is none room before = record {
 pub emptied_all : (old new : List (List ℕ)) (bound : ℕ) → bound ≡ length old → IsEmptiedBelow old bound new → IsEmptied old new
 emptied_all old new bound end before = record {
   count = before.count;
-  none = λ a number has. before.none a (let l = has_within new a number has in let e = before.count in omega arith) number has;
+  none = λ a number has. before.none a (let l = HasAt-within new a number has in let e = before.count in omega arith) number has;
   room = before.room;
 }
 
@@ -176,9 +141,7 @@ module _ (into : List (List (ℕ × ℕ))) (used set places : List ℕ) (same : 
   empty_again = record {
     count = emptied.count ∙ adds.count ∙ empty.count;
     none = emptied.none;
-    room = λ k l.
-        let same_length : length (get_or mid k []) ≡ length (get_or old k []) = same_room (length (get_or mid k [])) (length (get_or old k [])) (adds.room k) in
-        emptied.room k ∙ same_length ∙ empty.room k l;
+    room = λ k l. emptied.room k ∙ same_lengths (λ a j. (place : ℕ) × Contains places place × IsSource into used place a j) old mid adds k ∙ empty.room k l;
   }
 
   pub preimages_added : (sets more : List (List ℕ)) → AddsUnions sets more mid (length mid) → AddsPreimages into used set letters sets more

@@ -1,4 +1,3 @@
-pub mod Additions
 pub mod Families
 pub mod ForCallers
 pub mod Growth

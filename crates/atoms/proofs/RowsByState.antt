@@ -5,13 +5,11 @@ use Rattle.std.proofs.lemmas.List.{get_or_default, get_or_past, get_or-set_same,
 use Rattle.std.proofs.lemmas.List.Elements.{Contains-append_left, Contains-get_or, Contains-push, Contains-push_cases}
 use Rattle.word_automata.specs.Nondeterministic.{NondeterministicAutomaton}
 use Rattle.bit_set.specs.Bits.{Has}
-use Rattle.atoms.specs.Covers.{HasAt, AreAtomsOf, IsSignature}
-use Rattle.atoms.specs.private.Adding.{HasRoom, AddsNumbers, AreEmpty}
+use Rattle.bit_set.specs.SetLists.{HasAt, HasRoom, AddsNumbers, AreEmpty}
+use Rattle.bit_set.proofs.ForCallers.{adds_none, adds_same, HasAt-within, same_lengths}
+use Rattle.atoms.specs.Covers.{AreAtomsOf, IsSignature}
 use Rattle.atoms.specs.private.Family.{Covers}
 use Rattle.atoms.specs.private.Rows.{AreNarrow, IsNumberAt, AreEmptyRows, AreRowsOf}
-use Rattle.atoms.proofs.Additions.{adds_none, adds_same}
-use Rattle.atoms.proofs.Unions.{has_within}
-use Rattle.atoms.proofs.Growth.{same_room}
 
 -- the rows of the states at the first places have room for so many numbers
 abbrev pub HaveRoom : List ℕ → ℕ → ℕ → List (List ℕ) → Type 0
@@ -19,14 +17,11 @@ HaveRoom used bound count rows = (place : ℕ) → place < bound → count ≤ 6
 
 -- rows keep their lengths where numbers come to them
 module _ (Added : ℕ → ℕ → Type 0) (old new : List (List ℕ)) (adds : AddsNumbers Added old new) where
-  same_lengths : (q : ℕ) → length (get_or new q []) ≡ length (get_or old q [])
-  same_lengths q = same_room (length (get_or new q [])) (length (get_or old q [])) (adds.room q)
-
   pub narrow_kept : (count : ℕ) → AreNarrow count old → AreNarrow count new
-  narrow_kept count narrow q = subst (λ l. l ≤ count / 64 + 1) (sym (same_lengths q)) (narrow q)
+  narrow_kept count narrow q = subst (λ l. l ≤ count / 64 + 1) (sym (same_lengths Added old new adds q)) (narrow q)
 
   pub room_kept : (used : List ℕ) (bound count : ℕ) → HaveRoom used bound count old → HaveRoom used bound count new
-  room_kept used bound count room place l = subst (λ x. count ≤ 64 * x) (sym (same_lengths (get_or used place 0))) (room place l)
+  room_kept used bound count room place l = subst (λ x. count ≤ 64 * x) (sym (same_lengths Added old new adds (get_or used place 0))) (room place l)
 
 -- the number comes to the row of the state at the place, if there is one
 module _ (used : List ℕ) (number place : ℕ) (old : List (List ℕ)) where
@@ -120,7 +115,7 @@ rows_atoms n used sets rows covers are = record {
       let atom = covers labels q along in
       let held = atom.1 in (
         atom.0,
-        subst (λ x. HasAt rows x atom.0) held.1.1 (are.complete held.0 atom.0 (has_within sets atom.0 held.0 held.2) held.1.0 held.2),
+        subst (λ x. HasAt rows x atom.0) held.1.1 (are.complete held.0 atom.0 (HasAt-within sets atom.0 held.0 held.2) held.1.0 held.2),
         λ r has. atom.2 r (are.sound r atom.0 has),
       );
 }

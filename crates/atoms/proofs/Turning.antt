@@ -1,14 +1,49 @@
 -- Edges by their targets, after those of some places were turned round.
-use Rattle.std.proofs.Common.{◌≡◌, ◌<◌, ◌+◌, ◌++◌, ◌∷◌, [], ℕ, List, Option, Contains, All, length, get_or, subst, inl, inr, refl, sym, ap, ◌∙◌, arith}
+use Rattle.std.proofs.Common.{◌≡◌, ◌<◌, ◌≤◌, ◌+◌, ◌++◌, ◌∷◌, [], ℕ, List, Option, Contains, All, length, get_or, set, subst, inl, inr, refl, sym, ap, ◌∙◌, arith}
 use Rattle.std.proofs.lemmas.Bool.{cases_eq, cases_lt}
-use Rattle.std.proofs.lemmas.List.{get_or_append_left, get_or_past, get_or_push, length_push}
-use Rattle.std.proofs.lemmas.List.Elements.{All-contains}
+use Rattle.std.proofs.lemmas.List.{get_or_append_left, get_or_past, get_or_push, length-set, length_push}
+use Rattle.std.proofs.lemmas.List.Elements.{All-contains, Contains-append_left, Contains-push, Contains-push_cases}
 use Rattle.word_automata.specs.Path.{edges_of}
 use Rattle.word_automata.specs.Nondeterministic.{NondeterministicAutomaton, IsInRange}
 use Rattle.word_automata.proofs.ForCallers.{Contains-none, All-from_contains, All-edges_of}
-use Rattle.atoms.specs.private.Adding.{IsListed, IsPlace, Adds, AddsEntries, AreNone}
+use Rattle.bit_set.specs.SetLists.{Adds}
+use Rattle.bit_set.proofs.ForCallers.{adds_same, get_or-set_cases}
+use Rattle.atoms.specs.private.Adding.{IsListed, IsPlace, AddsEntries, AreNone}
 use Rattle.atoms.specs.private.Places.{label_number, IsEntryOf, AreTurnedBelow}
-use Rattle.atoms.proofs.Additions.{adds_same}
+
+-- one entry comes to the list at a place
+pub adds_entry : (old : List (List (ℕ × ℕ))) (place : ℕ) (entry : ℕ × ℕ) (row : List (ℕ × ℕ)) → place < length old → row ≡ get_or old place [] ++ entry ∷ []
+    → AddsEntries (λ p x. (p ≡ place) × (x ≡ entry)) old (set old place row)
+adds_entry old place entry row within is = record {
+  count = length-set old place row;
+  room = λ at y. let e = length-set old place row in ((λ h. omega arith), (λ h. omega arith));
+  kept = λ at y h. elim (get_or-set_cases old place row [] at within) [
+    | inl here ↦
+        subst (λ xs. Contains xs y) (sym (here.1 ∙ is)) (Contains-append_left (get_or old place []) (entry ∷ []) y (subst (λ k. IsListed old k y) here.0 h))
+    | inr other ↦ subst (λ xs. Contains xs y) (sym other.0) h
+  ];
+  added = λ at y told fits. elim (get_or-set_cases old place row [] at within) [
+    | inl here ↦ subst (λ xs. Contains xs y) (sym (here.1 ∙ is)) (subst (Contains (get_or old place [] ++ entry ∷ [])) (sym told.1) (Contains-push (get_or old place []) entry))
+    | inr other ↦ absurd (other.1 told.0)
+  ];
+  only = λ at y h. elim (get_or-set_cases old place row [] at within) [
+    | inl here ↦ elim (Contains-push_cases (get_or old place []) entry y (subst (λ xs. Contains xs y) (here.1 ∙ is) h)) [
+      | inl earlier ↦ inl (subst (λ k. IsListed old k y) (sym here.0) earlier)
+      | inr same ↦ inr (here.0, sym same)
+    ]
+    | inr other ↦ inl (subst (λ xs. Contains xs y) other.0 h)
+  ];
+}
+
+-- nothing comes to a place past the lists
+pub adds_entry_past : (old : List (List (ℕ × ℕ))) (place : ℕ) (entry : ℕ × ℕ) → length old ≤ place → AddsEntries (λ p x. (p ≡ place) × (x ≡ entry)) old old
+adds_entry_past old place entry past = record {
+  count = refl;
+  room = λ at y. ((λ h. h), (λ h. h));
+  kept = λ at y h. h;
+  added = λ at y told fits. absurd (let s = told.0 in omega arith);
+  only = λ at y h. inl h;
+}
 
 -- the entry is the one of the edge
 abbrev pub IsEntryFor : ℕ → Option ℕ × ℕ → ℕ → ℕ × ℕ → Type 0

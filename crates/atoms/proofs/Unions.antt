@@ -1,8 +1,6 @@
 -- Sets at places, and unions of sets in families that grow at their ends.
-use Rattle.std.proofs.Common.{Bool, true, false, nat_eq, if◌then◌else◌, ◌≡◌, ◌↔◌, ◌<◌, ◌+◌, ◌/◌, ◌%◌, ◌^◌, ◌⊎◌, ℕ, List, [], ◌∷◌, ◌++◌, Contains, length, get_or, subst, inl, inr, refl, sym, ap, ◌∙◌, arith}
-use Rattle.std.proofs.Math.Nat.{zero-div}
-use Rattle.std.proofs.lemmas.Bool.{cases_lt}
-use Rattle.std.proofs.lemmas.List.{get_or_append_left, get_or_default, get_or_past, get_or_push, length_push}
+use Rattle.std.proofs.Common.{Bool, true, false, nat_eq, if◌then◌else◌, ◌≡◌, ◌↔◌, ◌<◌, ◌⊎◌, ℕ, List, [], ◌∷◌, ◌++◌, Contains, length, get_or, subst, inl, inr, refl, sym, ap, ◌∙◌, arith}
+use Rattle.std.proofs.lemmas.List.{get_or_append_left, get_or_default, get_or_push, length_push}
 use Rattle.std.proofs.lemmas.List.Elements.{Contains-push_cases}
 use Rattle.std.specs.List.{list_any}
 use Rattle.std.specs.Cmp.Lexicographic.{pointwise, bytes_decides}
@@ -10,19 +8,9 @@ use Rattle.indexmap.specs.IndexSet.{insert_key}
 use Rattle.indexmap.proofs.CallerLemmas.{Contains-list_any}
 use Rattle.word_automata.proofs.ForCallers.{Contains-none}
 use Rattle.bit_set.specs.Bits.{Has}
-use Rattle.atoms.specs.Covers.{HasAt}
-use Rattle.atoms.specs.private.Family.{IsUnion, AreUnions, Begins}
-
--- no word has no bit
-pub has_none : (k : ℕ) → Has [] k → ⊥
-has_none k has = let e : 0 / 2 ^ (k % 64) ≡ 0 = zero-div (2 ^ (k % 64)) in let h : 0 / 2 ^ (k % 64) % 2 ≡ 1 = has in omega arith
-
--- a set that has a number is there
-pub has_within : (sets : List (List ℕ)) (k x : ℕ) → HasAt sets k x → k < length sets
-has_within sets k x has = elim (cases_lt k (length sets)) [
-  | inl there ↦ there
-  | inr past ↦ absurd (has_none x (subst (λ s. Has s x) (get_or_past sets k [] past) has))
-]
+use Rattle.bit_set.specs.SetLists.{HasAt}
+use Rattle.bit_set.proofs.ForCallers.{HasAt-within}
+use Rattle.atoms.specs.private.Family.{IsUnion, IsPart, AreUnions, Begins}
 
 -- the numbers of the set at a place
 pub numbers_at : (sets : List (List ℕ)) (at : ℕ) (was items places : List ℕ) → at < length sets → was ≡ get_or sets at was → ((k : ℕ) → Contains items k ↔ Has was k) → places ≡ items
@@ -50,7 +38,7 @@ begins_both old mid new first second = record {
 pub union_begins : (old new : List (List ℕ)) → Begins old new → (P : ℕ → Type 0) → IsUnion old P → IsUnion new P
 union_begins old new begins P union q p =
     let u = union q p in
-    let e = begins.same u.0 (has_within old u.0 q u.1) in
+    let e = begins.same u.0 (HasAt-within old u.0 q u.1) in
     (u.0, subst (λ s. Has s q) (sym e) u.1, λ r has. u.2 r (subst (λ s. Has s r) e has))
 
 -- of the same
@@ -82,24 +70,21 @@ unions_push sets seen set unions union other there = elim (Contains-push_cases s
   | inr same ↦ subst (λ s. IsUnion sets (Has s)) same union
 ]
 
--- each number of the union is in one of the first sets, all of which the set has
-abbrev pub AreMetBelow : List (List ℕ) → List ℕ → ℕ → List ℕ → Type 0
-AreMetBelow sets set bound union = (q : ℕ) → Has union q → (k : ℕ) × (k < bound) × HasAt sets k q × ((r : ℕ) → HasAt sets k r → Has set r)
+-- each number of the union is in one of the sets, all of which the set has
+abbrev pub AreMet : List (List ℕ) → List ℕ → List ℕ → Type 0
+AreMet sets set union = (q : ℕ) → Has union q → (k : ℕ) × HasAt sets k q × ((r : ℕ) → HasAt sets k r → Has set r)
 
 module _ (sets : List (List ℕ)) (set : List ℕ) where
-  pub met_later : (i : ℕ) (union : List ℕ) → AreMetBelow sets set i union → AreMetBelow sets set (i + 1) union
-  met_later i union met q has = let m = met q has in (m.0, (let l = m.1 in omega arith), m.2, m.3)
-
-  pub met_more : (i : ℕ) (other old new : List ℕ) → other ≡ get_or sets i [] → ((k : ℕ) → Has other k → Has set k)
-      → ((k : ℕ) → Has new k → Has old k ⊎ Has other k) → AreMetBelow sets set i old → AreMetBelow sets set (i + 1) new
-  met_more i other old new is within only met q has = elim (only q has) [
-    | inl earlier ↦ met_later i old met q earlier
-    | inr added ↦ (i, (omega arith), subst (λ s. Has s q) is added, λ r there. within r (subst (λ s. Has s r) (sym is) there))
+  pub met_more : (k : ℕ) (other old new : List ℕ) → other ≡ get_or sets k [] → IsPart sets set k → ((q : ℕ) → Has new q → Has old q ⊎ Has other q)
+      → AreMet sets set old → AreMet sets set new
+  met_more k other old new is part only met q has = elim (only q has) [
+    | inl earlier ↦ met q earlier
+    | inr added ↦ (k, subst (λ s. Has s q) is added, part.1)
   ]
 
   -- so a set that lies in it is a union
-  pub met_all : (i : ℕ) (union : List ℕ) → AreMetBelow sets set i union → ((k : ℕ) → Has set k → Has union k) → IsUnion sets (Has set)
-  met_all i union met within q has = let m = met q (within q has) in (m.0, m.2, m.3)
+  pub met_all : (union : List ℕ) → AreMet sets set union → ((q : ℕ) → Has set q → Has union q) → IsUnion sets (Has set)
+  met_all union met within q has = met q (within q has)
 
 -- a set that comes to those seen is a union
 pub unions_inserted : (sets seen more : List (List ℕ)) (set : List ℕ) → more ≡ insert_key (pointwise nat_eq) seen set → AreUnions sets seen → IsUnion sets (Has set) → AreUnions sets more

@@ -6,10 +6,9 @@ use Rattle.std.proofs.lemmas.List.Elements.{All-nil, All-push, Contains-append_l
 use Rattle.word_automata.specs.Path.{edges_of, is_accepting}
 use Rattle.word_automata.specs.Nondeterministic.{NondeterministicAutomaton}
 use Rattle.word_automata.proofs.ForCallers.{Contains-none}
-use Rattle.atoms.specs.Covers.{HasAt}
-use Rattle.atoms.specs.private.Adding.{HasRoom, AddsNumbers}
+use Rattle.bit_set.specs.SetLists.{HasAt, HasRoom, AddsNumbers}
+use Rattle.bit_set.proofs.ForCallers.{adds_none, adds_same}
 use Rattle.atoms.specs.private.Places.{IsUsed, AreUsedBelow, IsSource}
-use Rattle.atoms.proofs.Additions.{adds_none, adds_same}
 
 module _ (n : NondeterministicAutomaton) where
   pub used_none : AreUsedBelow n 0 []

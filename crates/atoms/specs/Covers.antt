@@ -1,13 +1,10 @@
 -- The atoms of the languages of states: which states accept a word, for all words at once. A state accepts along labels where some path
 -- with them leads from it to an accepting state; an edge without a letter has a label too, so that nothing here depends on there being none.
-use Rattle.std.specs.Prelude.{◌≡◌, ◌<◌, ℕ, List, [], ◌∷◌, Option, Contains, All, length, slice_index_or}
+use Rattle.std.specs.Prelude.{◌≡◌, ◌<◌, ℕ, List, [], ◌∷◌, Option, Contains, All, length}
 use Rattle.word_automata.specs.Nondeterministic.{NondeterministicAutomaton, AcceptsFromAny}
 use Rattle.reduction.specs.Reduction.{AcceptsAlong}
 use Rattle.bit_set.specs.Bits.{Has}
-
--- the set at place k has the number; places past the sets have the empty set
-abbrev pub HasAt : List (List ℕ) → ℕ → ℕ → Type 0
-HasAt sets k number = Has (slice_index_or sets k []) number
+use Rattle.bit_set.specs.SetLists.{HasAt}
 
 -- each state has a row of numbers: along whatever labels a state accepts, it has a number which only states have that accept along them
 pub record AreAtomsOf (n : NondeterministicAutomaton) (rows : List (List ℕ)) : Type 0 where

@@ -1,31 +1,33 @@
 //! A family of sets of states of which every atom is a union: the accepting states, and with each set those from which a letter leads
 //! into it, without those that are unions of sets of the family. Since preimages of unions are unions of preimages, what is left out
-//! need not be gone on from. A set costs its edges, and a comparison with each set of the family while many are unions.
+//! need not be gone on from. A set costs its edges, and while many are unions a comparison with sets of the family that hold its places.
 
-ghost use Rattle.std.specs.Prelude.{◌≡◌, ◌↔◌, ◌<◌, [], ℕ, IsTrue, IfOk, IfSome, OnOk, length, slice_index_or};
+ghost use Rattle.std.specs.Prelude.{◌≡◌, ◌↔◌, ◌<◌, [], ℕ, IfOk, IfSome, OnOk, length, slice_index_or};
 ghost use Rattle.word_automata.specs.StateSets.{AreStates};
 ghost use Rattle.bit_set.specs.Bits.{Has};
-ghost use Rattle.atoms.specs.private.Adding.{IsListed, AreEmpty};
+ghost use Rattle.bit_set.specs.SetLists.{AreEmpty};
+ghost use Rattle.atoms.specs.private.Adding.{IsListed};
 ghost use Rattle.atoms.specs.private.Places.{AcceptsAt, AreUsed};
 ghost use Rattle.atoms.specs.private.Family.{IsUnion, AreUnions, AddsUnion, AddsUnions, AddsPreimages, IsEmptied, Covers};
 
+use crate::holders::Holders;
 use crate::preimages::add_preimages;
-use crate::set_lists::empty_sets;
 use crate::turned_edges::{EdgesInto, edges_into};
-use bit_set::BitSet;
+use bit_set::{BitSet, empty_sets};
 use indexmap::IndexSet;
 use std::alloc::{AllocError, Global};
 use word_automata::Nfa;
 
-/// Of so many sets each is compared with those of the family. Of later ones only while more than half were unions of these.
+/// So many sets are each tested for being a union. Later ones are only while more than half were unions.
 const ALWAYS_ASKED: usize = 1024;
 
-/// The sets of the family, all that were seen, of which each is a union of these, and how much was looked at.
+/// The sets of the family, all that were seen, each a union of these, by which sets this is told, and how many edges were looked at.
 #[derive(Drop)]
 struct Family {
     sets: Vec<BitSet>,
     seen: IndexSet<BitSet>,
-    work: usize,
+    holders: Holders,
+    edges: usize,
 }
 
 impl Family {
@@ -37,14 +39,15 @@ impl Family {
         let mut family = Family {
             sets: Vec::new(alloc),
             seen: IndexSet::new(alloc),
-            work: 0,
+            holders: Holders::new(alloc, places)?,
+            edges: 0,
         };
-        family.add(alloc, set, places)?;
+        family.add(alloc, set)?;
         Ok(family)
     }
 
     /// Adds the set, unless it was seen or is told to be a union of sets of the family.
-    fn add(&mut self, alloc: Global, set: &BitSet, places: usize) -> Result<(), AllocError>
+    fn add(&mut self, alloc: Global, set: &BitSet) -> Result<(), AllocError>
         requires { AreUnions self.old.sets.items self.old.seen.keys }
         ensures seen { OnOk result (AreUnions self.new.sets.items self.new.seen.keys) }
         ensures added { OnOk result (AddsUnion self.old.sets.items self.new.sets.items (Has set.now)) }
@@ -54,11 +57,11 @@ impl Family {
         }
         let copy = set.copy(alloc)?;
         self.seen.insert(copy)?;
-        let is_asked = self.asks_for_unions();
-        self.work = self.work.saturating_add(self.comparisons(is_asked));
-        if is_union(alloc, &self.sets, set, places, is_asked)? {
+        let places = self.places_asked(alloc, set)?;
+        if self.holders.is_union(alloc, &self.sets, set, &places)? {
             return Ok(());
         }
+        self.holders.add(&places, self.sets.len())?;
         let last = set.copy(alloc)?;
         self.sets.push(last)?;
         Ok(())
@@ -69,13 +72,21 @@ impl Family {
         self.seen.len() <= ALWAYS_ASKED || self.sets.len() < self.seen.len() / 2
     }
 
-    /// With how many sets one is compared.
-    fn comparisons(&self, is_asked: bool) -> usize {
-        if is_asked { self.sets.len() } else { 0 }
+    /// The numbers of the set, or none where it is not worth asking whether it is a union.
+    fn places_asked(&self, alloc: Global, set: &BitSet) -> Result<Vec<usize>, AllocError> {
+        if !self.asks_for_unions() {
+            return Ok(Vec::new(alloc));
+        }
+        set.numbers(alloc)
+    }
+
+    /// How many edges and holders were looked at.
+    fn work(&self) -> usize {
+        self.edges.saturating_add(self.holders.asked())
     }
 
     /// Adds the set, if it has a number, and takes its numbers out.
-    fn take(&mut self, alloc: Global, set: &mut BitSet, places: usize) -> Result<(), AllocError>
+    fn take(&mut self, alloc: Global, set: &mut BitSet) -> Result<(), AllocError>
         requires { AreUnions self.old.sets.items self.old.seen.keys }
         ensures seen { OnOk result (AreUnions self.new.sets.items self.new.seen.keys) }
         ensures added { OnOk result (AddsUnion self.old.sets.items self.new.sets.items (Has set.old)) }
@@ -85,18 +96,13 @@ impl Family {
         if set.is_empty() {
             return Ok(());
         }
-        self.add(alloc, set, places)?;
+        self.add(alloc, set)?;
         set.clear();
         Ok(())
     }
 
     /// Adds each of the sets that has a number, and takes their numbers out.
-    fn take_each(
-        &mut self,
-        alloc: Global,
-        sets: &mut Vec<BitSet>,
-        places: usize,
-    ) -> Result<(), AllocError>
+    fn take_each(&mut self, alloc: Global, sets: &mut Vec<BitSet>) -> Result<(), AllocError>
         requires { AreUnions self.old.sets.items self.old.seen.keys }
         ensures seen { OnOk result (AreUnions self.new.sets.items self.new.seen.keys) }
         ensures added { OnOk result (AddsUnions self.old.sets.items self.new.sets.items sets.old.items (length sets.old.items)) }
@@ -104,7 +110,7 @@ impl Family {
     {
         'sets: for at in 0..sets.len() {
             let set: &mut BitSet = &mut sets[at];
-            self.take(alloc, set, places)?;
+            self.take(alloc, set)?;
         }
         Ok(())
     }
@@ -129,33 +135,10 @@ impl Family {
     {
         let places = self.sets[number].numbers(alloc)?;
         let looked = add_preimages(preimages, into, used, &places);
-        self.work = self.work.saturating_add(looked);
-        self.take_each(alloc, preimages, used.len())?;
+        self.edges = self.edges.saturating_add(looked);
+        self.take_each(alloc, preimages)?;
         Ok(())
     }
-}
-
-/// Whether those of the sets that lie in this one have together all that it has, if that is asked.
-fn is_union(
-    alloc: Global,
-    sets: &[BitSet],
-    set: &BitSet,
-    places: usize,
-    is_asked: bool,
-) -> Result<bool, AllocError>
-    ensures { IfOk result (λ union. IsTrue union → IsUnion sets.now (Has set.now)) }
-{
-    if !is_asked {
-        return Ok(false);
-    }
-    let mut union = BitSet::new(alloc, places)?;
-    'sets: for other in sets {
-        if !other.is_within(set) {
-            continue;
-        }
-        union.add_all(other);
-    }
-    Ok(set.is_within(&union))
 }
 
 /// A family of sets of places of which every atom of the automaton's states is a union, or `None` where more than `most` edges and sets
@@ -176,7 +159,7 @@ pub fn covering_sets(
     let _in_range = automaton.states();
     let mut next = 0;
     'sets: while next < family.sets.len() {
-        if family.work > most {
+        if family.work() > most {
             return Ok(None);
         }
         family.expand(alloc, &into, used, &mut preimages, next)?;

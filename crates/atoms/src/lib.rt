@@ -4,9 +4,9 @@
 #![tactic(auto)]
 
 mod family;
+mod holders;
 mod preimages;
 mod rows;
-mod set_lists;
 mod turned_edges;
 
 pub use rows::{Atoms, find_atoms};

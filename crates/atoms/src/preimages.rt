@@ -2,12 +2,11 @@
 //! or have an edge. A set costs the edges into its states.
 
 ghost use Rattle.std.specs.Prelude.{◌≡◌, ◌<◌, false, Contains, IfOk, length};
-ghost use Rattle.atoms.specs.private.Adding.{AddsNumbers, AddsForEach};
+ghost use Rattle.bit_set.specs.SetLists.{AddsNumbers, AddsForEach};
 ghost use Rattle.atoms.specs.private.Places.{IsUsed, AreUsed, IsSource};
 
-use crate::set_lists::insert_at;
 use crate::turned_edges::EdgesInto;
-use bit_set::BitSet;
+use bit_set::{BitSet, insert_at};
 use std::alloc::{AllocError, Global};
 use word_automata::Nfa;
 

@@ -3,13 +3,12 @@
 
 ghost use Rattle.std.specs.Prelude.{◌↔◌, ◌<◌, ℕ, List, All, Contains, IsTrue, IfOk, IfSome, length};
 ghost use Rattle.atoms.specs.Covers.{AreAtomsOf, IsSignature, IsWithin};
-ghost use Rattle.atoms.specs.private.Adding.{AddsNumbers, AddsForEach};
+ghost use Rattle.bit_set.specs.SetLists.{AddsNumbers, AddsForEach};
 ghost use Rattle.atoms.specs.private.Rows.{AreNarrow, IsNumberAt, AreEmptyRows, AreRowsOf};
 
 use crate::family::covering_sets;
 use crate::preimages::used_states;
-use crate::set_lists::{empty_sets, insert_at};
-use bit_set::BitSet;
+use bit_set::{BitSet, empty_sets, insert_at};
 use std::alloc::{AllocError, Global};
 use std::marker::Model;
 use word_automata::Nfa;

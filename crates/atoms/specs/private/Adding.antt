@@ -1,44 +1,18 @@
--- Lists of sets of numbers, and of lists of edges, to whose elements something is added.
-use Rattle.std.specs.Prelude.{◌≡◌, ◌↔◌, ◌⊎◌, ◌<◌, ◌+◌, ◌*◌, ◌/◌, ℕ, List, [], Contains, length, slice_index_or}
-use Rattle.atoms.specs.Covers.{HasAt}
+-- Lists of lists of edges, to which entries are added.
+use Rattle.std.specs.Prelude.{◌≡◌, ◌<◌, ℕ, List, [], Contains, length, slice_index_or}
+use Rattle.bit_set.specs.SetLists.{Adds}
 
 -- the list at place p has the entry
 abbrev pub IsListed : List (List (ℕ × ℕ)) → ℕ → ℕ × ℕ → Type 0
 IsListed lists p entry = Contains (slice_index_or lists p []) entry
 
--- the words of the set at place k have a bit for the number
-abbrev pub HasRoom : List (List ℕ) → ℕ → ℕ → Type 0
-HasRoom sets k number = number < 64 * length (slice_index_or sets k [])
-
 -- there is a list at place p
 abbrev pub IsPlace : List (List (ℕ × ℕ)) → ℕ → ℕ × ℕ → Type 0
 IsPlace lists p entry = p < length lists
 
--- what is told by Added comes to what was in the elements of the list, as far as there is room for it
-pub record Adds {X Y : Type 0} (In Room : List X → ℕ → Y → Type 0) (Added : ℕ → Y → Type 0) (old new : List X) : Type 0 where
-  pub count : length new ≡ length old
-  pub room : (at : ℕ) (y : Y) → Room new at y ↔ Room old at y
-  pub kept : (at : ℕ) (y : Y) → In old at y → In new at y
-  pub added : (at : ℕ) (y : Y) → Added at y → Room old at y → In new at y
-  pub only : (at : ℕ) (y : Y) → In new at y → In old at y ⊎ Added at y
-
--- numbers come to sets
-abbrev pub AddsNumbers : (ℕ → ℕ → Type 0) → List (List ℕ) → List (List ℕ) → Type 0
-AddsNumbers Added old new = Adds HasAt HasRoom Added old new
-
--- for each of the places come the numbers that are told of it
-abbrev pub AddsForEach : List ℕ → (ℕ → ℕ → ℕ → Type 0) → List (List ℕ) → List (List ℕ) → Type 0
-AddsForEach places Told old new = AddsNumbers (λ k number. (place : ℕ) × Contains places place × Told place k number) old new
-
 -- entries come to lists
 abbrev pub AddsEntries : (ℕ → ℕ × ℕ → Type 0) → List (List (ℕ × ℕ)) → List (List (ℕ × ℕ)) → Type 0
 AddsEntries Added old new = Adds IsListed IsPlace Added old new
-
--- there are so many sets, without numbers, and with the words of those below the bound
-pub record AreEmpty (amount bound : ℕ) (sets : List (List ℕ)) : Type 0 where
-  pub count : length sets ≡ amount
-  pub none : (k number : ℕ) → HasAt sets k number → ⊥
-  pub room : (k : ℕ) → k < amount → length (slice_index_or sets k []) ≡ bound / 64 + 1
 
 -- there are so many lists, without entries
 pub record AreNone (amount : ℕ) (lists : List (List (ℕ × ℕ))) : Type 0 where

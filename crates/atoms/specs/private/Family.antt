@@ -3,7 +3,7 @@ use Rattle.std.specs.Prelude.{◌≡◌, ◌≤◌, ◌<◌, ℕ, List, [], Opti
 use Rattle.word_automata.specs.Nondeterministic.{NondeterministicAutomaton}
 use Rattle.reduction.specs.Reduction.{AcceptsAlong}
 use Rattle.bit_set.specs.Bits.{Has}
-use Rattle.atoms.specs.Covers.{HasAt}
+use Rattle.bit_set.specs.SetLists.{HasAt}
 use Rattle.atoms.specs.private.Places.{HoldsState, LeadsInto, AcceptsAt}
 
 -- what has the property P is a union of sets, of which Holds tells what they have: each q with P is in a set all of which has P
@@ -13,6 +13,10 @@ IsUnionOf Holds P = (q : ℕ) → P q → (k : ℕ) × Holds k q × ((r : ℕ) �
 -- a union of sets of numbers
 abbrev pub IsUnion : List (List ℕ) → (ℕ → Type 0) → Type 0
 IsUnion sets P = IsUnionOf (HasAt sets) P
+
+-- one of the sets lies within the set
+abbrev pub IsPart : List (List ℕ) → List ℕ → ℕ → Type 0
+IsPart sets set k = (k < length sets) × ((q : ℕ) → HasAt sets k q → Has set q)
 
 -- each set that was seen is a union of sets
 abbrev pub AreUnions : List (List ℕ) → List (List ℕ) → Type 0

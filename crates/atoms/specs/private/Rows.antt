@@ -1,6 +1,6 @@
 -- Rows of numbers by states, made from sets over the places of the states that are used.
 use Rattle.std.specs.Prelude.{◌≡◌, ◌<◌, ◌≤◌, ◌+◌, ◌*◌, ◌/◌, ℕ, List, [], length, slice_index, slice_index_or}
-use Rattle.atoms.specs.Covers.{HasAt}
+use Rattle.bit_set.specs.SetLists.{HasAt}
 use Rattle.atoms.specs.private.Places.{IsPlaceOf, HoldsState}
 
 -- no row has more words than those for so many numbers

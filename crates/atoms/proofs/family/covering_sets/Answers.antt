@@ -1,5 +1,6 @@
 use Rattle.std.proofs.Common.{◌≡◌, ◌≤◌, ◌+◌, [], length, get_or, subst, arith}
-use Rattle.atoms.specs.private.Adding.{IsListed, AreEmpty}
+use Rattle.bit_set.specs.SetLists.{AreEmpty}
+use Rattle.atoms.specs.private.Adding.{IsListed}
 use Rattle.atoms.specs.private.Family.{AddsPreimages}
 use Rattle.atoms.proofs.Families.{closed_covers}
 use Rattle.atoms.proofs.Growth.{closed_none, closed_more, closed_all, letter_in_range}

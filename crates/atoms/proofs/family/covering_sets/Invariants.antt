@@ -1,5 +1,5 @@
 use Rattle.std.proofs.Common.{◌+◌, ◌-◌, ◌^◌, length}
-use Rattle.atoms.specs.private.Adding.{AreEmpty}
+use Rattle.bit_set.specs.SetLists.{AreEmpty}
 use Rattle.atoms.specs.private.Family.{AreUnions, IsClosedUpTo}
 use Rattle.atoms.proofs.family.covering_sets.Given as goal
 

@@ -1,8 +1,7 @@
 use Rattle.std.proofs.Common.{get_or, arith}
-use Rattle.atoms.specs.Covers.{HasAt}
-use Rattle.atoms.specs.private.Adding.{HasRoom}
+use Rattle.bit_set.specs.SetLists.{HasAt, HasRoom}
+use Rattle.bit_set.proofs.ForCallers.{adds_first, adds_more, adds_all}
 use Rattle.atoms.specs.private.Places.{IsSource}
-use Rattle.atoms.proofs.Additions.{adds_first, adds_more, adds_all}
 use Rattle.atoms.proofs.preimages.add_preimages.Goals as goal
 
 pub places-init : goal.places-init

@@ -1,7 +1,6 @@
 use Rattle.std.proofs.Common.{◌≡◌, get_or, arith}
-use Rattle.atoms.specs.Covers.{HasAt}
-use Rattle.atoms.specs.private.Adding.{HasRoom}
-use Rattle.atoms.proofs.Additions.{adds_first, adds_more, adds_all}
+use Rattle.bit_set.specs.SetLists.{HasAt, HasRoom}
+use Rattle.bit_set.proofs.ForCallers.{adds_first, adds_more, adds_all}
 use Rattle.atoms.proofs.UsedStates.{of_edges}
 use Rattle.atoms.proofs.preimages.add_sources.Goals as goal
 

@@ -1,7 +1,6 @@
 use Rattle.std.proofs.Common.{◌≡◌, get_or}
-use Rattle.atoms.specs.Covers.{HasAt}
-use Rattle.atoms.specs.private.Adding.{HasRoom}
-use Rattle.atoms.proofs.Additions.{AddsFirst}
+use Rattle.bit_set.specs.SetLists.{HasAt, HasRoom}
+use Rattle.bit_set.proofs.ForCallers.{AddsFirst}
 use Rattle.atoms.proofs.preimages.add_sources.Given as goal
 
 abbrev pub invariant-edges : goal.invariant-edges

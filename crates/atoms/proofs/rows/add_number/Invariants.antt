@@ -1,8 +1,7 @@
 use Rattle.std.proofs.Common.{get_or}
-use Rattle.atoms.specs.Covers.{HasAt}
-use Rattle.atoms.specs.private.Adding.{HasRoom}
+use Rattle.bit_set.specs.SetLists.{HasAt, HasRoom}
+use Rattle.bit_set.proofs.ForCallers.{AddsFirst}
 use Rattle.atoms.specs.private.Rows.{IsNumberAt}
-use Rattle.atoms.proofs.Additions.{AddsFirst}
 use Rattle.atoms.proofs.rows.add_number.Given as goal
 
 abbrev pub invariant-places : goal.invariant-places

@@ -1,6 +1,6 @@
 use Rattle.std.proofs.Common.{◌≡◌, None, get_or, subst, arith}
 use Rattle.atoms.specs.private.Adding.{IsListed, IsPlace, AddsEntries}
-use Rattle.atoms.proofs.Additions.{adds_first, adds_more, adds_all}
+use Rattle.bit_set.proofs.ForCallers.{adds_first, adds_more, adds_all}
 use Rattle.atoms.proofs.Turning.{IsEntryFor, entries_of}
 use Rattle.atoms.proofs.turned_edges.add_edges_from.Goals as goal
 

@@ -1,6 +1,6 @@
 use Rattle.std.proofs.Common.{None, get_or}
 use Rattle.atoms.specs.private.Adding.{IsListed, IsPlace}
-use Rattle.atoms.proofs.Additions.{AddsFirst}
+use Rattle.bit_set.proofs.ForCallers.{AddsFirst}
 use Rattle.atoms.proofs.Turning.{IsEntryFor}
 use Rattle.atoms.proofs.turned_edges.add_edges_from.Given as goal
 

@@ -1,6 +1,6 @@
 use Rattle.std.proofs.Common.{◌<◌, ◌++◌, ◌∷◌, [], length, ap, ◌∙◌, arith}
 use Rattle.std.proofs.lemmas.List.{get_or_default}
-use Rattle.atoms.proofs.Additions.{adds_entry, adds_entry_past}
+use Rattle.atoms.proofs.Turning.{adds_entry, adds_entry_past}
 use Rattle.atoms.proofs.turned_edges.push_at.Goals as goal
 
 pub returns-then-state-len : goal.returns-then-state-len
