@@ -1,6 +1,7 @@
 pub mod Copies
 pub mod ForCallers
 pub mod PairEquality
+pub mod Parts
 pub mod Reductions
 pub mod Rejection
 pub mod SilentMoves

@@ -2,40 +2,13 @@
 use Rattle.std.proofs.Common.{◌≡◌, ◌+◌, ◌≤◌, ◌↔◌, ℕ, List, [], ◌∷◌, ◌++◌, Option, Contains, IsTrue, length, map, refl, sym, ap, subst, ◌∙◌, inl, inr, arith}
 use Rattle.std.proofs.lemmas.Bool.{cases_eq}
 use Rattle.std.proofs.lemmas.List.{length-map}
-use Rattle.std.proofs.lemmas.List.Elements.{Contains-append_cases, Contains-append_left, Contains-append_right, Contains-push, Contains-push_cases}
+use Rattle.std.proofs.lemmas.List.Elements.{Contains-append_cases, Contains-append_left, Contains-append_right, Contains-push_cases}
 use Rattle.word_automata.specs.Path.{edges_of, is_accepting, IsPath, spelled, spelled_one}
 use Rattle.word_automata.specs.Nondeterministic.{NondeterministicAutomaton, Accepts, AcceptsFromAny}
 use Rattle.word_automata.proofs.ForCallers.{Contains-none}
 use Rattle.reduction.specs.Reduction.{AcceptsAlong, KeepsStarts}
-use Rattle.reduction.specs.private.Copies.{without_edges, states_alone, with_starts, AddsEdges, KeepsEdges, IsReduced, KeepsWhere}
+use Rattle.reduction.specs.private.Copies.{without_edges, states_alone, with_starts, AddsEdges, KeepsEdges, IsReduced}
 use Rattle.reduction.proofs.Copies.{is_accepting-alone, edges_of-alone, edges_within}
-
--- elements one by one
-module _ {X : Type 0} (P : X → Type 0) where
-  pub keeps_none : KeepsWhere P [] []
-  keeps_none = record { only = λ x there. there; kept = λ x there p. there }
-
-  module _ (xs ys : List X) (x : X) (so : KeepsWhere P xs ys) where
-    pub keeps_skip : (P x → ⊥) → KeepsWhere P (xs ++ x ∷ []) ys
-    keeps_skip without = record {
-      only = λ y there. Contains-append_left xs (x ∷ []) y (so.only y there);
-      kept = λ y there p. elim (Contains-push_cases xs x y there) [
-        | inl earlier ↦ so.kept y earlier p
-        | inr is ↦ absurd (without (subst P (sym is) p))
-      ];
-    }
-
-    pub keeps_more : KeepsWhere P (xs ++ x ∷ []) (ys ++ x ∷ [])
-    keeps_more = record {
-      only = λ y there. elim (Contains-push_cases ys x y there) [
-        | inl earlier ↦ Contains-append_left xs (x ∷ []) y (so.only y earlier)
-        | inr is ↦ subst (Contains (xs ++ x ∷ [])) is (Contains-push xs x)
-      ];
-      kept = λ y there p. elim (Contains-push_cases xs x y there) [
-        | inl earlier ↦ Contains-append_left ys (x ∷ []) y (so.kept y earlier p)
-        | inr is ↦ subst (Contains (ys ++ x ∷ [])) is (Contains-push ys x)
-      ];
-    }
 
 -- the word of labels
 spelled_labels : List (Option ℕ) → List ℕ
@@ -61,6 +34,16 @@ module _ (n : NondeterministicAutomaton) where
       let rest = path_along labels along.0 along.2 in
       ((label, along.0) ∷ rest.0, rest.1, (along.1, rest.2), rest.3, ap (λ v. spelled_one label ++ v) rest.4)
 
+-- where states of m accept along the labels along which states of n do, they accept the same words
+pub any_accepts : (n m : NondeterministicAutomaton) (from to : List ℕ)
+    → ((labels : List (Option ℕ)) (q : ℕ) → Contains from q → AcceptsAlong n q labels → (r : ℕ) × Contains to r × AcceptsAlong m r labels)
+    → (w : List ℕ) → AcceptsFromAny n from w → AcceptsFromAny m to w
+any_accepts n m from to on w run =
+    let labels = map (λ (move : Option ℕ × ℕ). move.0) run.1 in
+    let start = on labels run.0 run.3 (along_path n run.1 run.0 run.2 run.4 run.5) in
+    let path = path_along m labels start.0 start.2 in
+    (start.0, path.0, path.1, start.1, path.2, path.3, path.4 ∙ sym (spelled_path run.1) ∙ run.6)
+
 module _ (n m : NondeterministicAutomaton) (next : ℕ) (so : IsReduced n m next) (all : length n.states ≤ next) where
   pub up : (labels : List (Option ℕ)) (p : ℕ) → AcceptsAlong m p labels → AcceptsAlong n p labels
   up [] p along = sym (so.same_acceptance p) ∙ along
@@ -78,15 +61,10 @@ module _ (n m : NondeterministicAutomaton) (next : ℕ) (so : IsReduced n m next
 
   pub reduced_accepts : (w : List ℕ) → Accepts m w ↔ Accepts n w
   reduced_accepts w = (
-    λ run.
-        let labels = map (λ (move : Option ℕ × ℕ). move.0) run.1 in
-        let path = path_along n labels run.0 (up labels run.0 (along_path m run.1 run.0 run.2 run.4 run.5)) in
-        (run.0, path.0, path.1, so.starts.only run.0 run.3, path.2, path.3, path.4 ∙ sym (spelled_path run.1) ∙ run.6),
-    λ run.
-        let labels = map (λ (move : Option ℕ × ℕ). move.0) run.1 in
-        let start = so.starts.kept run.0 labels run.3 (along_path n run.1 run.0 run.2 run.4 run.5) in
-        let path = path_along m labels start.0 (down labels start.0 start.2) in
-        (start.0, path.0, path.1, start.1, path.2, path.3, path.4 ∙ sym (spelled_path run.1) ∙ run.6),
+    any_accepts m n m.starts n.starts (λ labels q there along. (q, so.starts.only q there, up labels q along)) w,
+    any_accepts n m n.starts m.starts (λ labels q there along.
+        let start = so.starts.kept q labels there along in
+        (start.0, start.1, down labels start.0 start.2)) w,
   )
 
 -- a state less, where others accept along the labels along which it does
@@ -119,11 +97,7 @@ states_keep_twice n old mid new once twice = record {
 -- what is kept accepts the same words
 pub kept_accept : (n : NondeterministicAutomaton) (old new : List ℕ) → KeepsStarts n old new → (w : List ℕ) → AcceptsFromAny n old w ↔ AcceptsFromAny n new w
 kept_accept n old new so w = (
-  λ run.
-      let labels = map (λ (move : Option ℕ × ℕ). move.0) run.1 in
-      let start = so.kept run.0 labels run.3 (along_path n run.1 run.0 run.2 run.4 run.5) in
-      let path = path_along n labels start.0 start.2 in
-      (start.0, path.0, path.1, start.1, path.2, path.3, path.4 ∙ sym (spelled_path run.1) ∙ run.6),
+  any_accepts n n old new (λ labels q there along. so.kept q labels there along) w,
   λ run. (run.0, run.1, run.2, so.only run.0 run.3, run.4, run.5, run.6),
 )
 

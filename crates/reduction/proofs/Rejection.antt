@@ -1,12 +1,10 @@
 -- No word is accepted from states that do not accept and lead to such states alone.
-use Rattle.std.proofs.Common.{◌≡◌, ◌<◌, ◌≤◌, ℕ, zero, suc, replicate, refl, Bool, true, false, List, [], ◌∷◌, Option, None, Contains, length, get_or, IsPermutation, sym, subst, ◌∙◌}
+use Rattle.std.proofs.Common.{◌≡◌, ◌<◌, ◌≤◌, ℕ, zero, suc, replicate, refl, Bool, true, false, List, [], ◌∷◌, Option, None, Contains, length, get_or, sym, subst, ◌∙◌}
 use Rattle.std.proofs.lemmas.Bool.{true≢false}
 use Rattle.std.proofs.lemmas.List.{get_or_default, get_or_past}
-use Rattle.std.proofs.lemmas.List.Sorted.{Contains-permutation, IsPermutation-sym}
 use Rattle.word_automata.specs.Nondeterministic.{NondeterministicAutomaton}
 use Rattle.reduction.specs.private.Emptiness.{IsRejectingAt, AreRejecting}
-use Rattle.reduction.specs.Reduction.{AcceptsAlong, KeepsStarts}
-use Rattle.reduction.specs.private.Copies.{KeepsEdges, KeepsWhere}
+use Rattle.reduction.specs.Reduction.{AcceptsAlong}
 
 module _ (n : NondeterministicAutomaton) (flags : List Bool) (r : AreRejecting n flags) where
   flagged_along : (labels : List (Option ℕ)) (p : ℕ) → get_or flags p false ≡ true → AcceptsAlong n p labels → ⊥
@@ -14,26 +12,12 @@ module _ (n : NondeterministicAutomaton) (flags : List Bool) (r : AreRejecting n
   flagged_along (label ∷ labels) p flag along = flagged_along labels along.0 ((r p).leads flag label along.0 along.1) along.2
 
   -- so a state from which a word is accepted has no flag
-  is_live : (labels : List (Option ℕ)) (p : ℕ) → AcceptsAlong n p labels → get_or flags p false ≡ false
+  pub is_live : (labels : List (Option ℕ)) (p : ℕ) → AcceptsAlong n p labels → get_or flags p false ≡ false
   is_live labels p along = by (get_or flags p false) refl
     where
       by : (b : Bool) → get_or flags p false ≡ b → get_or flags p false ≡ false
       by true e = absurd (flagged_along labels p e along)
       by false e = e
-
-  -- states and edges that lead to flagged states are not needed
-  pub live_starts_keep : (old new : List ℕ) → KeepsWhere (λ q. get_or flags q false ≡ false) old new → KeepsStarts n old new
-  live_starts_keep old new k = record {
-    only = k.only;
-    kept = λ q labels there along. (q, k.kept q there (is_live labels q along), along);
-  }
-
-  pub live_edges_keep : (old mid new : List (Option ℕ × ℕ)) → KeepsWhere (λ (edge : Option ℕ × ℕ). get_or flags edge.1 false ≡ false) old mid → IsPermutation mid new
-      → KeepsEdges n old new
-  live_edges_keep old mid new k reordered = record {
-    only = λ edge there. k.only edge (Contains-permutation new mid edge (IsPermutation-sym mid new reordered) there);
-    kept = λ label q labels there along. (q, Contains-permutation mid new (label, q) reordered (k.kept (label, q) there (is_live labels q along)), along);
-  }
 
 pub flagged_targets : (flags : List Bool) (edges : List (Option ℕ × ℕ)) → ((k : ℕ) → k < length edges → get_or flags (get_or edges k (None, 0)).1 false ≡ true)
     → (label : Option ℕ) (q : ℕ) → Contains edges (label, q) → get_or flags q false ≡ true

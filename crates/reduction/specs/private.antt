@@ -2,4 +2,5 @@
 pub mod Copies
 pub mod Emptiness
 pub mod Pruning
+pub mod Renumbering
 pub mod SilentMoves

@@ -1,6 +1,6 @@
 //! A simulation between the states of an automaton (R. Milner, 1971), as far as it is asked for: the pairs of states to which one
 //! letter leads from one state, and the pairs on which these depend. Those that do not hold are taken out, in rounds, until a round
-//! takes none out (the greatest fixpoint). There are at most 2 to the 18 pairs and 16 rounds, and pairs are asked for at most 256 times
+//! takes none out (the greatest fixpoint). There are at most 2 to the 18 pairs and 16 rounds, and pairs are asked for at most 512 times
 //! for each state and edge, or there is no answer. Pairs that short paths tell apart are not added. Where no letter leads to two
 //! states, it costs one pass over the edges.
 
@@ -17,7 +17,7 @@ use word_automata::Nfa;
 const MOST_PAIRS: usize = 262_144;
 
 /// Nor where pairs are asked for more often than so many times for each state and edge.
-const ASKS_PER_EDGE: usize = 256;
+const ASKS_PER_EDGE: usize = 512;
 
 /// Nor where they are asked for more often than so many times.
 const MOST_ASKS: usize = 16 * MOST_PAIRS;

@@ -61,7 +61,7 @@ impl StatePairs {
     }
 
     /// The number of pairs that were added.
-    pub(crate) fn len(&self) -> usize
+    pub fn len(&self) -> usize
         ensures { result ≡ length self.now }
     {
         self.found.len()
@@ -78,7 +78,7 @@ impl StatePairs {
     }
 
     /// The pair that was added after so many others, or what it became.
-    pub(crate) fn pair(&self, place: usize) -> (usize, usize)
+    pub fn pair(&self, place: usize) -> (usize, usize)
         requires { place < length self.now }
         ensures { slice_index_or self.now place (0, 0) ≡ result }
     {
@@ -172,12 +172,12 @@ impl StatePairs {
     }
 
     /// Whether the list of the states above the state has some.
-    pub(crate) fn is_low(&self, state: usize) -> bool {
+    pub fn is_low(&self, state: usize) -> bool {
         !self.above(state).is_empty()
     }
 
     /// The states above the state, as they were listed.
-    pub(crate) fn above(&self, state: usize) -> &[usize] {
+    pub fn above(&self, state: usize) -> &[usize] {
         match self.firsts.get(state..) {
             Some([from, to, ..]) if *from <= *to && *to <= self.above.len() => {
                 &self.above[*from..*to]

@@ -39,8 +39,3 @@ pub record IsReduced (n m : NondeterministicAutomaton) (next : ℕ) : Type 0 whe
   pub starts : KeepsStarts n n.starts m.starts
   pub done : (p : ℕ) → p < next → KeepsEdges n (edges_of n.states p) (edges_of m.states p)
   pub later : (p : ℕ) → next ≤ p → edges_of m.states p ≡ []
-
--- new has some elements of old, among them all with the property
-pub record KeepsWhere {X : Type 0} (P : X → Type 0) (old new : List X) : Type 0 where
-  pub only : (x : X) → Contains new x → Contains old x
-  pub kept : (x : X) → Contains old x → P x → Contains new x

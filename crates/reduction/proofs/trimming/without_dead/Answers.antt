@@ -1,36 +1,11 @@
-use Rattle.std.proofs.Common.{◌≡◌, ◌<◌, ◌↔◌, ℕ, List, Contains, All, length, sym, ap, subst, ◌∙◌, arith}
-use Rattle.std.proofs.lemmas.List.{length-map}
-use Rattle.std.proofs.lemmas.List.Elements.{All-contains}
-use Rattle.word_automata.specs.Nondeterministic.{NondeterministicAutomaton, Accepts}
-use Rattle.word_automata.proofs.ForCallers.{All-from_contains}
-use Rattle.reduction.specs.Reduction.{KeepsStarts}
-use Rattle.reduction.specs.private.Copies.{without_edges, with_starts}
-use Rattle.reduction.proofs.Reductions.{reduced_none, reduced_accepts}
-use Rattle.reduction.proofs.Rejection.{live_starts_keep}
+use Rattle.std.proofs.Common.{ℕ, List, subst}
+use Rattle.reduction.specs.private.Renumbering.{IsPart}
+use Rattle.reduction.proofs.Parts.{part_accepts}
 use Rattle.reduction.proofs.trimming.without_dead.Goals as goal
-
-pub add_starts-requires : goal.add_starts-requires
-add_starts-requires c =
-    let n = c.args.automaton.now in
-    let builder = c.in_ok-builder.builder in
-    let size : length builder.states ≡ length n.states = ap (λ (m : NondeterministicAutomaton). length m.states) c.in_ok-builder.ensures ∙ length-map n.states without_edges in
-    subst (λ (xs : List ℕ). All (λ q. q < length builder.states) xs) (sym c.deref.ensures.value)
-    (All-from_contains (λ q. q < length builder.states) c.in_ok-starts.starts.items (λ q there.
-    let start = subst (λ (xs : List ℕ). Contains xs q) c.starts.ensures.starts (c.in_ok-starts.ensures.only q there) in
-    let within = All-contains (λ s. s < length n.states) n.starts q c.starts.ensures.in_range.starts_in_range start in
-    omega arith))
-
-pub states-init : goal.states-init
-states-init c =
-    let n = c.args.automaton.now in
-    let live = c.in_ok-starts.starts.items in
-    reduced_none n c.in_ok-builder.builder c.add_starts.new.builder live c.in_ok-builder.ensures
-    (c.in_ok-add_starts.ensures ∙ ap (with_starts c.in_ok-builder.builder) c.deref.ensures.value)
-    (subst (λ (xs : List ℕ). KeepsStarts n xs live) c.starts.ensures.starts
-    (live_starts_keep n c.args.dead.now c.requires c.starts.result.now live c.in_ok-starts.ensures))
 
 pub returns-clause-language : goal.returns-clause-language
 returns-clause-language c w =
-    subst (λ m. Accepts m w ↔ Accepts c.args.automaton.now w) (sym c.finish.ensures)
-    (reduced_accepts c.args.automaton.now c.states.builder c.states.state c.states.invariant
-    (let e = c.states-state-end.ensures.count in let x = c.states-test.false in omega arith) w)
+    let n = c.args.automaton.now in
+    let part = c.in_ok-part_of.field-0 in
+    part_accepts n part c.args.dead.now c.requires.dead c.requires.count c.in_ok-states.states.items c.in_ok-states.ensures
+    (subst (λ (xs : List ℕ). IsPart n xs part) c.deref.ensures.value c.in_ok-part_of.ensures) w

@@ -1,5 +1,0 @@
-use Rattle.reduction.specs.private.Copies.{IsReduced}
-use Rattle.reduction.proofs.trimming.without_dead.Given as goal
-
-abbrev pub invariant-states : goal.invariant-states
-invariant-states l = IsReduced l.automaton l.builder l.state
