@@ -4,7 +4,7 @@ use Rattle.std.proofs.lemmas.Bool.{cases_eq, cases_lt}
 use Rattle.std.proofs.lemmas.List.{get_or-take, get_or-drop, length-take, length-drop, get_or_default}
 use Rattle.std.proofs.lemmas.List.Elements.{All-nil, All-head, All-tail, All-push, All-contains, Contains-get_or}
 use Rattle.word_automata.specs.Path.{edges_of}
-use Rattle.word_automata.specs.Nondeterministic.{NondeterministicAutomaton, AcceptsFromAny}
+use Rattle.word_automata.specs.Nondeterministic.{NondeterministicAutomaton, AcceptsFromAny, IsInRange}
 use Rattle.word_automata.specs.StateSets.{AreStates, IsStep}
 use Rattle.word_automata.proofs.ForCallers.{Contains-none, Contains-map, Contains-map_cases, All-from_contains, All-edges_of, step_accepts}
 use Rattle.word_automata.proofs.ForCallers.{closure_accepts, move_within}
@@ -15,12 +15,18 @@ use Rattle.determinise.specs.private.Subsets.{IsSubset, IsSubsetFrom, letter_of,
 use Rattle.determinise.proofs.MoveLists.{moves_from-edge, edge-moves_from}
 
 -- one more pair, with a greater letter
-increasing-push : {S : Type 0} (pairs : List (ℕ × S)) (pair : ℕ × S) → HasIncreasingLetters pairs → All (λ before. before.0 < pair.0) pairs → HasIncreasingLetters (pairs ++ pair ∷ [])
+pub increasing-push : {S : Type 0} (pairs : List (ℕ × S)) (pair : ℕ × S) → HasIncreasingLetters pairs → All (λ before. before.0 < pair.0) pairs → HasIncreasingLetters (pairs ++ pair ∷ [])
 increasing-push {S} [] pair h k = (All-nil (λ (later : ℕ × S). pair.0 < later.0), tt)
 increasing-push {S} (x ∷ pairs) pair h k = (
   All-push (λ (later : ℕ × S). x.0 < later.0) pairs pair h.0 (All-head (λ (before : ℕ × S). before.0 < pair.0) x pairs k),
   increasing-push pairs pair h.1 (All-tail (λ (before : ℕ × S). before.0 < pair.0) x pairs k),
 )
+
+-- the letter of an edge is one of the automaton's
+pub letter_within : (n : NondeterministicAutomaton) → IsInRange n → (p a q : ℕ) → Contains (edges_of n.states p) (Some a, q) → a < n.letters
+letter_within n range p a q edge =
+    let within = All-edges_of (All (λ e. IfSome e.0 (λ a. a < n.letters))) n.states (All-nil (λ (e : Option ℕ × ℕ). IfSome e.0 (λ a. a < n.letters))) range.letters_in_range p in
+    All-contains (λ (e : Option ℕ × ℕ). IfSome e.0 (λ a. a < n.letters)) (edges_of n.states p) (Some a, q) within edge
 
 -- the moves of a run
 abbrev pub run_of : List (ℕ × ℕ) → ℕ → ℕ → List (ℕ × ℕ)
@@ -67,8 +73,7 @@ module _ (n : NondeterministicAutomaton) (states : List ℕ) (subset : IsSubset 
   letter_in_range k l =
       let move = get_or moves k (0, 0) in
       let edge = move_edge move.0 move.1 (move_at k l) in
-      let within = All-edges_of (All (λ e. IfSome e.0 (λ a. a < n.letters))) n.states (All-nil (λ (e : Option ℕ × ℕ). IfSome e.0 (λ a. a < n.letters))) subset.in_range.letters_in_range edge.0 in
-      All-contains (λ (e : Option ℕ × ℕ). IfSome e.0 (λ a. a < n.letters)) (edges_of n.states edge.0) (Some move.0, move.1) within edge.2
+      letter_within n subset.in_range edge.0 move.0 move.1 edge.2
 
   -- the targets of moves are states
   pub targets_are_states : (at end : ℕ) → end ≤ length moves → AreStates n (map (λ move. move.1) (run_of moves at end))

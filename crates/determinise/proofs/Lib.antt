@@ -1,6 +1,8 @@
+pub mod BitSuccessors
 pub mod Closures
 pub mod Digests
 pub mod ForCallers
 pub mod Grouping
+pub mod Members
 pub mod MoveLists
 pub mod Signatures

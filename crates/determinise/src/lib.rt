@@ -1,8 +1,13 @@
 //! Deterministic automata from nondeterministic ones, by the subset construction (M. O. Rabin and D. Scott, 1959) of what a reduction
 //! leaves: no states from which no word is accepted, nor edges and states that others simulate. It costs time linear in the edges that
-//! leave the sets.
+//! leave the sets. The sets are lists of states at first and, where there are many of them, sets of bits, which are merged without being
+//! sorted. Where there are more, sets of one language become one state, told apart by atoms (J. A. Brzozowski and H. Tamm, 2014), if
+//! these are found within a bound of work.
 #![tactic(auto)]
 
+mod above;
+mod bit_subsets;
+mod maximal;
 mod moves;
 mod signed_sets;
 mod silent;
@@ -16,6 +21,7 @@ ghost use Rattle.word_automata.specs.Nondeterministic.{Accepts};
 ghost use Rattle.determinise.specs.private.Subsets.{IsPlain};
 ghost use Rattle.reduction.specs.Simulation.{AreIncluded};
 
+use crate::bit_subsets::BitSubsets;
 use crate::signed_sets::SignedSets;
 use crate::silent::{has_true, silent_flags};
 use crate::subsets::Subsets;
@@ -26,21 +32,34 @@ pub use state_set::StateSet;
 use std::alloc::{AllocError, Global};
 use word_automata::{Dfa, Nfa};
 
+/// So many sets of states are found as lists.
+const FEW_SETS: usize = 512;
+
+/// Where there are more, and at most so many states, none with an edge without a letter, sets are bits from then on.
+const BIT_STATES: usize = 4_096;
+
 /// Where there are more sets of states, the atoms of the states are looked for.
 const FIRST_SETS: usize = 16_384;
 
 /// At first at most so many edges and sets are looked at for them.
 const FIRST_WORK: usize = 4_000_000;
 
-/// Where there are more sets of states, the atoms are looked for once more.
+/// Where there are more sets of states, as lists, the atoms are looked for once more.
 const SECOND_SETS: usize = 131_072;
 
 /// Then at most so many edges and sets are looked at for them.
 const SECOND_WORK: usize = 256_000_000;
 
+/// Where there are more sets of states, as bits, they are looked for once more,
+const SECOND_BIT_SETS: usize = 1 << 20;
+
+/// and also where the sets have more words.
+const SECOND_WORDS: usize = 1 << 25;
+
 /// The deterministic automaton of the sets of states that words lead to (M. O. Rabin and D. Scott, 1959), which accepts the same
 /// words. States are numbered breadth first, which is no clause here. States from which no word is accepted stand in no set, nor, as far
 /// as pairs were compared, states that others of it simulate; edges whose targets are simulated by those of edges beside them go first.
+/// A set is a list of states; with more than 512 sets, and at most 4,096 states without edges without a letter, a bit for each state.
 /// The time is linear in the edges of the automaton and in those that leave the sets' states, up to sorting, on average. Where a letter
 /// leads from one state to two, at most 2 to the 18 pairs of states are compared in at most 16 rounds, and a set may take its square.
 pub fn determinise(alloc: Global, automaton: &Nfa) -> Result<Dfa, AllocError>
@@ -90,21 +109,96 @@ fn subsets_of(alloc: Global, automaton: &Nfa, pairs: &StatePairs) -> Result<Dfa,
     let silent = silent_flags(alloc, automaton)?;
     let subsets = Subsets::new(automaton, &silent, pairs);
     let begun = Exploration::begin(alloc, &subsets)?;
+    let few = begun.advance(FEW_SETS)?;
+    if few.is_done() || has_true(&silent) {
+        return Ok(few.finish()?);
+    }
+    if automaton.states() <= BIT_STATES {
+        return Ok(bit_subsets_of(alloc, automaton, pairs, &subsets)?);
+    }
+    Ok(list_subsets_of(alloc, automaton, &subsets)?)
+}
+
+/// The deterministic automaton of the sets of states, as lists, or of the languages of these.
+fn list_subsets_of(alloc: Global, automaton: &Nfa, lists: &Subsets) -> Result<Dfa, AllocError>
+    requires same { lists.now.automaton.now ≡ automaton.now }
+    requires plain { (p : ℕ) → IsPlain automaton.now p }
+    ensures language { IfOk result (λ dfa. (w : List ℕ) → IsTrue (accepts dfa w) ↔ Accepts automaton.now w) }
+    ensures letters { IfOk result (λ dfa. dfa.letters ≡ automaton.now.letters) }
+    ensures valid { IfOk result IsValid }
+{
+    let begun = Exploration::begin(alloc, lists)?;
     let first = begun.advance(FIRST_SETS)?;
-    if first.is_done() || has_true(&silent) {
+    if first.is_done() {
         return Ok(first.finish()?);
     }
-    if let Some(dfa) = languages_of(alloc, automaton, &subsets, FIRST_WORK)? {
+    if let Some(dfa) = languages_of(alloc, automaton, lists, FIRST_WORK)? {
         return Ok(dfa);
     }
     let second = first.advance(SECOND_SETS)?;
     if second.is_done() {
         return Ok(second.finish()?);
     }
-    if let Some(dfa) = languages_of(alloc, automaton, &subsets, SECOND_WORK)? {
+    if let Some(dfa) = languages_of(alloc, automaton, lists, SECOND_WORK)? {
         return Ok(dfa);
     }
     Ok(second.finish()?)
+}
+
+/// The deterministic automaton of the sets of states, as bits, or of the languages of the sets, whose states are listed for these.
+fn bit_subsets_of(
+    alloc: Global,
+    automaton: &Nfa,
+    pairs: &StatePairs,
+    lists: &Subsets,
+) -> Result<Dfa, AllocError>
+    requires included { AreIncluded automaton.now pairs.now }
+    requires same { lists.now.automaton.now ≡ automaton.now }
+    requires plain { (p : ℕ) → IsPlain automaton.now p }
+    ensures language { IfOk result (λ dfa. (w : List ℕ) → IsTrue (accepts dfa w) ↔ Accepts automaton.now w) }
+    ensures letters { IfOk result (λ dfa. dfa.letters ≡ automaton.now.letters) }
+    ensures valid { IfOk result IsValid }
+{
+    let sets = BitSubsets::new(alloc, automaton, pairs)?;
+    let dfa = explored_bits(alloc, automaton, lists, &sets)?;
+    Ok(dfa)
+}
+
+/// The deterministic automaton of these sets of bits, or of the languages of the sets.
+fn explored_bits(
+    alloc: Global,
+    automaton: &Nfa,
+    lists: &Subsets,
+    sets: &BitSubsets,
+) -> Result<Dfa, AllocError>
+    requires bits { sets.now.automaton.now ≡ automaton.now }
+    requires same { lists.now.automaton.now ≡ automaton.now }
+    requires plain { (p : ℕ) → IsPlain automaton.now p }
+    ensures language { IfOk result (λ dfa. (w : List ℕ) → IsTrue (accepts dfa w) ↔ Accepts automaton.now w) }
+    ensures letters { IfOk result (λ dfa. dfa.letters ≡ automaton.now.letters) }
+    ensures valid { IfOk result IsValid }
+{
+    let begun = Exploration::begin(alloc, sets)?;
+    let first = begun.advance(FIRST_SETS)?;
+    if first.is_done() {
+        return Ok(first.finish()?);
+    }
+    if let Some(dfa) = languages_of(alloc, automaton, lists, FIRST_WORK)? {
+        return Ok(dfa);
+    }
+    let second = first.advance(second_bit_sets(automaton.states()))?;
+    if second.is_done() {
+        return Ok(second.finish()?);
+    }
+    if let Some(dfa) = languages_of(alloc, automaton, lists, SECOND_WORK)? {
+        return Ok(dfa);
+    }
+    Ok(second.finish()?)
+}
+
+/// So many sets of so many states, as bits, are found before the atoms are looked for once more.
+fn second_bit_sets(states: usize) -> usize {
+    SECOND_BIT_SETS.min(SECOND_WORDS / (states / 64 + 1))
 }
 
 /// The deterministic automaton of the languages of the sets, told apart by the atoms of the automaton's states, or `None` where more than

@@ -8,11 +8,12 @@ ghost use Rattle.word_automata.specs.StateSets.{AreStates};
 ghost use Rattle.determinise.specs.private.Subsets.{IsSubset, ArePlainWhereFalse, LeadsTo};
 ghost use Rattle.reduction.specs.Simulation.{AreIncluded};
 
+use crate::maximal::maximal_states;
 use crate::moves::{end_of_run, ordered_moves, targets};
 use crate::state_set::StateSet;
 use crate::subset::{accepts_some, only_plain_target, subset_from, subset_of};
 use exploration::LanguageSystem;
-use reduction::{StatePairs, maximal_states};
+use reduction::StatePairs;
 use std::alloc::{AllocError, Global};
 use word_automata::Nfa;
 
