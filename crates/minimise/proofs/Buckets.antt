@@ -1,10 +1,10 @@
 -- First states of classes, one state after another, and their buckets.
-use Rattle.std.proofs.Common.{◌≡◌, ◌+◌, ◌<◌, ◌≤◌, ◌%◌, ◌⊎◌, ℕ, zero, suc, List, [], ◌∷◌, ◌++◌, length, slice_index, set, refl, sym, ap, subst, ◌∙◌, inl, inr, arith, length-append}
+use Rattle.std.proofs.Common.{◌≡◌, ◌<◌, ◌≤◌, ◌⊎◌, ℕ, zero, suc, List, [], ◌∷◌, ◌++◌, length, slice_index, set, refl, sym, ap, subst, ◌∙◌, inl, inr, arith, length-append}
 use Rattle.std.proofs.lemmas.Bool.{cases_eq, cases_lt}
 use Rattle.std.proofs.lemmas.Nat.{mod_below}
 use Rattle.std.proofs.lemmas.List.{get_or_append_left, get_or_push, get_or_past, length-set, get_or-set_same, get_or-set_other}
 use Rattle.minimise.specs.Refinement.{AreGrouped}
-use Rattle.minimise.specs.private.Numbering.{IsFirst, bucket_of, AreNumbered, AreInBuckets, IsFound}
+use Rattle.minimise.specs.private.Numbering.{IsFirst, bucket_of, AreNumbered, AreInBuckets}
 
 pub first_within : (least : List ℕ) (r : ℕ) → IsFirst least r → r < length least
 first_within least r h = elim (cases_lt r (length least)) [

@@ -6,6 +6,7 @@ pub mod Splitting
 pub mod Unique
 pub mod Comparisons
 pub mod OwnSignatures
+pub mod LeastNumbers
 pub mod RowLists
 pub mod HashLemmas
 pub mod MemberLists

@@ -6,10 +6,9 @@ ghost use Rattle.word_automata.specs.Automaton.{accepts};
 ghost use Rattle.word_automata.specs.Nondeterministic.{Accepts};
 ghost use Rattle.minimise.specs.Canonical.{IsCanonical, SameLanguage};
 
-use crate::quotient::Quotient;
+use crate::breadth_first::explore_classes;
 use crate::refinement::classes;
 use determinise::determinise;
-use exploration::explore;
 use std::alloc::{AllocError, Global};
 use std::marker::Model;
 use word_automata::{Dfa, Nfa};
@@ -67,6 +66,13 @@ impl Canon {
     }
 }
 
+/// Tells of an automaton that it is canonical, as each is. It costs nothing.
+pub fn known_canonical(automaton: &Canon)
+    ensures { IsCanonical automaton.now }
+{
+    let _states = automaton.size();
+}
+
 /// The canonical automaton of the same language. It takes time linear in the edges times the logarithm of the states, up to sorting by
 /// letters, on average over hashing.
 pub fn canonical(alloc: Global, automaton: &Dfa) -> Result<Canon, AllocError>
@@ -75,7 +81,7 @@ pub fn canonical(alloc: Global, automaton: &Dfa) -> Result<Canon, AllocError>
     ensures canonical { IfOk result IsCanonical }
 {
     let classes = classes(alloc, automaton)?;
-    let dfa = explore(alloc, &Quotient::new(automaton, &classes))?;
+    let dfa = explore_classes(alloc, automaton, &classes)?;
     Ok(Canon { dfa })
 }
 

@@ -3,6 +3,7 @@
 //! A deterministic automaton is minimised in time linear in its edges times the logarithm of its states, up to sorting.
 #![tactic(auto)]
 
+mod breadth_first;
 mod canon;
 mod class_counter;
 mod growth;
@@ -11,14 +12,13 @@ mod laws;
 mod lone_classes;
 mod numbering;
 mod parts;
-mod quotient;
 mod refinement;
 mod rows;
 mod signature;
 mod splitters;
 mod stability;
 
-pub use canon::{Canon, canonical, canonical_nfa, same};
+pub use canon::{Canon, canonical, canonical_nfa, known_canonical, same};
 pub use laws::{canonical_is_least, canonical_is_unique};
 pub use refinement::split;
 

@@ -67,7 +67,7 @@ fn hash_of(accepting: bool, edges: &[(u32, usize)], classes: &[usize]) -> usize
 }
 
 /// The class of the state, 0 where the number is no state.
-fn class_of(classes: &[usize], state: usize) -> usize
+pub fn class_of(classes: &[usize], state: usize) -> usize
     ensures { result ≡ slice_index classes.now state }
 {
     match classes.get(state) {

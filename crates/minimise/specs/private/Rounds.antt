@@ -1,5 +1,5 @@
 -- Rounds of refinement by hashes of signatures, and classes that are stable.
-use Rattle.std.specs.Prelude.{◌≡◌, ◌==◌, ◌+◌, ◌*◌, ◌%◌, ◌/◌, ◌^◌, ℕ, suc, Bool, false, List, Option, None, Some, length, slice_index, slice_get, bit_and, if◌then◌else◌}
+use Rattle.std.specs.Prelude.{◌≡◌, ◌==◌, ◌+◌, ◌*◌, ◌%◌, ◌/◌, ◌^◌, ℕ, suc, Bool, false, List, None, Some, length, slice_index, slice_get, bit_and, if◌then◌else◌}
 use Rattle.std.specs.List.{filter_map, fold}
 use Rattle.word_automata.specs.Path.{Node, edges_of, is_accepting}
 use Rattle.word_automata.specs.Automaton.{Automaton, accepts_from}

@@ -6,17 +6,15 @@ use Rattle.minimise.specs.Refinement.{HasLeastStates, quotient, IsLeastState}
 use Rattle.minimise.proofs.LeastStates.{quotient_language, quotient_canonical}
 use Rattle.minimise.proofs.canon.canonical.Goals as goal
 
-pub new-requires-clause-least : goal.new-requires-clause-least
-new-requires-clause-least c = subst HasLeastStates (sym c.deref.ensures.value) c.in_ok-classes.ensures.coarse.least
+pub explore_classes-requires-clause-least : goal.explore_classes-requires-clause-least
+explore_classes-requires-clause-least c = subst HasLeastStates (sym c.deref.ensures.value) c.in_ok-classes.ensures.coarse.least
 
 pub invariant_of-result : goal.invariant_of-result
 invariant_of-result c =
     let m = c.args.automaton.now in
-    let classes = c.in_ok-classes.classes.items in
     let dfa = c.in_ok-dfa.dfa in
-    quotient_canonical m classes c.in_ok-classes.ensures dfa
-    (subst (λ xs. StandsFor (quotient m xs) (IsLeastState m xs) dfa) (c.new.ensures.classes ∙ c.deref.ensures.value)
-    (subst (λ x. StandsFor (quotient x c.new.result.classes.now) (IsLeastState x c.new.result.classes.now) dfa) c.new.ensures.automaton c.in_ok-dfa.ensures.states))
+    quotient_canonical m c.in_ok-classes.classes.items c.in_ok-classes.ensures dfa
+    (subst (λ xs. StandsFor (quotient m xs) (IsLeastState m xs) dfa) c.deref.ensures.value c.in_ok-dfa.ensures.states)
     c.in_ok-dfa.ensures.breadth_first c.in_ok-dfa.ensures.valid
 
 pub returns-clause-language : goal.returns-clause-language
@@ -24,16 +22,13 @@ returns-clause-language c =
     let m = c.args.automaton.now in
     let classes = c.in_ok-classes.classes.items in
     let dfa = c.in_ok-dfa.dfa in
-    λ w. sym (subst (λ xs. accepts dfa w ≡ accepts_by (quotient m xs) w) (c.new.ensures.classes ∙ c.deref.ensures.value)
-    (subst (λ x. accepts dfa w ≡ accepts_by (quotient x c.new.result.classes.now) w) c.new.ensures.automaton (c.in_ok-dfa.ensures.language w))
+    λ w. sym (subst (λ xs. accepts dfa w ≡ accepts_by (quotient m xs) w) c.deref.ensures.value (c.in_ok-dfa.ensures.language w)
     ∙ quotient_language m classes c.in_ok-classes.ensures w)
 
 pub returns-clause-canonical : goal.returns-clause-canonical
 returns-clause-canonical c =
     let m = c.args.automaton.now in
-    let classes = c.in_ok-classes.classes.items in
     let dfa = c.in_ok-dfa.dfa in
-    quotient_canonical m classes c.in_ok-classes.ensures dfa
-    (subst (λ xs. StandsFor (quotient m xs) (IsLeastState m xs) dfa) (c.new.ensures.classes ∙ c.deref.ensures.value)
-    (subst (λ x. StandsFor (quotient x c.new.result.classes.now) (IsLeastState x c.new.result.classes.now) dfa) c.new.ensures.automaton c.in_ok-dfa.ensures.states))
+    quotient_canonical m c.in_ok-classes.classes.items c.in_ok-classes.ensures dfa
+    (subst (λ xs. StandsFor (quotient m xs) (IsLeastState m xs) dfa) c.deref.ensures.value c.in_ok-dfa.ensures.states)
     c.in_ok-dfa.ensures.breadth_first c.in_ok-dfa.ensures.valid
