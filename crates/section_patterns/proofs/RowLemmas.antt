@@ -229,7 +229,7 @@ pub no_rows : (s : SystemData) (w : List ℕ) → IsWordOfRows s [] w → ⊥
 no_rows s w r = false≢true (and_parts (fits s r.0) false r.1).1
 
 -- one row more
-pub rows_united : (s : SystemData) (rows : List Row) (index : ℕ) (row : Row) → index < length rows → row ≡ get_or rows index row
+rows_united : (s : SystemData) (rows : List Row) (index : ℕ) (row : Row) → index < length rows → row ≡ get_or rows index row
     → (old more new : Bool) (w : List ℕ) → new ≡ (old || more) → (IsTrue old ↔ IsWordOfRows s (take index rows) w) → (IsTrue more ↔ IsWordOfRows s (row ∷ []) w)
     → IsTrue new ↔ IsWordOfRows s (take (index + 1) rows) w
 rows_united s rows index row within is old more new w united before alone = (
@@ -247,6 +247,17 @@ rows_united s rows index row within is old more new w united before alone = (
         united ∙ or_right old more (alone.1 (second.0, and_from (fits s second.0) (row_matches second.0 row || false) second.1.0 matches, second.1.2))
   ],
 )
+
+-- one row more behind the first one
+pub rows_after_first : (s : SystemData) (first : Row) (later : List Row) (index : ℕ) (row : Row) → index < length later → row ≡ get_or later index row
+    → (old more new : Bool) (w : List ℕ) → new ≡ (old || more) → (IsTrue old ↔ IsWordOfRows s (first ∷ take index later) w)
+    → (IsTrue more ↔ IsWordOfRows s (row ∷ []) w) → IsTrue new ↔ IsWordOfRows s (first ∷ take (index + 1) later) w
+rows_after_first s first later index row within is old more new w united before alone =
+    let here : index + 1 ≡ suc index = omega arith in
+    let next : index + 1 + 1 ≡ suc (index + 1) = omega arith in
+    subst (λ xs. IsTrue new ↔ IsWordOfRows s xs w) (ap (λ k. take k (first ∷ later)) next)
+    (rows_united s (first ∷ later) (index + 1) row (omega arith) (is ∙ sym (ap (λ k. get_or (first ∷ later) k row) here)) old more new w united
+    (subst (λ xs. IsTrue old ↔ IsWordOfRows s xs w) (sym (ap (λ k. take k (first ∷ later)) here)) before) alone)
 
 -- each row is valid
 pub row_valid : (sections : List Section) (rows : List Row) (index : ℕ) (row : Row) → AllByRecursion (IsValidRow sections) rows → index < length rows
