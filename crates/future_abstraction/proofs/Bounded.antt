@@ -10,8 +10,10 @@ use Rattle.minimise.specs.Signatures.{Signature}
 use Rattle.minimise.specs.Refinement.{live_class, live_edge, signature_of, IsSplit}
 use Rattle.minimise.proofs.ForCallers.{edges_differ, next_state, accepts_from-next, look_up-live_edges, live_edges-increasing}
 use Rattle.minimise.proofs.ForCallers.{live_class-same, index-zeros}
+use Rattle.abstraction.specs.FirstStates.{AreFirsts}
 use Rattle.abstraction.specs.Merging.{AreClasses}
 use Rattle.abstraction.specs.Bounds.{up_to}
+use Rattle.abstraction.proofs.ForCallers.{first_same}
 use Rattle.future_abstraction.specs.Futures.{is_related}
 
 -- each word of less than k letters is accepted from both states or from neither
@@ -96,5 +98,20 @@ are_classes m bound classes has = record {
       let at_q = slice_get-get_or classes q 0 (omega arith) in (
         λ e w short. has.agree p q (same_Some (slice_index classes p) (slice_index classes q) (sym at_p ∙ e ∙ at_q)) w (omega arith),
         λ agree. at_p ∙ ap (λ (c : ℕ). Some c) (has.same p q (λ w less. agree w (omega arith))) ∙ sym at_q,
+      );
+}
+
+-- the first states of classes are classes of the same relation
+pub first_classes : (R : ℕ → ℕ → Type 0) (n : ℕ) (classes firsts : List ℕ) → AreClasses R n classes → AreFirsts classes firsts → AreClasses R n firsts
+first_classes R n classes firsts are is = record {
+  count = is.count ∙ are.count;
+  related = λ p q l r.
+      let all = are.count in
+      let each = is.count in
+      let same = first_same classes firsts is p q (omega arith) (omega arith) in
+      let at_p = slice_get-get_or firsts p 0 (omega arith) in
+      let at_q = slice_get-get_or firsts q 0 (omega arith) in (
+        λ e. (are.related p q l r).0 (same.0 (same_Some (slice_index firsts p) (slice_index firsts q) (sym at_p ∙ e ∙ at_q))),
+        λ related. at_p ∙ ap (λ (c : ℕ). Some c) (same.1 ((are.related p q l r).1 related)) ∙ sym at_q,
       );
 }

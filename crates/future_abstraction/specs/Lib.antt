@@ -1,3 +1,4 @@
 pub mod FutureLaws
 pub mod Futures
 pub mod Signatures
+pub mod private

@@ -7,8 +7,9 @@ ghost use Rattle.abstraction.specs.BoundLaws.{next_key-over};
 ghost use Rattle.future_abstraction.specs.Futures.{is_related};
 ghost use Rattle.future_abstraction.specs.FutureLaws.{related-equivalence, related-finer};
 
-use abstraction::{Abstraction, Refinable};
-use minimise::{Canon, split};
+use crate::rounds::{split_again, split_first};
+use abstraction::{Abstraction, Refinable, first_states};
+use minimise::Canon;
 use std::alloc::{AllocError, Global};
 
 /// An abstraction by words of bounded length: states are related where each word of at most so many letters is accepted from both or
@@ -27,15 +28,19 @@ impl Abstraction for Futures {
     fn classes(&self, alloc: Global, a: &Canon) -> Result<Vec<usize>, AllocError> {
         let automaton = a.as_dfa();
         let none = vec![in alloc; 0; automaton.states()]?;
-        let mut classes = split(alloc, automaton, &none)?;
+        let mut older = vec![in alloc; 0; automaton.states()]?;
+        let mut classes = split_first(alloc, automaton, &none)?;
         'rounds: for _ in 0..self.bound {
-            let finer = split(alloc, automaton, &classes)?;
+            let finer = split_again(alloc, automaton, &older, &classes)?;
             if finer == classes {
-                return Ok(classes);
+                let stable = first_states(alloc, &classes)?;
+                return Ok(stable);
             }
+            older = classes;
             classes = finer;
         }
-        Ok(classes)
+        let firsts = first_states(alloc, &classes)?;
+        Ok(firsts)
     }
 
     ghost equivalence = { related-equivalence };

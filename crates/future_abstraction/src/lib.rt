@@ -4,6 +4,8 @@
 
 mod futures;
 mod laws;
+mod rounds;
+mod signature;
 
 pub use futures::Futures;
 pub use laws::related_by_signature;
