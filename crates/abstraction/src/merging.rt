@@ -9,7 +9,7 @@ ghost use Rattle.abstraction.specs.Merging.{IsOver, HaveEqualClasses, IsMerged};
 use crate::abstractions::Abstraction;
 use crate::class_automaton::class_automaton;
 use crate::class_numbers::are_single;
-use minimise::{Canon, canonical_nfa};
+use minimise::{Canon, canonical_nfa, known_canonical};
 use std::alloc::{AllocError, Global};
 
 /// The canonical automaton of `a` with the states of one class merged. There is one class for each state. Where each state is alone in its
@@ -18,7 +18,7 @@ pub fn merge(alloc: Global, a: &Canon, classes: &[usize]) -> Result<Canon, Alloc
     requires { length classes.now ≡ length a.now.states }
     ensures { IfOk result (IsAutomatonOf a.now.letters (IsMerged (HaveEqualClasses classes.now) a.now)) }
 {
-    let _canonical = a.size();
+    known_canonical(a);
     if are_single(classes) {
         return Ok(a.copy(alloc)?);
     }
@@ -35,7 +35,7 @@ pub fn merge_related<A: Abstraction>(
     requires { IsOver a.now.letters (A.key abstraction.now) }
     ensures { IfOk result (IsAutomatonOf a.now.letters (IsMerged (A.related (A.key abstraction.now) a.now) a.now)) }
 {
-    let _canonical = a.size();
+    known_canonical(a);
     let classes = abstraction.classes(alloc, a)?;
     Ok(merge(alloc, a, &classes)?)
 }

@@ -9,4 +9,4 @@ returns-then-are_single c =
     let a = c.args.a.now in
     let classes = c.args.classes.now in
     subst (IsAutomatonOf a.letters (IsMerged (HaveEqualClasses classes) a)) (sym c.in_ok-copy.ensures)
-    (automaton_alone a c.size-canonical.ensures.canonical classes c.requires (c.are_single.ensures c.if-are_single.true))
+    (automaton_alone a c.known_canonical.ensures classes c.requires (c.are_single.ensures c.if-are_single.true))

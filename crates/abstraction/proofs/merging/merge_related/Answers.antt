@@ -7,5 +7,5 @@ pub returns : goal.returns
 returns g c =
     let a = c.args.a.now in
     let related = g.A.Abstraction.related (g.A.Abstraction.key c.args.abstraction.now) a in
-    automaton_by_classes a c.size-canonical.ensures.canonical.valid related c.deref.result.now
+    automaton_by_classes a c.known_canonical.ensures.valid related c.deref.result.now
     (subst (AreClasses related (length a.states)) (sym c.deref.ensures.value) c.in_ok-classes.ensures) c.in_ok-merge.field-0 c.in_ok-merge.ensures

@@ -6,7 +6,7 @@ use Rattle.deadlock_query.proofs.Remainders.{left_by_none, left_by_more}
 use Rattle.deadlock_query.proofs.subtraction.without_all.Goals as goal
 
 pub others-init : goal.others-init
-others-init c = left_by_none c.args.words c.size-canonical.ensures.canonical
+others-init c = left_by_none c.args.words c.known_canonical.ensures
 
 pub others-preserved : goal.others-preserved
 others-preserved c =
