@@ -18,10 +18,12 @@ use word_automata::Dfa;
 /// The most rounds: where classes split in halves in each round, these are enough for every automaton that fits into memory.
 const MOST_ROUNDS: usize = 40;
 
-/// Classes of states of which any two different ones are told apart by words. Rounds end where few classes were new.
-pub fn hashed_rounds(alloc: Global, automaton: &Dfa) -> Result<Vec<usize>, AllocError>
-    ensures valid { IfOk result (λ classes. IsValid automaton.now) }
-    ensures apart { IfOk result (λ classes. AreToldApart automaton.now classes.items) }
+/// Classes of states of which any two different ones are told apart by words, and those of the round before. Rounds end where few classes
+/// were new.
+pub fn hashed_rounds(alloc: Global, automaton: &Dfa) -> Result<(Vec<usize>, Vec<usize>), AllocError>
+    ensures valid { IfOk result (λ rounds. IsValid automaton.now) }
+    ensures apart { IfOk result (λ rounds. AreToldApart automaton.now rounds.0.items) }
+    ensures before { IfOk result (λ rounds. length rounds.1.items ≡ length automaton.now.states) }
 {
     let count = automaton.states();
     let rows = rows(alloc, automaton)?;
@@ -33,10 +35,10 @@ pub fn hashed_rounds(alloc: Global, automaton: &Dfa) -> Result<Vec<usize>, Alloc
         hash_all(&rows, growth.lone(), &classes, &mut finer, &mut kept);
         std::mem::swap(&mut classes, &mut finer);
         if growth.is_over(&classes, &kept) {
-            return Ok(classes);
+            return Ok((classes, finer));
         }
     }
-    Ok(classes)
+    Ok((classes, finer))
 }
 
 /// Puts the hashes of the signatures of all states by the classes in the place of what the list has. A state whose class is known to have

@@ -23,8 +23,9 @@ pub struct Parts {
 }
 
 impl Parts {
-    /// All classes wait but class 0. Numbers are at most the number of states.
-    pub fn new(alloc: Global, classes: &[usize]) -> Result<Parts, AllocError> {
+    /// Of the parts of each coarser class but 0 all wait but the largest one, and all but class 0 of those of class 0. Numbers are at
+    /// most the number of states.
+    pub fn new(alloc: Global, classes: &[usize], coarser: &[usize]) -> Result<Parts, AllocError> {
         let count = classes.len().saturating_add(1);
         let mut parts = Parts {
             sizes: sizes(alloc, classes, count)?,
@@ -35,11 +36,31 @@ impl Parts {
             met: Vec::new(alloc),
             free: Vec::new(alloc),
         };
+        let mut largest = vec![in alloc; 0usize; count]?;
+        'sizes: for class in 1..count {
+            parts.put_largest(
+                &mut largest,
+                number_at(coarser, class.wrapping_sub(1)),
+                class,
+            );
+        }
         'classes: for class in 0..count {
             parts.targets.push(class)?;
-            parts.begin(class)?;
+            let whole = number_at(coarser, class.wrapping_sub(1));
+            if whole == 0 || number_at(&largest, whole) != class {
+                parts.begin(class)?;
+            }
         }
         Ok(parts)
+    }
+
+    /// Notes the class, a part of the coarser one, where it is the largest so far.
+    fn put_largest(&self, largest: &mut Vec<usize>, whole: usize, class: usize) {
+        let size = number_at(&self.sizes, class);
+        let known = number_at(largest, whole);
+        if size != 0 && (known == 0 || size > number_at(&self.sizes, known)) {
+            put(largest, whole, class);
+        }
     }
 
     /// The class waits where it has a state, and else its number is free.

@@ -23,12 +23,13 @@ use word_automata::Dfa;
 pub fn classes(alloc: Global, automaton: &Dfa) -> Result<Vec<usize>, AllocError>
     ensures { IfOk result (λ classes. AreLanguageClasses automaton.now classes.items) }
 {
-    let hashed = hashed_rounds(alloc, automaton)?;
+    let (hashed, before) = hashed_rounds(alloc, automaton)?;
     let classes = by_least_states(alloc, automaton, &hashed)?;
     if is_stable(alloc, automaton, &classes)? {
         return Ok(classes);
     }
-    split_further(alloc, automaton, classes)
+    let coarser = by_least_states(alloc, automaton, &before)?;
+    split_further(alloc, automaton, classes, &coarser)
 }
 
 /// The same classes from coarser ones, refined by splitters.
@@ -36,12 +37,13 @@ fn split_further(
     alloc: Global,
     automaton: &Dfa,
     coarse: Vec<usize>,
+    coarser: &[usize],
 ) -> Result<Vec<usize>, AllocError>
     requires valid { IsValid automaton.now }
     requires coarse { AreCoarse automaton.now coarse.items }
     ensures { IfOk result (λ classes. AreLanguageClasses automaton.now classes.items) }
 {
-    let refined = refine(alloc, automaton, coarse)?;
+    let refined = refine(alloc, automaton, coarse, coarser)?;
     let classes = by_least_states(alloc, automaton, &refined)?;
     if is_stable(alloc, automaton, &classes)? {
         return Ok(classes);
@@ -91,24 +93,9 @@ fn signature_of(
     requires state { state < length automaton.now.states }
     ensures { IfOk result (λ signature. signature ≡ signature_of automaton.now classes.now state) }
 {
-    let edges = live_edges(alloc, automaton, classes, state)?;
+    let mut edges = Vec::with_capacity(alloc, automaton.edges_from(state).len())?;
+    put_live_edges(&mut edges, automaton, classes, state)?;
     Ok(Signature::new(classes[state], automaton.accepting(state), edges))
-}
-
-/// The letters of the state that lead to classes other than 0, each with the class.
-fn live_edges(
-    alloc: Global,
-    automaton: &Dfa,
-    classes: &[usize],
-    state: usize,
-) -> Result<Vec<(u32, usize)>, AllocError>
-    requires count { length classes.now ≡ length automaton.now.states }
-    requires state { state < length automaton.now.states }
-    ensures { IfOk result (λ live. live.items ≡ filter_map (live_edge classes.now) (edges_of automaton.now.states state)) }
-{
-    let mut live = Vec::with_capacity(alloc, automaton.edges_from(state).len())?;
-    put_live_edges(&mut live, automaton, classes, state)?;
-    Ok(live)
 }
 
 /// Puts the letters of the state that lead to classes other than 0, each with the class, in the place of what the list has.

@@ -17,13 +17,18 @@ use word_automata::Dfa;
 
 /// Finer classes of states of which any two different ones are told apart by words. That states in one class accept the same words is
 /// no clause: a pass over the classes sees it afterwards.
-pub fn refine(alloc: Global, automaton: &Dfa, coarse: Vec<usize>) -> Result<Vec<usize>, AllocError>
+pub fn refine(
+    alloc: Global,
+    automaton: &Dfa,
+    coarse: Vec<usize>,
+    coarser: &[usize],
+) -> Result<Vec<usize>, AllocError>
     requires valid { IsValid automaton.now }
     requires coarse { AreCoarse automaton.now coarse.items }
     ensures { IfOk result (λ classes. AreToldApart automaton.now classes.items) }
 {
     let incoming = Incoming::new(alloc, automaton)?;
-    let mut parts = Parts::new(alloc, &coarse)?;
+    let mut parts = Parts::new(alloc, &coarse, coarser)?;
     let mut members = members(alloc, &coarse)?;
     let mut classes = coarse;
     let mut found = Vec::new(alloc);
