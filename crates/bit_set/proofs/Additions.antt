@@ -1,10 +1,10 @@
 -- What comes to the elements of a list one by one.
-use Rattle.std.proofs.Common.{◌≡◌, ◌<◌, ◌≤◌, ◌+◌, ◌*◌, ◌⊎◌, [], ℕ, List, Contains, length, get_or, set, subst, inl, inr, refl, sym, ap, ◌∙◌, arith}
+use Rattle.std.proofs.Common.{◌≡◌, ◌↔◌, ◌<◌, ◌≤◌, ◌+◌, ◌*◌, ◌⊎◌, [], ℕ, List, Contains, length, get_or, set, subst, inl, inr, refl, sym, ap, ◌∙◌, arith}
 use Rattle.std.proofs.lemmas.Bool.{cases_eq, cases_lt}
 use Rattle.std.proofs.lemmas.List.{get_or-set_same, get_or-set_other, get_or_default, get_or_past, length-set}
 use Rattle.std.proofs.lemmas.List.Elements.{Contains-get_or}
 use Rattle.bit_set.specs.Bits.{Has}
-use Rattle.bit_set.specs.SetLists.{HasAt, HasRoom, Adds, AddsNumbers}
+use Rattle.bit_set.specs.SetLists.{HasAt, HasRoom, IsInTable, Adds, AddsNumbers}
 
 module _ {X Y : Type 0} (In Room : List X → ℕ → Y → Type 0) where
   -- nothing was added yet
@@ -80,26 +80,19 @@ get_or-set_cases old place x d at within = elim (cases_eq at place) [
 ]
 
 -- one number comes to the set at a place
-pub adds_number : (old : List (List ℕ)) (place number : ℕ) (row : List ℕ) → place < length old
+pub adds_one : (Room : List (List ℕ) → ℕ → ℕ → Type 0) (old : List (List ℕ)) (place number : ℕ) (row : List ℕ) → place < length old
     → ((k : ℕ) → Has row k → Has (get_or old place []) k ⊎ (k ≡ number)) → ((k : ℕ) → Has (get_or old place []) k → Has row k)
-    → (number < 64 * length (get_or old place []) → Has row number) → length row ≡ length (get_or old place [])
-    → AddsNumbers (λ k x. (k ≡ place) × (x ≡ number)) old (set old place row)
-adds_number old place number row within only kept added room = record {
+    → (Room old place number → Has row number) → ((at y : ℕ) → Room (set old place row) at y ↔ Room old at y)
+    → Adds HasAt Room (λ k x. (k ≡ place) × (x ≡ number)) old (set old place row)
+adds_one Room old place number row within only kept added room = record {
   count = length-set old place row;
-  room = λ at y. elim (get_or-set_cases old place row [] at within) [
-    | inl here ↦
-        let e : length (get_or (set old place row) at []) ≡ length (get_or old at []) = ap length here.1 ∙ room ∙ ap (λ k. length (get_or old k [])) (sym here.0) in
-        ((λ h. omega arith), (λ h. omega arith))
-    | inr other ↦ let e : length (get_or (set old place row) at []) ≡ length (get_or old at []) = ap length other.0 in ((λ h. omega arith), (λ h. omega arith))
-  ];
+  room = room;
   kept = λ at y h. elim (get_or-set_cases old place row [] at within) [
     | inl here ↦ subst (λ s. Has s y) (sym here.1) (kept y (subst (λ k. HasAt old k y) here.0 h))
     | inr other ↦ subst (λ s. Has s y) (sym other.0) h
   ];
   added = λ at y is fits. elim (get_or-set_cases old place row [] at within) [
-    | inl here ↦
-        let here_fits : number < 64 * length (get_or old place []) = subst (λ k. k < 64 * length (get_or old place [])) is.1 (subst (λ k. HasRoom old k y) is.0 fits) in
-        subst (λ s. Has s y) (sym here.1) (subst (Has row) (sym is.1) (added here_fits))
+    | inl here ↦ subst (λ s. Has s y) (sym here.1) (subst (Has row) (sym is.1) (added (subst (Room old place) is.1 (subst (λ k. Room old k y) is.0 fits))))
     | inr other ↦ absurd (other.1 is.0)
   ];
   only = λ at y h. elim (get_or-set_cases old place row [] at within) [
@@ -111,6 +104,34 @@ adds_number old place number row within only kept added room = record {
   ];
 }
 
+-- where the set has room for it
+pub adds_number : (old : List (List ℕ)) (place number : ℕ) (row : List ℕ) → place < length old
+    → ((k : ℕ) → Has row k → Has (get_or old place []) k ⊎ (k ≡ number)) → ((k : ℕ) → Has (get_or old place []) k → Has row k)
+    → (number < 64 * length (get_or old place []) → Has row number) → length row ≡ length (get_or old place [])
+    → AddsNumbers (λ k x. (k ≡ place) × (x ≡ number)) old (set old place row)
+adds_number old place number row within only kept added room =
+    adds_one HasRoom old place number row within only kept added
+    (λ at y. elim (get_or-set_cases old place row [] at within) [
+      | inl here ↦
+          let e : length (get_or (set old place row) at []) ≡ length (get_or old at []) = ap length here.1 ∙ room ∙ ap (λ k. length (get_or old k [])) (sym here.0) in
+          ((λ h. omega arith), (λ h. omega arith))
+      | inr other ↦ let e : length (get_or (set old place row) at []) ≡ length (get_or old at []) = ap length other.0 in ((λ h. omega arith), (λ h. omega arith))
+    ])
+
+-- where the set has got room for it
+pub adds_with_room : (words : ℕ) (old : List (List ℕ)) (place number : ℕ) (was wide row : List ℕ) → place < length old → was ≡ get_or old place was
+    → ((k : ℕ) → Has wide k ↔ Has was k) → words ≤ length wide
+    → ((k : ℕ) → Has row k → Has wide k ⊎ (k ≡ number)) → ((k : ℕ) → Has wide k → Has row k) → (number < 64 * length wide → Has row number)
+    → Adds HasAt (IsInTable words) (λ k x. (k ≡ place) × (x ≡ number)) old (set old place row)
+adds_with_room words old place number was wide row within is same fits only kept added =
+    let e : was ≡ get_or old place [] = is ∙ get_or_default old place was [] within in
+    let count = length-set old place row in
+    adds_one (IsInTable words) old place number row within
+    (λ k has. elim (only k has) [ inl before ↦ inl (subst (λ s. Has s k) e ((same k).0 before)) | inr new ↦ inr new ])
+    (λ k has. kept k ((same k).1 (subst (λ s. Has s k) (sym e) has)))
+    (λ room. added (let l = room.1 in omega arith))
+    (λ at y. ((λ h. ((let l = h.0 in omega arith), h.1)), (λ h. ((let l = h.0 in omega arith), h.1))))
+
 -- told of the set as it was read
 pub adds_number_at : (old : List (List ℕ)) (place number : ℕ) (was row : List ℕ) → place < length old → was ≡ get_or old place was
     → ((k : ℕ) → Has row k → Has was k ⊎ (k ≡ number)) → ((k : ℕ) → Has was k → Has row k)
@@ -121,7 +142,18 @@ adds_number_at old place number was row within is only kept added room =
     adds_number old place number row within (λ k has. subst (λ s. Has s k ⊎ (k ≡ number)) e (only k has)) (λ k has. kept k (subst (λ s. Has s k) (sym e) has))
     (λ l. added (subst (λ s. number < 64 * length s) (sym e) l)) (room ∙ ap length e)
 
--- nothing comes to a place past the sets
+-- nothing comes to a place past the sets, which is in no table of them
+pub adds_past_table : (words : ℕ) (old : List (List ℕ)) (place number : ℕ) → length old ≤ place
+    → Adds HasAt (IsInTable words) (λ k x. (k ≡ place) × (x ≡ number)) old old
+adds_past_table words old place number past = record {
+  count = refl;
+  room = λ at y. ((λ h. h), (λ h. h));
+  kept = λ at y h. h;
+  added = λ at y told fits. absurd (let s = told.0 in let l = fits.0 in omega arith);
+  only = λ at y h. inl h;
+}
+
+-- nor has it room
 pub adds_past : (old : List (List ℕ)) (place number : ℕ) → length old ≤ place → AddsNumbers (λ k x. (k ≡ place) × (x ≡ number)) old old
 adds_past old place number past = record {
   count = refl;

@@ -35,16 +35,20 @@ empty_none bound = record {
   room = λ k l. absurd (omega arith);
 }
 
+pub none_more : (sets : List (List ℕ)) (empty : List ℕ) → ((k number : ℕ) → HasAt sets k number → ⊥) → ((k : ℕ) → Has empty k → ⊥)
+    → (k number : ℕ) → HasAt (sets ++ empty ∷ []) k number → ⊥
+none_more sets empty before none k number has = elim (cases_lt k (length sets)) [
+  | inl earlier ↦ before k number (subst (λ s. Has s number) (get_or_append_left sets (empty ∷ []) [] k earlier) has)
+  | inr past ↦
+      let end : length sets ≡ k = (let l = HasAt-within (sets ++ empty ∷ []) k number has in let e = length_push sets empty in omega arith) in
+      none number (subst (λ s. Has s number) (get_or_push sets empty [] k end) has)
+]
+
 pub empty_more : (amount bound : ℕ) (sets : List (List ℕ)) (empty : List ℕ) → AreEmpty amount bound sets → ((k : ℕ) → Has empty k → ⊥) → length empty ≡ bound / 64 + 1
     → AreEmpty (amount + 1) bound (sets ++ empty ∷ [])
 empty_more amount bound sets empty before none room = record {
   count = length_push sets empty ∙ ap (λ k. k + 1) before.count;
-  none = λ k number has. elim (cases_lt k (length sets)) [
-    | inl earlier ↦ before.none k number (subst (λ s. Has s number) (get_or_append_left sets (empty ∷ []) [] k earlier) has)
-    | inr past ↦
-        let end : length sets ≡ k = (let l = HasAt-within (sets ++ empty ∷ []) k number has in let e = length_push sets empty in omega arith) in
-        none number (subst (λ s. Has s number) (get_or_push sets empty [] k end) has)
-  ];
+  none = none_more sets empty before.none none;
   room = λ k l. elim (cases_lt k (length sets)) [
     | inl earlier ↦ ap length (get_or_append_left sets (empty ∷ []) [] k earlier) ∙ before.room k (let e = before.count in omega arith)
     | inr past ↦

@@ -10,6 +10,10 @@ HasAt sets k number = Has (slice_index_or sets k []) number
 abbrev pub HasRoom : List (List ℕ) → ℕ → ℕ → Type 0
 HasRoom sets k number = number < 64 * length (slice_index_or sets k [])
 
+-- there is a set at place k, and so many words have a bit for the number
+abbrev pub IsInTable : ℕ → List (List ℕ) → ℕ → ℕ → Type 0
+IsInTable words sets k number = (k < length sets) × (number < 64 * words)
+
 -- what is told by Added comes to what was in the elements of the list, as far as there is room for it
 pub record Adds {X Y : Type 0} (In Room : List X → ℕ → Y → Type 0) (Added : ℕ → Y → Type 0) (old new : List X) : Type 0 where
   pub count : length new ≡ length old

@@ -15,7 +15,7 @@ ghost use Rattle.bit_set.specs.Digest.{digest};
 ghost use Rattle.bit_set.specs.private.Words.{HasBit, IsWordOfAll};
 
 use crate::words::{common_bits, digest, has_bit, is_part, lowest_bit, with_bit, without_bit};
-pub use set_lists::{empty_sets, insert_at};
+pub use set_lists::{empty_sets, insert_at, insert_with_room, sets_without_room};
 use std::alloc::{AllocError, Global};
 use std::hash::{Hash, Hasher};
 use std::marker::Model;
@@ -45,6 +45,30 @@ impl BitSet {
         Ok(BitSet {
             words: vec![in alloc; 0u64; count / 64 + 1]?,
         })
+    }
+
+    /// No number, and room for none. It takes no memory.
+    pub fn without_room(alloc: Global) -> BitSet
+        ensures { (k : ℕ) → Has result k → ⊥ }
+    {
+        BitSet {
+            words: Vec::new(alloc),
+        }
+    }
+
+    /// Makes room for the numbers that the empty set has room for, as a copy of it where there is none. `AllocError` where memory runs out.
+    pub fn make_room(&mut self, alloc: Global, empty: &BitSet) -> Result<(), AllocError>
+        requires { (k : ℕ) → Has empty.now k → ⊥ }
+        ensures same { OnOk result ((k : ℕ) → Has self.new k ↔ Has self.old k) }
+        ensures room { OnOk result (length empty.now ≤ length self.new) }
+    {
+        if self.words.len() >= empty.words.len() {
+            return Ok(());
+        }
+        let mut wide = empty.copy(alloc)?;
+        wide.add_all(self);
+        *self = wide;
+        Ok(())
     }
 
     /// Whether the set has the number.

@@ -1,8 +1,9 @@
-//! Lists of sets of numbers, all with room for numbers below a bound. A call takes time linear in the words that it makes.
+//! Lists of sets of numbers, with room for the numbers below a bound from the start or from the first number of a set on. A call takes
+//! time linear in the words that it makes.
 
-ghost use Rattle.std.specs.Prelude.{◌≡◌, ◌+◌, ◌/◌, ℕ, IfOk, length};
+ghost use Rattle.std.specs.Prelude.{◌≡◌, ◌+◌, ◌/◌, ℕ, IfOk, OnOk, length};
 ghost use Rattle.bit_set.specs.Bits.{Has};
-ghost use Rattle.bit_set.specs.SetLists.{AddsNumbers, AreEmpty};
+ghost use Rattle.bit_set.specs.SetLists.{Adds, AddsNumbers, AreEmpty, HasAt, IsInTable};
 
 use crate::BitSet;
 use std::alloc::{AllocError, Global};
@@ -26,6 +27,39 @@ fn copies(alloc: Global, none: &BitSet, count: usize) -> Result<Vec<BitSet>, All
         sets.push(set)?;
     }
     Ok(sets)
+}
+
+/// So many empty sets without room, which take no memory of their own.
+pub fn sets_without_room(alloc: Global, count: usize) -> Result<Vec<BitSet>, AllocError>
+    ensures count { IfOk result (λ sets. length sets.items ≡ count) }
+    ensures none { IfOk result (λ sets. (k number : ℕ) → HasAt sets.items k number → ⊥) }
+{
+    let mut sets = Vec::with_capacity(alloc, count)?;
+    'sets: for _ in 0..count {
+        sets.push(BitSet::without_room(alloc))?;
+    }
+    Ok(sets)
+}
+
+/// Adds the number to the set at the place, if it is there and has room once it has that of the empty set. `AllocError` where memory runs
+/// out.
+pub fn insert_with_room(
+    alloc: Global,
+    sets: &mut Vec<BitSet>,
+    empty: &BitSet,
+    place: usize,
+    number: usize,
+) -> Result<(), AllocError>
+    requires { (k : ℕ) → Has empty.now k → ⊥ }
+    ensures { OnOk result (Adds HasAt (IsInTable (length empty.now)) (λ k x. (k ≡ place) × (x ≡ number)) sets.old.items sets.new.items) }
+{
+    if place >= sets.len() {
+        return Ok(());
+    }
+    let set: &mut BitSet = &mut sets[place];
+    set.make_room(alloc, empty)?;
+    set.insert(number);
+    Ok(())
 }
 
 /// Adds the number to the set at the place, if it is there and has room.

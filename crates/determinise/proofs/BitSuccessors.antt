@@ -1,5 +1,5 @@
 -- The successors of a set of bits, letter by letter.
-use Rattle.std.proofs.Common.{◌≡◌, ◌+◌, ◌<◌, ◌↔◌, ℕ, suc, List, [], ◌∷◌, ◌++◌, None, Some, Contains, length, drop, get_or, sym, subst, ◌∙◌, inl, inr, arith, add-one, drop-cons}
+use Rattle.std.proofs.Common.{◌≡◌, ◌+◌, ◌/◌, ◌<◌, ◌↔◌, ℕ, suc, List, [], ◌∷◌, ◌++◌, None, Some, Contains, length, drop, get_or, sym, subst, ◌∙◌, inl, inr, arith, add-one, drop-cons}
 use Rattle.std.proofs.lemmas.Bool.{cases_eq, cases_lt}
 use Rattle.std.proofs.lemmas.List.{drop_all}
 use Rattle.std.proofs.lemmas.List.Elements.{All-nil, All-push}
@@ -11,7 +11,7 @@ use Rattle.exploration.specs.DeterministicSystem.{look_up}
 use Rattle.exploration.specs.Residuals.{AreResiduals}
 use Rattle.exploration.proofs.ForCallers.{look_up-above, look_up-push_same, look_up-push_other}
 use Rattle.bit_set.specs.Bits.{Has}
-use Rattle.bit_set.specs.SetLists.{AddsNumbers, AreEmpty}
+use Rattle.bit_set.specs.SetLists.{Adds, HasAt, IsInTable}
 use Rattle.reduction.specs.Reduction.{KeepsStarts}
 use Rattle.reduction.proofs.ForCallers.{kept_accept}
 use Rattle.determinise.specs.private.Subsets.{IsSubset, IsPlain}
@@ -20,18 +20,18 @@ use Rattle.determinise.proofs.Grouping.{increasing-push, letter_within}
 use Rattle.determinise.proofs.Members.{members_has}
 
 -- for each letter the targets of the edges of the states
-pub targets_all : (n : NondeterministicAutomaton) (set states : List ℕ) (none rows : List (List ℕ)) → IsSubset n (members set) → ((k : ℕ) → Contains states k ↔ Has set k)
-    → AreEmpty n.letters (length n.states) none → AddsNumbers (λ a q. (p : ℕ) × Contains states p × Contains (edges_of n.states p) (Some a, q)) none rows → AreTargets n set rows
-targets_all n set states none rows subset are empty adds = record {
-  count = adds.count ∙ empty.count;
+pub targets_all : (n : NondeterministicAutomaton) (words : ℕ) (set states : List ℕ) (sets rows : List (List ℕ)) → IsSubset n (members set)
+    → ((k : ℕ) → Contains states k ↔ Has set k) → words ≡ length n.states / 64 + 1 → length sets ≡ n.letters → ((k number : ℕ) → HasAt sets k number → ⊥)
+    → Adds HasAt (IsInTable words) (λ a q. (p : ℕ) × Contains states p × Contains (edges_of n.states p) (Some a, q)) sets rows → AreTargets n set rows
+targets_all n words set states sets rows subset are room count none adds = record {
+  count = adds.count ∙ count;
   steps = λ a. record {
     targets = λ p q there edge.
         let letter = letter_within n subset.in_range p a q edge in
         let state = move_within n subset.in_range p q (Some a) edge in
-        let room = empty.room a letter in
-        (members_has (get_or rows a []) q).1 (adds.added a q (p, (are p).1 ((members_has set p).0 there), edge) (omega arith));
+        (members_has (get_or rows a []) q).1 (adds.added a q (p, (are p).1 ((members_has set p).0 there), edge) ((let e = count in omega arith), omega arith));
     only_targets = λ q there. elim (adds.only a q ((members_has (get_or rows a []) q).0 there)) [
-      | inl before ↦ absurd (empty.none a q before)
+      | inl before ↦ absurd (none a q before)
       | inr target ↦ (target.0, (members_has set target.0).1 ((are target.0).0 target.1), target.2)
     ];
   };

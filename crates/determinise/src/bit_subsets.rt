@@ -1,19 +1,19 @@
 //! The system of the sets of states of an automaton without edges without a letter, a bit for each state: a letter leads from a set to
 //! the set of all its targets. The successors of a set cost the edges that leave its states, and the words of a set for each letter.
 
-ghost use Rattle.std.specs.Prelude.{◌≡◌, ◌+◌, ◌↔◌, ℕ, List, Some, Contains, IsTrue, IfOk, OnOk};
+ghost use Rattle.std.specs.Prelude.{◌≡◌, ◌+◌, ◌/◌, ◌↔◌, ℕ, List, Some, Contains, IsTrue, IfOk, OnOk, length};
 ghost use Rattle.std.specs.Cmp.Lexicographic.{bytes_decides};
 ghost use Rattle.word_automata.specs.Path.{is_accepting};
 ghost use Rattle.word_automata.specs.Nondeterministic.{Accepts, AcceptsFromAny};
 ghost use Rattle.word_automata.specs.StateSets.{AreStates, IsStep};
 ghost use Rattle.bit_set.specs.Bits.{Has};
-ghost use Rattle.bit_set.specs.SetLists.{AddsNumbers};
+ghost use Rattle.bit_set.specs.SetLists.{Adds, HasAt, IsInTable};
 ghost use Rattle.reduction.specs.Simulation.{AreIncluded};
 ghost use Rattle.determinise.specs.private.Subsets.{IsSubset, IsPlain};
 ghost use Rattle.determinise.specs.private.BitSubsets.{members, AreTargets, AreSuccessorsBelow};
 
 use crate::above::StatesAbove;
-use bit_set::{BitSet, empty_sets, insert_at};
+use bit_set::{BitSet, insert_with_room, sets_without_room};
 use exploration::LanguageSystem;
 use reduction::StatePairs;
 use std::alloc::{AllocError, Global};
@@ -25,8 +25,12 @@ pub struct BitSubsets<'a> {
     automaton: &'a Nfa,
     above: StatesAbove,
     accepting: BitSet,
+    /// No state, with room for all.
+    empty: BitSet,
     ghost plain: { (p : ℕ) → IsPlain automaton.now p },
     ghost included: { AreIncluded automaton.now above.pairs.items },
+    ghost none: { (q : ℕ) → Has empty q → ⊥ },
+    ghost room: { length empty ≡ length automaton.now.states / 64 + 1 },
     ghost exact: { (q : ℕ) → Has accepting q ↔ IsTrue (is_accepting automaton.now.states q) },
 }
 
@@ -43,10 +47,12 @@ impl<'a> BitSubsets<'a> {
     {
         let above = StatesAbove::new(alloc, pairs, automaton.states())?;
         let accepting = accepting_states(alloc, automaton)?;
+        let empty = BitSet::new(alloc, automaton.states())?;
         Ok(BitSubsets {
             automaton,
             above,
             accepting,
+            empty,
         })
     }
 
@@ -57,9 +63,14 @@ impl<'a> BitSubsets<'a> {
     {
         let states = set.numbers(alloc)?;
         let letters = self.automaton.letters() as usize;
-        let mut rows = empty_sets(alloc, letters, self.automaton.states())?;
+        let mut rows = sets_without_room(alloc, letters)?;
         'states: for state in &states {
-            add_targets(&mut rows, self.automaton.edges_from(*state));
+            add_targets(
+                alloc,
+                &mut rows,
+                &self.empty,
+                self.automaton.edges_from(*state),
+            )?;
         }
         Ok(rows)
     }
@@ -111,15 +122,23 @@ fn set_of(alloc: Global, automaton: &Nfa, states: &[usize]) -> Result<BitSet, Al
     Ok(set)
 }
 
-/// Adds the targets of the edges to the sets of their letters.
-fn add_targets(rows: &mut Vec<BitSet>, edges: &[(Option<u32>, usize)])
-    ensures { AddsNumbers (λ a q. Contains edges.now (Some a, q)) rows.old.items rows.new.items }
+/// Adds the targets of the edges to the sets of their letters, which get the room of the empty set with the first one.
+fn add_targets(
+    alloc: Global,
+    rows: &mut Vec<BitSet>,
+    empty: &BitSet,
+    edges: &[(Option<u32>, usize)],
+) -> Result<(), AllocError>
+    requires { (k : ℕ) → Has empty.now k → ⊥ }
+    ensures { OnOk result (Adds HasAt (IsInTable (length empty.now)) (λ a q. Contains edges.now (Some a, q))
+        rows.old.items rows.new.items) }
 {
     'edges: for &(letter, to) in edges {
         if let Some(letter) = letter {
-            insert_at(rows, letter as usize, to);
+            insert_with_room(alloc, rows, empty, letter as usize, to)?;
         }
     }
+    Ok(())
 }
 
 impl<'a> LanguageSystem for BitSubsets<'a> {

@@ -1,8 +1,8 @@
-use Rattle.std.proofs.Common.{◌<◌, ◌↔◌, ℕ, List, Some, Contains, length, get_or, sym, subst, arith}
+use Rattle.std.proofs.Common.{◌<◌, ◌↔◌, ℕ, List, Some, Contains, length, get_or, sym, subst, ◌∙◌, arith}
 use Rattle.std.proofs.lemmas.List.Elements.{All-contains, Contains-get_or}
 use Rattle.word_automata.specs.Path.{edges_of}
 use Rattle.bit_set.specs.Bits.{Has}
-use Rattle.bit_set.specs.SetLists.{HasAt, HasRoom, AddsNumbers, AreEmpty}
+use Rattle.bit_set.specs.SetLists.{Adds, HasAt, IsInTable}
 use Rattle.bit_set.proofs.ForCallers.{adds_first, adds_more, adds_all}
 use Rattle.determinise.specs.private.BitSubsets.{members}
 use Rattle.determinise.proofs.BitSuccessors.{targets_all}
@@ -12,7 +12,7 @@ use Rattle.determinise.proofs.bit_subsets.BitSubsets.targets.Goals as goal
 pub states-init : goal.states-init
 states-init c =
     let n = c.args.self.now.automaton.now in
-    adds_first HasAt HasRoom (λ m a q. Contains (edges_of n.states (get_or c.deref-state-items.result.now m 0)) (Some a, q)) c.in_ok-rows.rows.items
+    adds_first HasAt (IsInTable (length c.args.self.now.empty)) (λ m a q. Contains (edges_of n.states (get_or c.deref-state-items.result.now m 0)) (Some a, q)) c.in_ok-rows.rows.items
 
 pub edges_from-requires : goal.edges_from-requires
 edges_from-requires c =
@@ -27,17 +27,17 @@ pub states-preserved : goal.states-preserved
 states-preserved c =
     let n = c.args.self.now.automaton.now in
     let listed = c.deref-state-items.result.now in
-    adds_more HasAt HasRoom (λ m a q. Contains (edges_of n.states (get_or listed m 0)) (Some a, q)) c.states.state-index c.in_ok-rows.rows.items
+    adds_more HasAt (IsInTable (length c.args.self.now.empty)) (λ m a q. Contains (edges_of n.states (get_or listed m 0)) (Some a, q)) c.states.state-index c.in_ok-rows.rows.items
     c.states.rows.items c.add_targets.new.rows.items c.states.invariant
-    (subst (λ edges. AddsNumbers (λ a q. Contains edges (Some a, q)) c.states.rows.items c.add_targets.new.rows.items) c.edges_from.ensures.edges c.add_targets.ensures)
+    (subst (λ edges. Adds HasAt (IsInTable (length c.args.self.now.empty)) (λ a q. Contains edges (Some a, q)) c.states.rows.items c.add_targets.new.rows.items)
+    c.edges_from.ensures.edges c.in_ok-add_targets.ensures)
 
 pub returns : goal.returns
 returns c =
     let n = c.args.self.now.automaton.now in
     let listed = c.deref-state-items.result.now in
     let are = subst (λ (xs : List ℕ). (k : ℕ) → Contains xs k ↔ Has c.args.set.now k) (sym c.deref-state-items.ensures.value) c.in_ok-states.ensures in
-    let empty = subst (λ k. AreEmpty n.letters k c.in_ok-rows.rows.items) c.states-2.ensures.count
-    (subst (λ k. AreEmpty k c.states-2.result c.in_ok-rows.rows.items) c.letters-letters.ensures c.in_ok-rows.ensures) in
-    targets_all n c.args.set.now listed c.in_ok-rows.rows.items c.states.rows.items c.requires are empty
-    (adds_all HasAt HasRoom (λ p a q. Contains (edges_of n.states p) (Some a, q)) listed 0 c.states.state-index c.in_ok-rows.rows.items c.states.rows.items
-    (let t = c.states-test.false in omega arith) c.states.invariant)
+    targets_all n (length c.args.self.now.empty) c.args.set.now listed c.in_ok-rows.rows.items c.states.rows.items c.requires are c.args.self.now.room
+    (c.in_ok-rows.ensures.count ∙ c.letters-letters.ensures) c.in_ok-rows.ensures.none
+    (adds_all HasAt (IsInTable (length c.args.self.now.empty)) (λ p a q. Contains (edges_of n.states p) (Some a, q)) listed 0 c.states.state-index
+    c.in_ok-rows.rows.items c.states.rows.items (let t = c.states-test.false in omega arith) c.states.invariant)
