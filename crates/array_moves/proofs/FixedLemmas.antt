@@ -35,7 +35,6 @@ module _ (letters offset count n : ℕ) (fits : offset + count ≤ letters) wher
   exchange_in_range x y to hx hy ht = record {
     read_in_range = omega arith;
     write_in_range = omega arith;
-    reads_or_writes = inl refl;
     target_in_range = ht;
   }
 

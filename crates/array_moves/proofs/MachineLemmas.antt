@@ -282,7 +282,6 @@ module _ (f t : ℕ) (guards : List Guard) (table : List (ℕ × ℕ)) (offset c
         let here : IsEdge letters (length states) (exchange (l.0 + offset) (l.1 + offset), edge.1) = record {
           read_in_range = read;
           write_in_range = write;
-          reads_or_writes = inl refl;
           target_in_range = target_of_edge p edge h;
         } in
         subst (λ label. IsEdge letters (length states) (label, edge.1)) (sym l.4) here

@@ -144,7 +144,6 @@ cut_edges_in_range letters offset count (a ∷ set) fits h =
     (record {
       read_in_range = omega (arith, h.0, fits);
       write_in_range = tt;
-      reads_or_writes = inl refl;
       target_in_range = omega arith;
     })
     (cut_edges_in_range letters offset count set fits h.1)

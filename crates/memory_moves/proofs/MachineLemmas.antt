@@ -301,7 +301,6 @@ edge_from_label : (letters n to : ℕ) (label : Label) → IsLabel letters label
 edge_from_label letters n to label h lt = record {
   read_in_range = h.read_in_range;
   write_in_range = h.write_in_range;
-  reads_or_writes = h.reads_or_writes;
   target_in_range = lt;
 }
 

@@ -1,5 +1,5 @@
 -- What memory moves relate, from the words of their transducers.
-use Rattle.std.proofs.Common.{◌≡◌, ℕ, ◌+◌, ◌<◌, ◌≤◌, List, [], ◌∷◌, ◌++◌, map, Option, Some, None, refl, sym, ap, ◌∙◌, subst, arith, inl, inr, All}
+use Rattle.std.proofs.Common.{◌≡◌, ℕ, ◌+◌, ◌<◌, ◌≤◌, List, [], ◌∷◌, ◌++◌, map, Option, Some, None, refl, sym, ap, ◌∙◌, subst, arith, All}
 use Rattle.std.proofs.lemmas.List.{append-nil, map-append}
 use Rattle.std.proofs.lemmas.List.Elements.{All-nil, All-cons, All-append}
 use Rattle.transducers.specs.Combination.{exchange}
@@ -13,10 +13,10 @@ use Rattle.memory_moves.specs.private.Machine.{IsLabel, IsCopiedBetween, reading
 
 -- labels in range
 IsLabel-reading : (letters a : ℕ) → a < letters → IsLabel letters (reading a)
-IsLabel-reading letters a h = record { read_in_range = h; write_in_range = tt; reads_or_writes = inl refl }
+IsLabel-reading letters a h = record { read_in_range = h; write_in_range = tt }
 
 IsLabel-writing : (letters a : ℕ) → a < letters → IsLabel letters (writing a)
-IsLabel-writing letters a h = record { read_in_range = tt; write_in_range = h; reads_or_writes = inr refl }
+IsLabel-writing letters a h = record { read_in_range = tt; write_in_range = h }
 
 All-single : {X : Type 0} (P : X → Type 0) (x : X) → P x → All P (x ∷ [])
 All-single P x h = All-cons P x [] h (All-nil P)

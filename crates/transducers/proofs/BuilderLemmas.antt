@@ -19,7 +19,6 @@ pub IsEdge-more : (letters n m : ℕ) (edge : Label × ℕ) → n ≤ m → IsEd
 IsEdge-more letters n m edge h e = record {
   read_in_range = e.read_in_range;
   write_in_range = e.write_in_range;
-  reads_or_writes = e.reads_or_writes;
   target_in_range = omega (arith, e.target_in_range);
 }
 

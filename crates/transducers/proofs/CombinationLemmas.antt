@@ -27,7 +27,6 @@ module _ (t : Transducer) (n m : ℕ) (valid : IsValid t) (fits : length t.state
       (λ e g. record {
         read_in_range = g.read_in_range;
         write_in_range = g.write_in_range;
-        reads_or_writes = g.reads_or_writes;
         target_in_range = omega (arith, g.target_in_range, fits);
       }) node.edges h))
       t.states valid.edges_in_range)
@@ -146,7 +145,6 @@ IsValid-inverse t valid =
     (λ e g. record {
       read_in_range = g.write_in_range;
       write_in_range = g.read_in_range;
-      reads_or_writes = elim g.reads_or_writes [ inl r ↦ inr r | inr w ↦ inl w ];
       target_in_range = g.target_in_range;
     }) node.edges h))
     t.states valid.edges_in_range) in

@@ -26,7 +26,6 @@ IsEdge-copies letters offset count n to fits h =
     record {
       read_in_range = omega (arith, a.1, fits);
       write_in_range = omega (arith, a.1, fits);
-      reads_or_writes = inl refl;
       target_in_range = h;
     })
 

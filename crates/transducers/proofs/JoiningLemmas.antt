@@ -48,7 +48,7 @@ bridges_in_range : (accepting : Bool) (letters n separator : ℕ) (targets : Lis
 bridges_in_range true letters n separator targets below targets_below =
     All-map (IsEdge letters n) (λ to. copy_edge to separator) targets
     (All-weaker (λ q. q < n) (λ q. IsEdge letters n (copy_edge q separator))
-    (λ q h. record { read_in_range = below; write_in_range = below; reads_or_writes = inl refl; target_in_range = h }) targets targets_below)
+    (λ q h. record { read_in_range = below; write_in_range = below; target_in_range = h }) targets targets_below)
 bridges_in_range false letters n separator targets below targets_below = All-nil (IsEdge letters n)
 
 module _ (part : Transducer) (separator : ℕ) (rest : Transducer) (part_valid : IsValid part) (rest_valid : IsValid rest) where
@@ -71,7 +71,6 @@ module _ (part : Transducer) (separator : ℕ) (rest : Transducer) (part_valid :
       λ e g. subst (λ l. IsEdge l m (shifted_edge n e)) same (record {
         read_in_range = g.read_in_range;
         write_in_range = g.write_in_range;
-        reads_or_writes = g.reads_or_writes;
         target_in_range = omega (arith, g.target_in_range, part_fits);
       }) in
       let new : All (λ node. All (IsEdge rest.letters m) node.edges) (map (bridged_node n separator rest.starts) part.states) =

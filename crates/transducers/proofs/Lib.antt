@@ -5,5 +5,6 @@ mod SearchLemmas
 pub mod PathLemmas
 pub mod ExchangeLemmas
 mod CombinationLemmas
+mod IdentityLemmas
 pub mod JoiningLemmas
 pub mod CopyLemmas

@@ -1,5 +1,5 @@
--- States that are numbered anew, or whose edges are turned round.
-use Rattle.std.specs.Prelude.{ℕ, ◌+◌, List, Some, map}
+-- States that are numbered anew, whose edges are turned round, or whose edges write what they read.
+use Rattle.std.specs.Prelude.{ℕ, ◌+◌, List, Option, Some, map}
 use Rattle.std.specs.List.{range_with_len}
 use Rattle.word_automata.specs.Path.{Node}
 use Rattle.transducers.specs.declared.Label.{Label}
@@ -19,6 +19,14 @@ inverse_edge edge = (record { read = edge.0.write; write = edge.0.read }, edge.1
 -- the state with its edges turned so
 abbrev pub inverse_node : Node Label → Node Label
 inverse_node node = record { accepting = node.accepting; edges = map inverse_edge node.edges }
+
+-- the edge that reads what the automaton's edge reads, and writes it again
+abbrev pub identity_edge : Option ℕ × ℕ → Label × ℕ
+identity_edge edge = (record { read = edge.0; write = edge.0 }, edge.1)
+
+-- the automaton's state with such edges
+abbrev pub identity_node : Node (Option ℕ) → Node Label
+identity_node node = record { accepting = node.accepting; edges = map identity_edge node.edges }
 
 -- the label that reads the letter a and writes the letter b
 abbrev pub exchange : ℕ → ℕ → Label

@@ -1,5 +1,5 @@
 -- Transducers and the words that they relate.
-use Rattle.std.specs.Prelude.{◌≡◌, ◌<◌, ℕ, List, Option, IfSome, IsSome, IsTrue, ◌⊎◌, All, Contains, length}
+use Rattle.std.specs.Prelude.{◌≡◌, ◌<◌, ℕ, List, Option, IfSome, IsTrue, All, Contains, length}
 use Rattle.word_automata.specs.Path.{Node, IsPath, is_accepting, spelled}
 use Rattle.transducers.specs.declared.Label.{Label}
 
@@ -9,14 +9,13 @@ pub record Transducer : Type 0 where
   pub starts : List ℕ
   pub states : List (Node Label)
 
--- an edge of a transducer with so many letters and states: its letters and its target are in range, and it reads or writes
+-- an edge of a transducer with so many letters and states: its letters and its target are in range
 pub record IsEdge (letters states : ℕ) (edge : Label × ℕ) : Type 0 where
   pub read_in_range : IfSome edge.0.read (λ a. a < letters)
   pub write_in_range : IfSome edge.0.write (λ a. a < letters)
-  pub reads_or_writes : IsSome edge.0.read ⊎ IsSome edge.0.write
   pub target_in_range : edge.1 < states
 
--- every start state is there, and so is every edge's target, every letter is one of the transducer's, and each edge reads or writes
+-- every start state is there, and so is every edge's target, and every letter is one of the transducer's
 pub record IsValid (t : Transducer) : Type 0 where
   pub starts_in_range : All (λ q. q < length t.states) t.starts
   pub edges_in_range : All (λ node. All (IsEdge t.letters (length t.states)) node.edges) t.states

@@ -1,7 +1,7 @@
 //! Building a transducer state by state and edge by edge. The builder keeps a list of edges for each state.
 //! Each call takes constant time for each edge that it adds, on average.
 
-ghost use Rattle.std.specs.Prelude.{◌≡◌, ◌<◌, ◌⊎◌, ◌∷◌, [], All, IfSome, IsSome, IfOk, OnOk, OnErr, length};
+ghost use Rattle.std.specs.Prelude.{◌≡◌, ◌<◌, ◌∷◌, [], All, IfSome, IfOk, OnOk, OnErr, length};
 ghost use Rattle.transducers.specs.Builder.{without_states, with_state, with_start, with_edges};
 
 use crate::{Label, State, Transducer};
@@ -75,7 +75,6 @@ impl TransducerBuilder {
         requires from_in_range { from < length self.old.states }
         requires read_in_range { IfSome read (λ a. a < self.old.letters) }
         requires write_in_range { IfSome write (λ a. a < self.old.letters) }
-        requires reads_or_writes { IsSome read ⊎ IsSome write }
         requires to_in_range { to < length self.old.states }
         ensures added { OnOk result (self.new ≡ with_edges self.old from ((record { read = read; write = write }, to) ∷ [])) }
         ensures err { OnErr result (self.new ≡ self.old) }

@@ -5,6 +5,7 @@
 mod builder;
 mod combination;
 mod copies;
+mod identities;
 mod joining;
 mod search;
 
@@ -15,12 +16,13 @@ ghost use Rattle.transducers.specs.Combination.{exchange};
 pub use builder::TransducerBuilder;
 pub use combination::{either, inverse};
 pub use copies::{copy_any, copy_edges, copy_one};
+pub use identities::identity;
 pub use joining::join_sections;
 pub use search::relates;
 use std::alloc::AllocError;
 use std::marker::Model;
 
-/// What an edge reads and what it writes: a letter each, or nothing. Each edge does at least one of the two.
+/// What an edge reads and what it writes: a letter each, or nothing.
 #[derive(Clone, Copy, PartialEq, Eq, Debug)]
 pub struct Label {
     pub read: Option<u32>,
@@ -65,8 +67,8 @@ impl State {
 }
 
 /// A transducer: a number of letters, start states, and states with their edges. The letters and states that it names
-/// are in range, and each edge reads or writes. It relates the word that a path from a start state to an accepting state
-/// reads to the word that this path writes.
+/// are in range. It relates the word that a path from a start state to an accepting state reads to the word that this path
+/// writes.
 #[derive(Clone, Drop, Debug)]
 pub struct Transducer {
     letters: u32,

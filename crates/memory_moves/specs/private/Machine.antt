@@ -1,5 +1,5 @@
 -- Transducers that exchange what stands at the two ends of a word and copy what lies between, and the words that they relate.
-use Rattle.std.specs.Prelude.{◌≡◌, ℕ, ◌+◌, ◌<◌, true, false, List, [], ◌∷◌, ◌++◌, map, Option, None, Some, IfSome, IsSome, ◌⊎◌}
+use Rattle.std.specs.Prelude.{◌≡◌, ℕ, ◌+◌, ◌<◌, true, false, List, [], ◌∷◌, ◌++◌, map, Option, None, Some, IfSome}
 use Rattle.std.specs.Option.{option_to_list}
 use Rattle.word_automata.specs.Path.{Node, spelled_one}
 use Rattle.transducers.specs.declared.Label.{Label}
@@ -7,11 +7,10 @@ use Rattle.transducers.specs.Combination.{copy_edges}
 use Rattle.protocol_model.specs.System.{AllBelow}
 use Rattle.protocol_model.specs.Words.{raised}
 
--- a label over so many letters, which reads or writes
+-- a label over so many letters
 pub record IsLabel (letters : ℕ) (label : Label) : Type 0 where
   pub read_in_range : IfSome label.read (λ a. a < letters)
   pub write_in_range : IfSome label.write (λ a. a < letters)
-  pub reads_or_writes : IsSome label.read ⊎ IsSome label.write
 
 -- the label that only reads the letter, and the one that only writes it
 abbrev pub reading : ℕ → Label
