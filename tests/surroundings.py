@@ -112,9 +112,9 @@ def launcher():
             wrong.append(f"it says {found['stderr']!r}")
         wrong += [f"the folder out/ of {name} is not back" for name in ("low", "middle", "other", "top") if not tree.has(name, "rlib", "stamp")]
         wrong += ["its workspaces are left"] if tree.has("armc", "workspaces") or any(name.startswith("armc-build-") for name in os.listdir(folder)) else []
-        for name in ("low", "middle", "other", "top"):
+        for name, jobs in (("low", 2), ("middle", 1), ("other", 1), ("top", 2)):
             with open(tree.out(name, "rlib", "stamp")) as file:
-                wrong += differences({f"words for {name}": file.read()}, {f"words for {name}": "lib --jobs 2\n"})
+                wrong += differences({f"words for {name}": file.read()}, {f"words for {name}": f"lib --jobs {jobs}\n"})
         wrong += differences(tree.call("x"), {"status": 3, "stdout": "words: x\n", "stderr": "", "asked": []})
         tree.forget()
         found = tree.call("x", FAKE_FAULT="other")
