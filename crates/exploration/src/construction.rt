@@ -103,6 +103,11 @@ impl<'a, T: LanguageSystem> Exploration<'a, T> {
         })
     }
 
+    /// The states that were found, the first one first, in constant time. That these are all, and in which order, is no clause.
+    pub fn states(&self) -> &[T::State] {
+        self.found.as_slice()
+    }
+
     /// Whether all states that were found were gone through, which is no clause.
     pub fn is_done(&self) -> bool {
         self.next >= self.builder.states()
