@@ -2,37 +2,34 @@
 //! into it, without those that are unions of sets of the family. Since preimages of unions are unions of preimages, what is left out
 //! need not be gone on from. A set costs its edges, and while many are unions a comparison with sets of the family that hold its places.
 
-ghost use Rattle.std.specs.Prelude.{◌≡◌, ◌↔◌, ◌<◌, [], ℕ, IfOk, IfSome, OnOk, length, slice_index_or};
-ghost use Rattle.word_automata.specs.StateSets.{AreStates};
+ghost use Rattle.std.specs.Prelude.{◌≡◌, ◌<◌, [], ℕ, IfOk, OnOk, length, slice_index_or};
 ghost use Rattle.bit_set.specs.Bits.{Has};
 ghost use Rattle.bit_set.specs.SetLists.{AreEmpty};
 ghost use Rattle.atoms.specs.private.Adding.{IsListed};
-ghost use Rattle.atoms.specs.private.Places.{AcceptsAt, AreUsed};
-ghost use Rattle.atoms.specs.private.Family.{IsUnion, AreUnions, AddsUnion, AddsUnions, AddsPreimages, IsEmptied, Covers};
+ghost use Rattle.atoms.specs.private.Family.{IsUnion, AreUnions, AddsUnion, AddsUnions, AddsPreimages, IsEmptied};
 
 use crate::holders::Holders;
 use crate::preimages::add_preimages;
-use crate::turned_edges::{EdgesInto, edges_into};
-use bit_set::{BitSet, empty_sets};
+use crate::turned_edges::EdgesInto;
+use bit_set::BitSet;
 use indexmap::IndexSet;
 use std::alloc::{AllocError, Global};
-use word_automata::Nfa;
 
 /// So many sets are each tested for being a union. Later ones are only while more than half were unions.
 const ALWAYS_ASKED: usize = 1024;
 
 /// The sets of the family, all that were seen, each a union of these, by which sets this is told, and how many edges were looked at.
 #[derive(Drop)]
-struct Family {
-    sets: Vec<BitSet>,
-    seen: IndexSet<BitSet>,
+pub struct Family {
+    pub sets: Vec<BitSet>,
+    pub seen: IndexSet<BitSet>,
     holders: Holders,
     edges: usize,
 }
 
 impl Family {
     /// The family of one set.
-    fn new(alloc: Global, set: &BitSet, places: usize) -> Result<Family, AllocError>
+    pub fn new(alloc: Global, set: &BitSet, places: usize) -> Result<Family, AllocError>
         ensures seen { IfOk result (λ family. AreUnions family.sets.items family.seen.keys) }
         ensures union { IfOk result (λ family. IsUnion family.sets.items (Has set.now)) }
     {
@@ -81,7 +78,7 @@ impl Family {
     }
 
     /// How many edges and holders were looked at.
-    fn work(&self) -> usize {
+    pub fn work(&self) -> usize {
         self.edges.saturating_add(self.holders.asked())
     }
 
@@ -116,7 +113,7 @@ impl Family {
     }
 
     /// Adds the preimages of the set with this number. The sets, one for each letter, are empty before and after.
-    fn expand(
+    pub fn expand(
         &mut self,
         alloc: Global,
         into: &[EdgesInto],
@@ -139,46 +136,4 @@ impl Family {
         self.take_each(alloc, preimages)?;
         Ok(())
     }
-}
-
-/// A family of sets of places of which every atom of the automaton's states is a union, or `None` where more than `most` edges and sets
-/// would be looked at.
-pub fn covering_sets(
-    alloc: Global,
-    automaton: &Nfa,
-    used: &[usize],
-    most: usize,
-) -> Result<Option<Vec<BitSet>>, AllocError>
-    requires { AreUsed automaton.now used.now }
-    ensures { IfOk result (λ found. IfSome found (λ sets. Covers automaton.now used.now sets.items)) }
-{
-    let into = edges_into(alloc, automaton, used)?;
-    let accepting = accepting_places(alloc, automaton, used)?;
-    let mut preimages = empty_sets(alloc, automaton.letters() as usize + 1, used.len())?;
-    let mut family = Family::new(alloc, &accepting, used.len())?;
-    let _in_range = automaton.states();
-    let mut next = 0;
-    'sets: while next < family.sets.len() {
-        if family.work() > most {
-            return Ok(None);
-        }
-        family.expand(alloc, &into, used, &mut preimages, next)?;
-        next += 1;
-    }
-    Ok(Some(family.sets))
-}
-
-/// The places of accepting states.
-fn accepting_places(alloc: Global, automaton: &Nfa, used: &[usize]) -> Result<BitSet, AllocError>
-    requires { AreStates automaton.now used.now }
-    ensures { IfOk result (λ set. (place : ℕ) → Has set place ↔ AcceptsAt automaton.now used.now place) }
-{
-    let mut set = BitSet::new(alloc, used.len())?;
-    'places: for place in 0..used.len() {
-        if !automaton.accepting(used[place]) {
-            continue;
-        }
-        set.insert(place);
-    }
-    Ok(set)
 }

@@ -7,6 +7,8 @@ mod family;
 mod holders;
 mod preimages;
 mod rows;
+mod search;
 mod turned_edges;
 
-pub use rows::{Atoms, find_atoms};
+pub use rows::Atoms;
+pub use search::AtomSearch;

@@ -1,13 +1,13 @@
 //! The atoms by states: for each state the numbers of the sets of the family that hold it. A set of states has the numbers of its states
 //! together, and sets with the same numbers accept the same words. Making the rows takes time linear in the members of the sets.
 
-ghost use Rattle.std.specs.Prelude.{◌↔◌, ◌<◌, ℕ, List, All, Contains, IsTrue, IfOk, IfSome, length};
+ghost use Rattle.std.specs.Prelude.{◌↔◌, ◌<◌, ℕ, List, All, Contains, IsTrue, IfOk, length};
 ghost use Rattle.atoms.specs.Covers.{AreAtomsOf, IsSignature, IsWithin};
 ghost use Rattle.bit_set.specs.SetLists.{AddsNumbers, AddsForEach};
+ghost use Rattle.atoms.specs.private.Places.{AreUsed};
+ghost use Rattle.atoms.specs.private.Family.{Covers};
 ghost use Rattle.atoms.specs.private.Rows.{AreNarrow, IsNumberAt, AreEmptyRows, AreRowsOf};
 
-use crate::family::covering_sets;
-use crate::preimages::used_states;
 use bit_set::{BitSet, empty_sets, insert_at};
 use std::alloc::{AllocError, Global};
 use std::marker::Model;
@@ -79,17 +79,20 @@ impl Atoms {
     }
 }
 
-/// The atoms of the automaton's states, up to unions, or `None` where more than `most` edges and sets would be looked at.
-pub fn find_atoms(alloc: Global, automaton: &Nfa, most: usize) -> Result<Option<Atoms>, AllocError>
-    ensures { IfOk result (λ found. IfSome found (AreAtomsOf automaton.now)) }
+/// The atoms of the automaton's states by sets of places of the states that are used, of which each atom is a union.
+pub fn atoms_of(
+    alloc: Global,
+    automaton: &Nfa,
+    used: &[usize],
+    sets: &[BitSet],
+) -> Result<Atoms, AllocError>
+    requires used { AreUsed automaton.now used.now }
+    requires covers { Covers automaton.now used.now sets.now }
+    ensures { IfOk result (AreAtomsOf automaton.now) }
 {
-    let used = used_states(alloc, automaton)?;
-    let Some(sets) = covering_sets(alloc, automaton, &used, most)? else {
-        return Ok(None);
-    };
     let count = sets.len();
-    let rows = rows_of(alloc, automaton.states(), &used, &sets)?;
-    Ok(Some(Atoms { rows, count }))
+    let rows = rows_of(alloc, automaton.states(), used, sets)?;
+    Ok(Atoms { rows, count })
 }
 
 /// For each of so many states the numbers of the sets that hold it.

@@ -1,8 +1,9 @@
 //! Deterministic automata from nondeterministic ones, by the subset construction (M. O. Rabin and D. Scott, 1959) of what a reduction
-//! leaves: no states from which no word is accepted, nor edges and states that others simulate. It costs time linear in the edges that
-//! leave the sets. The sets are lists of states at first and, where there are many of them, sets of bits, which are merged without being
-//! sorted. Where there are more, sets of one language become one state, told apart by atoms (J. A. Brzozowski and H. Tamm, 2014), if
-//! these are found within a bound of work.
+//! leaves: no states from which no word is accepted and, where sets are many, nor edges and states that others simulate. It costs time
+//! linear in the edges that leave the sets. The sets are lists of states at first and, where there are many of them, sets of bits, which
+//! are merged without being sorted. Where there are more, sets of one language become one state, told apart by atoms (J. A. Brzozowski
+//! and H. Tamm, 2014), if these are found: the sets go on being found in turns with the search for atoms, so that neither takes much
+//! longer than the other.
 #![tactic(auto)]
 
 mod above;
@@ -14,6 +15,7 @@ mod silent;
 mod state_set;
 mod subset;
 mod subsets;
+mod turns;
 
 ghost use Rattle.std.specs.Prelude.{◌≡◌, ◌↔◌, List, ℕ, IsTrue, IfOk, IfSome};
 ghost use Rattle.word_automata.specs.Automaton.{accepts, IsValid};
@@ -22,15 +24,20 @@ ghost use Rattle.determinise.specs.private.Subsets.{IsPlain};
 ghost use Rattle.reduction.specs.Simulation.{AreIncluded};
 
 use crate::bit_subsets::BitSubsets;
-use crate::signed_sets::SignedSets;
 use crate::silent::{has_true, silent_flags};
 use crate::subsets::Subsets;
-use atoms::find_atoms;
-use exploration::{Exploration, explore_languages};
+use crate::turns::Turns;
+use exploration::Exploration;
 use reduction::{StatePairs, live_part, pruned, simulation};
 pub use state_set::StateSet;
 use std::alloc::{AllocError, Global};
 use word_automata::{Dfa, Nfa};
+
+/// Of at most so many states,
+const UNCOMPARED_STATES: usize = 4_096;
+
+/// so many sets for each are found at first without comparing states.
+const SETS_PER_STATE: usize = 2;
 
 /// So many sets of states are found as lists.
 const FEW_SETS: usize = 512;
@@ -41,24 +48,28 @@ const BIT_STATES: usize = 4_096;
 /// Where there are more sets of states, the atoms of the states are looked for.
 const FIRST_SETS: usize = 16_384;
 
-/// At first at most so many edges and sets are looked at for them.
+/// Of lists there are then so many turns, each with twice as many sets and more work for the atoms, before the sets are found to the end.
+const TURNS: usize = 8;
+
+/// So many edges and sets are looked at for the atoms for each state of the lists that were found, which takes about as long.
+const WORK_PER_STATE: usize = 16;
+
+/// Where sets are bits, at first at most so many edges and sets are looked at for the atoms.
 const FIRST_WORK: usize = 4_000_000;
 
-/// Where there are more sets of states, as lists, the atoms are looked for once more.
-const SECOND_SETS: usize = 131_072;
-
-/// Then at most so many edges and sets are looked at for them.
+/// Then at most so many.
 const SECOND_WORK: usize = 256_000_000;
 
-/// Where there are more sets of states, as bits, they are looked for once more,
+/// Where there are more sets of states, as bits, the atoms are looked for once more,
 const SECOND_BIT_SETS: usize = 1 << 20;
 
 /// and also where the sets have more words.
 const SECOND_WORDS: usize = 1 << 25;
 
 /// The deterministic automaton of the sets of states that words lead to (M. O. Rabin and D. Scott, 1959), which accepts the same
-/// words. States are numbered breadth first, which is no clause here. States from which no word is accepted stand in no set, nor, as far
-/// as pairs were compared, states that others of it simulate; edges whose targets are simulated by those of edges beside them go first.
+/// words. States are numbered breadth first, which is no clause here. States from which no word is accepted stand in no set. Of at most
+/// 4,096 states, two sets for each are found at first; where there are more sets or states, it begins anew, and as far as pairs were
+/// compared, states that others of it simulate stand in no set either; edges whose targets are simulated by those of edges beside them go.
 /// A set is a list of states; with more than 512 sets, and at most 4,096 states without edges without a letter, a bit for each state.
 /// The time is linear in the edges of the automaton and in those that leave the sets' states, up to sorting, on average. Where a letter
 /// leads from one state to two, at most 2 to the 18 pairs of states are compared in at most 16 rounds, and a set may take its square.
@@ -79,12 +90,15 @@ pub fn determinise(alloc: Global, automaton: &Nfa) -> Result<Dfa, AllocError>
     }
 }
 
-/// The deterministic automaton of the sets of states that words lead to without edges that others match.
+/// The deterministic automaton of the sets of states that words lead to where these are few, and else without edges that others match.
 fn subsets_of_pruned(alloc: Global, automaton: &Nfa) -> Result<Dfa, AllocError>
     ensures language { IfOk result (λ dfa. (w : List ℕ) → IsTrue (accepts dfa w) ↔ Accepts automaton.now w) }
     ensures letters { IfOk result (λ dfa. dfa.letters ≡ automaton.now.letters) }
     ensures valid { IfOk result IsValid }
 {
+    if let Some(dfa) = few_subsets_of(alloc, automaton)? {
+        return Ok(dfa);
+    }
     match simulation(alloc, automaton)? {
         Some(pairs) => {
             let pruned = pruned(alloc, automaton, &pairs)?;
@@ -97,6 +111,28 @@ fn subsets_of_pruned(alloc: Global, automaton: &Nfa) -> Result<Dfa, AllocError>
             Ok(dfa)
         }
     }
+}
+
+/// The deterministic automaton of the sets of states that words lead to, or `None` where there are many states or many more such sets.
+fn few_subsets_of(alloc: Global, automaton: &Nfa) -> Result<Option<Dfa>, AllocError>
+    ensures language { IfOk result (λ found. IfSome found (λ dfa. (w : List ℕ) → IsTrue (accepts dfa w) ↔ Accepts automaton.now w)) }
+    ensures letters { IfOk result (λ found. IfSome found (λ dfa. dfa.letters ≡ automaton.now.letters)) }
+    ensures valid { IfOk result (λ found. IfSome found IsValid) }
+{
+    let states = automaton.states();
+    if states > UNCOMPARED_STATES {
+        return Ok(None);
+    }
+    let none = StatePairs::new(alloc)?;
+    let silent = silent_flags(alloc, automaton)?;
+    let subsets = Subsets::new(automaton, &silent, &none);
+    let begun = Exploration::begin(alloc, &subsets)?;
+    let found = begun.advance(states.saturating_mul(SETS_PER_STATE))?;
+    if !found.is_done() {
+        return Ok(None);
+    }
+    let dfa = found.finish()?;
+    Ok(Some(dfa))
 }
 
 /// The deterministic automaton of the sets of states that words lead to, without states that others of the set simulate.
@@ -128,21 +164,25 @@ fn list_subsets_of(alloc: Global, automaton: &Nfa, lists: &Subsets) -> Result<Df
     ensures valid { IfOk result IsValid }
 {
     let begun = Exploration::begin(alloc, lists)?;
-    let first = begun.advance(FIRST_SETS)?;
-    if first.is_done() {
-        return Ok(first.finish()?);
+    let found = begun.advance(FIRST_SETS)?;
+    if found.is_done() {
+        return Ok(found.finish()?);
     }
-    if let Some(dfa) = languages_of(alloc, automaton, lists, FIRST_WORK)? {
-        return Ok(dfa);
+    let mut turns = Turns::begin(alloc, automaton, found)?;
+    'turns: for turn in 0..TURNS {
+        let work = states_in(turns.found.states()).saturating_mul(WORK_PER_STATE);
+        turns = turns.next(work, FIRST_SETS << (turn + 1))?;
     }
-    let second = first.advance(SECOND_SETS)?;
-    if second.is_done() {
-        return Ok(second.finish()?);
+    Ok(turns.finish(alloc, automaton, lists)?)
+}
+
+/// How many states the sets have together.
+fn states_in(sets: &[StateSet]) -> usize {
+    let mut count = 0usize;
+    'sets: for set in sets {
+        count = count.saturating_add(set.as_slice().len());
     }
-    if let Some(dfa) = languages_of(alloc, automaton, lists, SECOND_WORK)? {
-        return Ok(dfa);
-    }
-    Ok(second.finish()?)
+    count
 }
 
 /// The deterministic automaton of the sets of states, as bits, or of the languages of the sets, whose states are listed for these.
@@ -183,43 +223,13 @@ fn explored_bits(
     if first.is_done() {
         return Ok(first.finish()?);
     }
-    if let Some(dfa) = languages_of(alloc, automaton, lists, FIRST_WORK)? {
-        return Ok(dfa);
-    }
-    let second = first.advance(second_bit_sets(automaton.states()))?;
-    if second.is_done() {
-        return Ok(second.finish()?);
-    }
-    if let Some(dfa) = languages_of(alloc, automaton, lists, SECOND_WORK)? {
-        return Ok(dfa);
-    }
-    Ok(second.finish()?)
+    let turns = Turns::begin(alloc, automaton, first)?;
+    let second = turns.next(FIRST_WORK, second_bit_sets(automaton.states()))?;
+    let third = second.next(SECOND_WORK, 0)?;
+    Ok(third.finish(alloc, automaton, lists)?)
 }
 
 /// So many sets of so many states, as bits, are found before the atoms are looked for once more.
 fn second_bit_sets(states: usize) -> usize {
     SECOND_BIT_SETS.min(SECOND_WORDS / (states / 64 + 1))
-}
-
-/// The deterministic automaton of the languages of the sets, told apart by the atoms of the automaton's states, or `None` where more than
-/// `most` edges and sets would be looked at to find these.
-fn languages_of(
-    alloc: Global,
-    automaton: &Nfa,
-    subsets: &Subsets,
-    most: usize,
-) -> Result<Option<Dfa>, AllocError>
-    requires same { subsets.now.automaton.now ≡ automaton.now }
-    requires plain { (p : ℕ) → IsPlain automaton.now p }
-    ensures language { IfOk result (λ found. IfSome found (λ dfa. (w : List ℕ) → IsTrue (accepts dfa w) ↔ Accepts automaton.now w)) }
-    ensures letters { IfOk result (λ found. IfSome found (λ dfa. dfa.letters ≡ automaton.now.letters)) }
-    ensures valid { IfOk result (λ found. IfSome found IsValid) }
-{
-    let Some(atoms) = find_atoms(alloc, automaton, most)? else {
-        return Ok(None);
-    };
-    let count = automaton.states();
-    let signed = SignedSets::new(automaton, subsets, &atoms);
-    let dfa = explore_languages(alloc, &signed)?;
-    Ok(Some(dfa))
 }

@@ -1,10 +1,10 @@
 -- Families of sets over places that are closed under preimages up to unions.
-use Rattle.std.specs.Prelude.{◌≡◌, ◌≤◌, ◌<◌, ℕ, List, [], Option, Contains, length, slice_index_or}
+use Rattle.std.specs.Prelude.{◌≡◌, ◌≤◌, ◌<◌, ◌+◌, ℕ, List, [], Option, Contains, length, slice_index_or}
 use Rattle.word_automata.specs.Nondeterministic.{NondeterministicAutomaton}
 use Rattle.reduction.specs.Reduction.{AcceptsAlong}
 use Rattle.bit_set.specs.Bits.{Has}
-use Rattle.bit_set.specs.SetLists.{HasAt}
-use Rattle.atoms.specs.private.Places.{HoldsState, LeadsInto, AcceptsAt}
+use Rattle.bit_set.specs.SetLists.{HasAt, AreEmpty}
+use Rattle.atoms.specs.private.Places.{AreUsed, AreTurned, HoldsState, LeadsInto, AcceptsAt}
 
 -- what has the property P is a union of sets, of which Holds tells what they have: each q with P is in a set all of which has P
 abbrev pub IsUnionOf : (ℕ → ℕ → Type 0) → (ℕ → Type 0) → Type 0
@@ -56,3 +56,12 @@ pub record IsEmptied (old new : List (List ℕ)) : Type 0 where
   pub count : length new ≡ length old
   pub none : (a number : ℕ) → HasAt new a number → ⊥
   pub room : (a : ℕ) → length (slice_index_or new a []) ≡ length (slice_index_or old a [])
+
+-- a search is under way: the states that are used, the edges into each state, an empty set for each letter, sets of a family, those that
+-- were seen, and how many of the family were gone on from
+pub record IsUnderWay (n : NondeterministicAutomaton) (used : List ℕ) (into : List (List (ℕ × ℕ))) (preimages sets seen : List (List ℕ)) (next : ℕ) : Type 0 where
+  pub places : AreUsed n used
+  pub turned : AreTurned n used into
+  pub empty : AreEmpty (n.letters + 1) (length used) preimages
+  pub unions : AreUnions sets seen
+  pub closed : IsClosedUpTo n into used (n.letters + 1) sets next

@@ -1,6 +1,6 @@
 use Rattle.std.proofs.Common.{sym, ◌∙◌, true≢false, arith}
 use Rattle.atoms.proofs.Growth.{accepting_none, accepting_skip, accepting_more, accepting_all}
-use Rattle.atoms.proofs.family.accepting_places.Goals as goal
+use Rattle.atoms.proofs.search.accepting_places.Goals as goal
 
 pub places-init : goal.places-init
 places-init c = accepting_none c.args.automaton.now c.args.used.now c.in_ok-set.set c.in_ok-set.ensures.none c.in_ok-set.ensures.room
