@@ -35,10 +35,10 @@ module _ {L : Type 0} where
   is_accepting-push_last (x ∷ states) b (suc i) h = is_accepting-push_last states b i (omega arith)
 
 module _ (a : Automaton) where
-  follows_letter : (x : ℕ) (w : List ℕ) (q to : ℕ) → target a q x ≡ Some to → accepts_from a q (x ∷ w) ≡ accepts_from a to w
+  pub follows_letter : (x : ℕ) (w : List ℕ) (q to : ℕ) → target a q x ≡ Some to → accepts_from a q (x ∷ w) ≡ accepts_from a to w
   follows_letter x w q to e = rw (e, accepts_from) refl
 
-  stops_at : (x : ℕ) (w : List ℕ) (q : ℕ) → target a q x ≡ None → accepts_from a q (x ∷ w) ≡ false
+  pub stops_at : (x : ℕ) (w : List ℕ) (q : ℕ) → target a q x ≡ None → accepts_from a q (x ∷ w) ≡ false
   stops_at x w q e = rw (e, accepts_from) refl
 
   -- a word behind an optional letter is accepted where the rest is accepted behind it

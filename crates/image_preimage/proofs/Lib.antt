@@ -3,3 +3,7 @@ mod GraphLemmas
 mod PairLemmas
 mod ImageLemmas
 mod SamePairs
+mod CopyingLemmas
+mod TripleLemmas
+mod WalkLemmas
+mod SameTriples

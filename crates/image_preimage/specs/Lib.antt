@@ -1,3 +1,4 @@
 pub mod Images
 pub mod Pairs
 pub mod Gaps
+pub mod private

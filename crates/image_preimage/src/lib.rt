@@ -4,9 +4,14 @@
 #![tactic(auto)]
 
 mod common;
+mod copying_states;
 mod gap;
 mod images;
+mod inclusion;
 mod pairs;
+mod triples;
 
 pub use common::common_automaton;
+pub use copying_states::FlaggedTransducer;
 pub use images::{image, image_automaton, preimage, preimage_automaton};
+pub use inclusion::is_image_included;
