@@ -144,8 +144,8 @@ impl Triples<'_> {
         requires reached { AreReached self.now.t.now self.now.a.now self.now.b.now found.old.states.items }
         requires read { IsGapAt self.now.a.now triple.middle read.now near.old.read.low near.old.read.high }
         requires written { IsGapAt self.now.b.now triple.right written.now near.old.written.low near.old.written.high }
-        ensures follows { OnOk result (Follows self.now.t.now self.now.a.now self.now.b.now found.old.states.items found.new.states.items triple
-            (edge ∷ [])) }
+        ensures follows { OnOk result (Follows self.now.t.now self.now.a.now self.now.b.now found.old.states.items
+            found.new.states.items triple (edge ∷ [])) }
         ensures read { IsGapAt self.now.a.now triple.middle read.now near.new.read.low near.new.read.high }
         ensures written { IsGapAt self.now.b.now triple.right written.now near.new.written.low near.new.written.high }
     {
