@@ -1,12 +1,11 @@
 -- Flags of states from which a transducer writes what it reads.
-use Rattle.std.proofs.Common.{◌≡◌, ◌<◌, ◌≤◌, ◌++◌, ℕ, Bool, true, false, List, [], ◌∷◌, Option, length, get_or, refl, sym, ap, subst, ◌∙◌, arith}
+use Rattle.std.proofs.Common.{◌≡◌, ◌≤◌, ◌++◌, ℕ, Bool, true, false, List, [], ◌∷◌, length, get_or, refl, sym, ap, ◌∙◌, arith}
 use Rattle.std.proofs.lemmas.Bool.{true≢false}
 use Rattle.std.proofs.lemmas.List.{get_or_past}
 use Rattle.word_automata.specs.Path.{IsPath, spelled, spelled_one}
-use Rattle.word_automata.specs.Automaton.{Automaton}
 use Rattle.transducers.specs.declared.Label.{Label}
-use Rattle.transducers.specs.Transducer.{Transducer, RelatesFrom, read_of, write_of}
-use Rattle.image_preimage.specs.private.CopyingStates.{IsCopyingAt, AreCopying, AreSkipped}
+use Rattle.transducers.specs.Transducer.{Transducer, read_of, write_of}
+use Rattle.image_preimage.specs.private.CopyingStates.{IsCopyingAt, AreCopying, AreIdentities}
 
 -- a number that is no state has no flag
 pub copying_past : (t : Transducer) (flags : List Bool) (p : ℕ) → length flags ≤ p → IsCopyingAt t flags p
@@ -15,9 +14,6 @@ copying_past t flags p past flag = absurd (true≢false (sym flag ∙ get_or_pas
 -- no flag at all
 pub copying_none : (t : Transducer) → AreCopying t []
 copying_none t p = copying_past t [] p (omega arith)
-
-pub skipped_none : (t : Transducer) (a b : Automaton) → AreSkipped t a b []
-skipped_none t a b p flag = absurd (true≢false (sym flag ∙ get_or_past [] p false (omega arith)))
 
 module _ (t : Transducer) (flags : List Bool) (copying : AreCopying t flags) where
   -- what is read from a state with the flag is written
@@ -29,5 +25,5 @@ module _ (t : Transducer) (flags : List Bool) (copying : AreCopying t flags) whe
       ap (λ label. spelled_one label ++ spelled read_of moves) copies.0
       ∙ ap (λ w. spelled_one edge.0.write ++ w) (copied moves edge.1 last copies.1 path.1)
 
-  pub skipped_copying : (a b : Automaton) → a ≡ b → AreSkipped t a b flags
-  skipped_copying a b same p flag = (same, λ u w r. sym r.reads ∙ (copied r.moves p r.last flag r.path ∙ r.writes))
+  pub identities : AreIdentities t flags
+  identities p flag u w r = sym r.reads ∙ (copied r.moves p r.last flag r.path ∙ r.writes)

@@ -5,7 +5,7 @@ use Rattle.std.proofs.lemmas.Bool.{cases_lt}
 use Rattle.std.proofs.lemmas.List.{nil_from_length}
 use Rattle.std.proofs.lemmas.List.Elements.{Contains-append_left, Contains-push, Contains-push_cases}
 use Rattle.std.proofs.lemmas.Option.{slice_get_within, same_Some}
-use Rattle.word_automata.specs.Path.{edges_of, is_accepting, IsPath, spelled}
+use Rattle.word_automata.specs.Path.{is_accepting, IsPath, spelled}
 use Rattle.word_automata.specs.Automaton.{Automaton, accepts_from}
 use Rattle.word_automata.proofs.ForCallers.{Contains-none}
 use Rattle.transducers.specs.declared.Label.{Label}
@@ -14,7 +14,7 @@ use Rattle.exploration.proofs.ForCallers.{slice_get-some}
 use Rattle.image_preimage.specs.declared.triples.Triple.{Triple}
 use Rattle.image_preimage.specs.Images.{IsImageIncluded}
 use Rattle.image_preimage.specs.Pairs.{advance}
-use Rattle.image_preimage.specs.private.CopyingStates.{AreSkipped}
+use Rattle.image_preimage.specs.private.CopyingStates.{AreIdentities}
 use Rattle.image_preimage.specs.private.Triples.{or_no_state, triple_of, is_goal, IsSomeOutside, IsSkipped, IsPassed, IsDone, IsFound, AreReached, AddsPlaces, Grows, Visits, Walks}
 use Rattle.image_preimage.proofs.GraphLemmas.{advance-accepts}
 use Rattle.image_preimage.proofs.TripleLemmas.{accepts_behind, IsFollowed-grows}
@@ -33,14 +33,14 @@ Grows-longer (x ∷ old) new grows =
     let last = slice_get-some (x ∷ old) (length old) (omega arith) in
     omega (arith, slice_get_within new (length old) last.0 (grows (length old) last.0 last.1))
 
-module _ (t : Transducer) (a b : Automaton) (skipped : List Bool) where
-  IsPassed-grows : (old new : List Triple) (triple : Triple) → Grows old new → IsPassed t a b skipped old triple → IsPassed t a b skipped new triple
+module _ (t : Transducer) (a b : Automaton) (copying : List Bool) where
+  IsPassed-grows : (old new : List Triple) (triple : Triple) → Grows old new → IsPassed t a b copying old triple → IsPassed t a b copying new triple
   IsPassed-grows old new triple grows (inl skips) = inl skips
   IsPassed-grows old new triple grows (inr followed) = inr (λ edge there. IsFollowed-grows t a b old new triple edge grows (followed edge there))
 
   -- before the walk
   pub Walks-begun : (found : List Triple) (pending : List ℕ) → AreReached t a b found → ((p : ℕ) → Contains t.starts p → IsFound found (triple_of p 0 0))
-      → AddsPlaces [] pending 0 (length found) → Walks t a b skipped found pending
+      → AddsPlaces [] pending 0 (length found) → Walks t a b copying found pending
   Walks-begun found pending reached starts adds = record {
     reached = reached;
     starts = starts;
@@ -49,9 +49,9 @@ module _ (t : Transducer) (a b : Automaton) (skipped : List Bool) where
   }
 
   -- one triple more
-  pub Walks-more : (old new : List Triple) (before rest pending : List ℕ) (place : ℕ) (triple : Triple) → Walks t a b skipped old before
-      → before ≡ rest ++ place ∷ [] → slice_get old place ≡ Some triple → is_goal t a b triple ≡ false → Visits t a b skipped old new triple
-      → AddsPlaces rest pending (length old) (length new) → Walks t a b skipped new pending
+  pub Walks-more : (old new : List Triple) (before rest pending : List ℕ) (place : ℕ) (triple : Triple) → Walks t a b copying old before
+      → before ≡ rest ++ place ∷ [] → slice_get old place ≡ Some triple → is_goal t a b triple ≡ false → Visits t a b copying old new triple
+      → AddsPlaces rest pending (length old) (length new) → Walks t a b copying new pending
   Walks-more old new before rest pending place triple so popped at none more adds = record {
     reached = more.reached;
     starts = λ p is. let found = so.starts p is in (found.0, more.grows found.0 (triple_of p 0 0) found.1);
@@ -65,7 +65,7 @@ module _ (t : Transducer) (a b : Automaton) (skipped : List Bool) where
     ];
   }
     where
-      earlier : (i : ℕ) (x : Triple) → slice_get new i ≡ Some x → i < length old → Contains pending i ⊎ IsDone t a b skipped new x
+      earlier : (i : ℕ) (x : Triple) → slice_get new i ≡ Some x → i < length old → Contains pending i ⊎ IsDone t a b copying new x
       earlier i x there below =
           let was = slice_get-some old i below in
           let same : was.0 ≡ x = same_Some was.0 x (sym (more.grows i was.0 was.1) ∙ there) in
@@ -73,35 +73,35 @@ module _ (t : Transducer) (a b : Automaton) (skipped : List Bool) where
             | inl waits ↦ elim (Contains-push_cases rest place i (subst (λ l. Contains l i) popped waits)) [
               | inl other ↦ inl (adds.kept i other)
               | inr is ↦ (let here : triple ≡ x = same_Some triple x (sym (more.grows place triple at) ∙ subst (λ k. slice_get new k ≡ Some x) (sym is) there) in
-                  inr (subst (IsDone t a b skipped new) here (none, more.is_passed)))
+                  inr (subst (IsDone t a b copying new) here (none, more.is_passed)))
             ]
             | inr is_done ↦ inr (is_done.0, IsPassed-grows old new x more.grows is_done.1)
           ]
 
   -- what is popped is the place of a triple that was found
-  pub popped_place : (found : List Triple) (pending rest : List ℕ) (o : Option ℕ) (place : ℕ) → Walks t a b skipped found pending
+  pub popped_place : (found : List Triple) (pending rest : List ℕ) (o : Option ℕ) (place : ℕ) → Walks t a b copying found pending
       → pending ≡ rest ++ option_to_list o → o ≡ Some place → (pending ≡ rest ++ place ∷ []) × (place < length found)
   popped_place found pending rest o place so items is =
       let popped : pending ≡ rest ++ place ∷ [] = items ∙ ap (λ o. rest ++ option_to_list o) is in
       (popped, so.there place (subst (λ l. Contains l place) (sym popped) (Contains-push rest place)))
 
-  module _ (found : List Triple) (pending : List ℕ) (so : Walks t a b skipped found pending) (all : pending ≡ []) (skip : AreSkipped t a b skipped) where
-    all_done : (i : ℕ) (triple : Triple) → slice_get found i ≡ Some triple → IsDone t a b skipped found triple
+  module _ (found : List Triple) (pending : List ℕ) (so : Walks t a b copying found pending) (all : pending ≡ []) (skip : AreIdentities t copying) where
+    all_done : (i : ℕ) (triple : Triple) → slice_get found i ≡ Some triple → IsDone t a b copying found triple
     all_done i triple at = elim (so.done i triple at) [
       | inl waits ↦ absurd (Contains-none i (subst (λ l. Contains l i) all waits))
       | inr is_done ↦ is_done
     ]
 
     -- from a triple that is skipped
-    skipped_inside : (moves : List (Label × ℕ)) (last : ℕ) (triple : Triple) → IsSkipped skipped triple → IsPath t.states triple.left moves last
+    skipped_inside : (moves : List (Label × ℕ)) (last : ℕ) (triple : Triple) → IsSkipped a b copying triple → IsPath t.states triple.left moves last
         → IsTrue (is_accepting t.states last) → IsTrue (accepts_from a triple.middle (spelled read_of moves))
         → IsTrue (accepts_from b triple.right (spelled write_of moves))
     skipped_inside moves last triple skips path accepts accepted =
-        let copies = skip triple.left skips.1 in
+        let copies = skip triple.left skips.2 in
         let run : RelatesFrom t triple.left (spelled read_of moves) (spelled write_of moves) = record { moves = moves; last = last; path = path; accepts = accepts; reads = refl; writes = refl } in
-        subst (λ w. IsTrue (accepts_from b triple.right w)) (copies.1 (spelled read_of moves) (spelled write_of moves) run)
-        (subst (λ q. IsTrue (accepts_from b q (spelled read_of moves))) skips.0
-        (subst (λ m. IsTrue (accepts_from m triple.middle (spelled read_of moves))) copies.0 accepted))
+        subst (λ w. IsTrue (accepts_from b triple.right w)) (copies (spelled read_of moves) (spelled write_of moves) run)
+        (subst (λ q. IsTrue (accepts_from b q (spelled read_of moves))) skips.1
+        (subst (λ m. IsTrue (accepts_from m triple.middle (spelled read_of moves))) skips.0 accepted))
 
     -- from any triple that was found
     stays_inside : (moves : List (Label × ℕ)) (last i : ℕ) (triple : Triple) → slice_get found i ≡ Some triple

@@ -5,19 +5,22 @@
 
 ghost use Rattle.std.specs.Prelude.{◌≡◌, ◌↔◌, ◌≤◌, ℕ, IsTrue, IfOk, OnOk};
 ghost use Rattle.image_preimage.specs.Images.{IsImageIncluded};
-ghost use Rattle.image_preimage.specs.private.CopyingStates.{AreSkipped};
+ghost use Rattle.image_preimage.specs.private.CopyingStates.{AreCopying};
 ghost use Rattle.image_preimage.specs.private.Triples.{AddsPlaces};
 
 use crate::copying_states::FlaggedTransducer;
-use crate::triples::Triples;
+use crate::triples::{Triple, Triples};
 use exploration::FoundStates;
 use minimise::{Canon, same};
 use std::alloc::{AllocError, Global};
 
+/// Comparing the automata takes about as long for so many states as going on from one triple.
+const STATES_OF_A_TRIPLE: usize = 8;
+
 /// Whether `b` accepts each word to which the transducer relates a word that `a` accepts. The time is linear in the edges of the
 /// transducer at the triples of a state of each that are reached, up to the search for a letter among the edges of a state, on average, and
-/// the walk ends where it sees a word outside. Where both automata are the same, it does not go on from a triple in which they are in one
-/// state, if the transducer only copies from there. `AllocError` where memory runs out.
+/// the walk ends where it sees a word outside. Where both automata are known to be the same, it does not go on from a triple in which they
+/// are in one state, if the transducer only copies from there. `AllocError` where memory runs out.
 pub fn is_image_included(
     alloc: Global,
     t: &FlaggedTransducer,
@@ -26,47 +29,62 @@ pub fn is_image_included(
 ) -> Result<bool, AllocError>
     ensures { IfOk result (λ included. IsTrue included ↔ IsImageIncluded t.now a.now b.now) }
 {
-    let skipped = skipped_states(t, a, b);
-    walk(
-        alloc,
-        &Triples {
-            t: t.transducer(),
-            a: a.as_dfa(),
-            b: b.as_dfa(),
-            skipped,
-        },
-    )
-}
-
-/// Flags of states, true only where the automata are the same and the transducer relates each word to itself alone from there.
-fn skipped_states<'a>(t: &'a FlaggedTransducer, a: &Canon, b: &Canon) -> &'a [bool]
-    ensures { AreSkipped t.now a.now b.now result.now }
-{
-    if same(a, b) {
-        return t.copying();
-    }
-    &[]
+    let triples = Triples {
+        t: t.transducer(),
+        a: a.as_dfa(),
+        b: b.as_dfa(),
+        copying: t.copying(),
+    };
+    walk(alloc, &triples, a, b)
 }
 
 /// Whether no triple is reached from which the transducer leads to a word that the second automaton refuses.
-fn walk(alloc: Global, triples: &Triples) -> Result<bool, AllocError>
-    requires { AreSkipped triples.now.t.now triples.now.a.now triples.now.b.now triples.now.skipped.now }
+fn walk(alloc: Global, triples: &Triples, a: &Canon, b: &Canon) -> Result<bool, AllocError>
+    requires copying { AreCopying triples.now.t.now triples.now.copying.now }
+    requires first { a.now ≡ triples.now.a.now }
+    requires second { b.now ≡ triples.now.b.now }
     ensures { IfOk result (λ included. IsTrue included ↔ IsImageIncluded triples.now.t.now triples.now.a.now triples.now.b.now) }
 {
     let mut found = FoundStates::new(alloc, triples.codes())?;
     triples.begin(&mut found)?;
     let mut pending = Vec::new(alloc);
     push_places(&mut pending, 0, found.len())?;
+    let mut met = 0;
+    let mut are_same = false;
     'triples: while let Some(place) = pending.pop() {
         let triple = found.states[place];
         if triples.is_goal(&triple) {
             return Ok(false);
         }
+        are_same = are_known_same(triples, &triple, a, b, &mut met, are_same);
         let before = found.len();
-        triples.visit(&mut found, place, triple)?;
+        triples.visit(&mut found, are_same, place, triple)?;
         push_places(&mut pending, before, found.len())?;
     }
     Ok(true)
+}
+
+/// Whether the automata are known to be the same after one more triple. They are compared once, where an eighth as many triples as there
+/// are states were met from which a walk then need not go on: many walks end before, and a comparison takes about as long as these.
+fn are_known_same(
+    triples: &Triples,
+    triple: &Triple,
+    a: &Canon,
+    b: &Canon,
+    met: &mut usize,
+    known: bool,
+) -> bool
+    requires { IsTrue known → a.now ≡ b.now }
+    ensures { IsTrue result → a.now ≡ b.now }
+{
+    if known || !triples.is_copied(triple) {
+        return known;
+    }
+    *met = met.wrapping_add(1);
+    if *met == a.size() / STATES_OF_A_TRIPLE + 1 {
+        return same(a, b);
+    }
+    false
 }
 
 /// Adds the places from the first up to the end.

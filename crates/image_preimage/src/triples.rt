@@ -2,7 +2,7 @@
 //! are written are looked for, or none. The edges of the three are merged where they are sorted alike, and a triple is found by its number
 //! in a table: constant time for each edge of the transducer, on average.
 
-ghost use Rattle.std.specs.Prelude.{◌≡◌, ℕ, [], ◌∷◌, Some, Contains, OnOk, slice_get};
+ghost use Rattle.std.specs.Prelude.{◌≡◌, ℕ, false, true, [], ◌∷◌, Some, Contains, IsTrue, OnOk, slice_get, slice_index_or};
 ghost use Rattle.word_automata.specs.Path.{edges_of, is_accepting};
 ghost use Rattle.word_automata.specs.Automaton.{Automaton, HasIncreasingLetters};
 ghost use Rattle.image_preimage.specs.Gaps.{IsGap};
@@ -25,13 +25,13 @@ pub(crate) struct Triple {
     pub(crate) right: usize,
 }
 
-/// What the triples are of, and flags of the states from which the transducer need not be followed where both automata are in one state.
+/// What the triples are of, and flags of the states from which the transducer only copies.
 #[derive(Drop)]
 pub(crate) struct Triples<'a> {
     pub(crate) t: &'a Transducer,
     pub(crate) a: &'a Dfa,
     pub(crate) b: &'a Dfa,
-    pub(crate) skipped: &'a [bool],
+    pub(crate) copying: &'a [bool],
 }
 
 /// What the last edge of a triple met: the place of the triple to which it led, and a gap between the edges of each automaton's state.
@@ -83,19 +83,30 @@ impl Triples<'_> {
         Ok(())
     }
 
-    /// Goes on from the triple at the place, unless all that is reached from there is the same state of both automata.
+    /// Whether both automata are in one state, and the transducer in one from which it only copies.
+    pub(crate) fn is_copied(&self, triple: &Triple) -> bool
+        ensures state { IsTrue result → triple.now.middle ≡ triple.now.right }
+        ensures flag { IsTrue result → slice_index_or self.now.copying.now triple.now.left false ≡ true }
+    {
+        triple.middle == triple.right && has_flag(self.copying, triple.left)
+    }
+
+    /// Goes on from the triple at the place, unless both automata are known to be the same and all that is reached from there is one state
+    /// of both.
     pub(crate) fn visit(
         &self,
         found: &mut FoundStates<Triple>,
+        are_same: bool,
         place: usize,
         triple: Triple,
     ) -> Result<(), AllocError>
+        requires same { IsTrue are_same → self.now.a.now ≡ self.now.b.now }
         requires there { slice_get found.old.states.items place ≡ Some triple }
         requires reached { AreReached self.now.t.now self.now.a.now self.now.b.now found.old.states.items }
-        ensures { OnOk result (Visits self.now.t.now self.now.a.now self.now.b.now self.now.skipped.now found.old.states.items
+        ensures { OnOk result (Visits self.now.t.now self.now.a.now self.now.b.now self.now.copying.now found.old.states.items
             found.new.states.items triple) }
     {
-        if triple.middle == triple.right && has_flag(self.skipped, triple.left) {
+        if are_same && self.is_copied(&triple) {
             return Ok(());
         }
         self.expand(found, place, triple)

@@ -1,7 +1,6 @@
 -- States from which a transducer writes what it reads.
 use Rattle.std.specs.Prelude.{◌≡◌, ℕ, Bool, true, false, List, Contains, slice_index_or}
 use Rattle.word_automata.specs.Path.{edges_of}
-use Rattle.word_automata.specs.Automaton.{Automaton}
 use Rattle.transducers.specs.declared.Label.{Label}
 use Rattle.transducers.specs.Transducer.{Transducer, RelatesFrom}
 
@@ -17,6 +16,6 @@ IsCopyingAt t flags p = slice_index_or flags p false ≡ true → (edge : Label 
 abbrev pub AreCopying : Transducer → List Bool → Type 0
 AreCopying t flags = (p : ℕ) → IsCopyingAt t flags p
 
--- flags of states from which the transducer relates each word to itself alone, where both automata are the same; else there is none
-abbrev pub AreSkipped : Transducer → Automaton → Automaton → List Bool → Type 0
-AreSkipped t a b flags = (p : ℕ) → slice_index_or flags p false ≡ true → (a ≡ b) × ((u w : List ℕ) → RelatesFrom t p u w → u ≡ w)
+-- from states with the flag the transducer relates each word to itself alone
+abbrev pub AreIdentities : Transducer → List Bool → Type 0
+AreIdentities t flags = (p : ℕ) → slice_index_or flags p false ≡ true → (u w : List ℕ) → RelatesFrom t p u w → u ≡ w

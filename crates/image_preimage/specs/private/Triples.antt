@@ -64,31 +64,31 @@ pub record Follows (t : Transducer) (a b : Automaton) (old new : List Triple) (t
   pub grows : Grows old new
   pub followed : (edge : Label × ℕ) → Contains edges edge → IsFollowed a b new triple edge
 
--- the automata are in one state, in which the transducer has the flag
-abbrev pub IsSkipped : List Bool → Triple → Type 0
-IsSkipped skipped triple = (triple.middle ≡ triple.right) × (slice_index_or skipped triple.left false ≡ true)
+-- both automata are the same and in one state, and the transducer is in one with the flag
+abbrev pub IsSkipped : Automaton → Automaton → List Bool → Triple → Type 0
+IsSkipped a b copying triple = (a ≡ b) × (triple.middle ≡ triple.right) × (slice_index_or copying triple.left false ≡ true)
 
 -- the triple is skipped, or all its edges were followed
 abbrev pub IsPassed : Transducer → Automaton → Automaton → List Bool → List Triple → Triple → Type 0
-IsPassed t a b skipped found triple =
-    IsSkipped skipped triple ⊎ ((edge : Label × ℕ) → Contains (edges_of t.states triple.left) edge → IsFollowed a b found triple edge)
+IsPassed t a b copying found triple =
+    IsSkipped a b copying triple ⊎ ((edge : Label × ℕ) → Contains (edges_of t.states triple.left) edge → IsFollowed a b found triple edge)
 
 -- the triple was gone on from
-pub record Visits (t : Transducer) (a b : Automaton) (skipped : List Bool) (old new : List Triple) (triple : Triple) : Type 0 where
+pub record Visits (t : Transducer) (a b : Automaton) (copying : List Bool) (old new : List Triple) (triple : Triple) : Type 0 where
   pub reached : AreReached t a b new
   pub grows : Grows old new
-  pub is_passed : IsPassed t a b skipped new triple
+  pub is_passed : IsPassed t a b copying new triple
 
 -- the triple is no goal, and was gone on from
 abbrev pub IsDone : Transducer → Automaton → Automaton → List Bool → List Triple → Triple → Type 0
-IsDone t a b skipped found triple = (is_goal t a b triple ≡ false) × IsPassed t a b skipped found triple
+IsDone t a b copying found triple = (is_goal t a b triple ≡ false) × IsPassed t a b copying found triple
 
 -- the starts were found, and each triple that was found is pending or done
-pub record Walks (t : Transducer) (a b : Automaton) (skipped : List Bool) (found : List Triple) (pending : List ℕ) : Type 0 where
+pub record Walks (t : Transducer) (a b : Automaton) (copying : List Bool) (found : List Triple) (pending : List ℕ) : Type 0 where
   pub reached : AreReached t a b found
   pub starts : (p : ℕ) → Contains t.starts p → IsFound found (triple_of p 0 0)
   pub there : (i : ℕ) → Contains pending i → i < length found
-  pub done : (i : ℕ) (triple : Triple) → slice_get found i ≡ Some triple → Contains pending i ⊎ IsDone t a b skipped found triple
+  pub done : (i : ℕ) (triple : Triple) → slice_get found i ≡ Some triple → Contains pending i ⊎ IsDone t a b copying found triple
 
 -- the places from the first up to the end are added
 pub record AddsPlaces (old new : List ℕ) (from end : ℕ) : Type 0 where

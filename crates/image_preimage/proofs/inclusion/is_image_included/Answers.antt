@@ -3,15 +3,11 @@ use Rattle.std.proofs.lemmas.Result.{IfOk-weaker}
 use Rattle.word_automata.specs.Automaton.{Automaton}
 use Rattle.transducers.specs.Transducer.{Transducer}
 use Rattle.image_preimage.specs.Images.{IsImageIncluded}
-use Rattle.image_preimage.specs.private.CopyingStates.{AreSkipped}
+use Rattle.image_preimage.specs.private.CopyingStates.{AreCopying}
 use Rattle.image_preimage.proofs.inclusion.is_image_included.Goals as goal
 
-pub walk-requires : goal.walk-requires
-walk-requires c =
-    subst (λ (t : Transducer). AreSkipped t c.as_dfa.result.now c.as_dfa-2.result.now c.skipped_states-skipped.result.now) (sym c.transducer.ensures)
-    (subst (λ (a : Automaton). AreSkipped c.args.t.now a c.as_dfa-2.result.now c.skipped_states-skipped.result.now) (sym c.as_dfa.ensures.same)
-    (subst (λ (b : Automaton). AreSkipped c.args.t.now c.args.a.now b c.skipped_states-skipped.result.now) (sym c.as_dfa-2.ensures.same)
-    c.skipped_states-skipped.ensures))
+pub walk-requires-clause-copying : goal.walk-requires-clause-copying
+walk-requires-clause-copying c = subst (λ (t : Transducer). AreCopying t c.copying.result.now) (sym c.transducer.ensures) c.copying.ensures
 
 pub returns : goal.returns
 returns c =

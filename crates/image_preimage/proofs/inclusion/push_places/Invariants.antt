@@ -1,4 +1,3 @@
-use Rattle.std.proofs.Common.{◌≤◌}
 use Rattle.image_preimage.specs.private.Triples.{AddsPlaces}
 use Rattle.image_preimage.proofs.inclusion.push_places.Given as goal
 

@@ -1,4 +1,4 @@
-use Rattle.std.proofs.Common.{◌<◌, ℕ, inl, inr, Contains, length, take, get_or, subst, sym, ◌≡◌, ◌∙◌, arith}
+use Rattle.std.proofs.Common.{◌<◌, inl, inr, Contains, length, take, get_or, subst, sym, ◌≡◌, ◌∙◌, arith}
 use Rattle.std.proofs.lemmas.List.{take_all, take_more}
 use Rattle.std.proofs.lemmas.List.Elements.{Contains-get_or, Contains-push_cases}
 use Rattle.image_preimage.specs.private.Triples.{IsFound, triple_of}
