@@ -15,6 +15,7 @@ use Rattle.word_automata.specs.Path.{edges_of}
 use Rattle.word_automata.specs.Automaton.{Automaton, target, IsValid}
 use Rattle.word_automata.proofs.ForCallers.{found_edge, edge_found, Contains-none, All-from_contains, All-edges_of, ordered_edges}
 use Rattle.word_automata.proofs.ForCallers.{target_within}
+use Rattle.bit_set.specs.Bits.{Has}
 use Rattle.abstraction.proofs.ForCallers.{take_cases, take_keeps, take_last}
 use Rattle.past_abstraction.specs.private.WordSets.{LeadsFrom, IsListed, HasEmptyLists, PutsEdges, AreImages, HaveSameStates}
 
@@ -220,6 +221,14 @@ same_taken states sorted once others moved filtered is q = (
   where
     all : others ≡ dedup eqb sorted
     all = is ∙ dedup_is eqb sorted once filtered
+
+-- the states that are marked
+pub same_marked : (states old marks numbers : List ℕ) → ((q : ℕ) → Has old q → ⊥) → ((q : ℕ) → Contains states q → Has marks q) → ((q : ℕ) → Has marks q → Has old q ⊎ Contains states q)
+    → ((q : ℕ) → Contains numbers q ↔ Has marks q) → HaveSameStates states numbers
+same_marked states old marks numbers none marked only are q = (
+  λ there. elim (only q ((are q).0 there)) [ inl before ↦ absurd (none q before) | inr here ↦ here ],
+  λ there. (are q).1 (marked q there),
+)
 
 -- the numbers below one more
 pub numbers_more : (old new : List ℕ) (i : ℕ) → ((p : ℕ) → Contains old p ↔ (p < i)) → new ≡ old ++ i ∷ [] → (p : ℕ) → Contains new p ↔ (p < i + 1)

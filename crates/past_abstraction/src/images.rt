@@ -1,9 +1,12 @@
 //! The images of a set of states: for each letter on an edge out of the set the states to which it leads. The targets of the edges are
-//! put into a list for each letter, and each list is sorted. The images take time linear in the edges and the letters, up to sorting.
+//! put into a list for each letter, and each list is put in order: a short one is sorted, and the states of a long one are marked, a bit
+//! for each state of the automaton. The images take time linear in the edges and the letters, up to sorting short lists.
 
-ghost use Rattle.std.specs.Prelude.{◌≡◌, ◌↔◌, ◌<◌, ◌≤◌, [], ℕ, All, Contains, IfOk, OnOk, length};
-ghost use Rattle.past_abstraction.specs.private.WordSets.{HasEmptyLists, PutsEdges, AreImages, HaveSameStates};
+ghost use Rattle.std.specs.Prelude.{◌≡◌, ◌↔◌, ◌⊎◌, ◌<◌, ◌≤◌, ◌*◌, [], ℕ, All, Contains, IfOk, OnOk, length};
+ghost use Rattle.bit_set.specs.Bits.{Has};
+ghost use Rattle.past_abstraction.specs.private.WordSets.{HasEmptyLists, PutsEdges, AreImages, HaveSameStates, HasNoMarks};
 
+use bit_set::BitSet;
 use determinise::StateSet;
 use std::alloc::{AllocError, Global};
 use word_automata::Dfa;
@@ -55,26 +58,83 @@ fn put_edges(edges: &[(u32, usize)], lists: &mut Vec<Vec<usize>>) -> Result<(), 
     Ok(())
 }
 
-/// The states of the list in their order, each once, and the list without them.
-pub fn take_states(alloc: Global, list: &mut Vec<usize>) -> Result<StateSet, AllocError>
+/// No mark, with room for those of the automaton's states.
+pub fn no_marks(alloc: Global, a: &Dfa) -> Result<BitSet, AllocError>
+    ensures { IfOk result (HasNoMarks (length a.now.states)) }
+{
+    let marks = BitSet::new(alloc, a.states())?;
+    Ok(marks)
+}
+
+/// The states of the list in their order, each once, and the list without them. There is no mark before and after.
+pub fn take_states(
+    alloc: Global,
+    a: &Dfa,
+    list: &mut Vec<usize>,
+    marks: &mut BitSet,
+) -> Result<StateSet, AllocError>
+    requires states { All (λ state. state < length a.now.states) list.old.items }
+    requires marks { HasNoMarks (length a.now.states) marks.old }
     ensures same { IfOk result (HaveSameStates list.old.items) }
     ensures cleared { OnOk result (list.new.items ≡ []) }
+    ensures marks { OnOk result (HasNoMarks (length a.now.states) marks.new) }
 {
-    put_in_order(list);
+    if are_rising(list) {
+        return Ok(take_all(alloc, list)?);
+    }
+    if is_long(a, list) {
+        return take_marked(alloc, a, list, marks);
+    }
+    list.sort_unstable();
+    list.dedup();
+    Ok(take_all(alloc, list)?)
+}
+
+/// Whether to mark the states costs less than to sort the list. Nothing but time depends on it.
+fn is_long(a: &Dfa, list: &[usize]) -> bool {
+    list.len() > a.states() / 64
+}
+
+/// The states of the list as they stand there, and the list without them.
+fn take_all(alloc: Global, list: &mut Vec<usize>) -> Result<StateSet, AllocError>
+    ensures same { IfOk result (λ set. set ≡ list.old.items) }
+    ensures cleared { OnOk result (list.new.items ≡ []) }
+{
     let states = Vec::from_slice(alloc, list)?;
     list.clear();
     Ok(StateSet::from_vec(states))
 }
 
-/// Puts the states of the list in their order, each once.
-fn put_in_order(list: &mut Vec<usize>)
-    ensures { HaveSameStates list.old.items list.new.items }
+/// The states of the list in their order, each once, by marks, and the list without them. There is no mark before and after.
+fn take_marked(
+    alloc: Global,
+    a: &Dfa,
+    list: &mut Vec<usize>,
+    marks: &mut BitSet,
+) -> Result<StateSet, AllocError>
+    requires states { All (λ state. state < length a.now.states) list.old.items }
+    requires marks { HasNoMarks (length a.now.states) marks.old }
+    ensures same { IfOk result (HaveSameStates list.old.items) }
+    ensures cleared { OnOk result (list.new.items ≡ []) }
+    ensures marks { OnOk result (HasNoMarks (length a.now.states) marks.new) }
 {
-    if are_rising(list) {
-        return;
+    mark(marks, list);
+    list.clear();
+    let states = marks.numbers(alloc)?;
+    marks.clear();
+    Ok(StateSet::from_vec(states))
+}
+
+/// Marks the states.
+fn mark(marks: &mut BitSet, states: &[usize])
+    requires { All (λ state. state < 64 * length marks.old) states.now }
+    ensures marked { (q : ℕ) → Contains states.now q → Has marks.new q }
+    ensures only { (q : ℕ) → Has marks.new q → Has marks.old q ⊎ Contains states.now q }
+    ensures room { length marks.new ≡ length marks.old }
+{
+    'states: for &state in states {
+        marks.insert(state);
     }
-    list.sort_unstable();
-    list.dedup();
 }
 
 /// Whether the states are in their order, each once. Nothing but time depends on it.

@@ -1,15 +1,17 @@
 //! Classes of states by the sets of states into which words lead. A round adds the images of the sets that the round before it added, and
 //! splits the classes by those that are new. The rounds end where one adds no set, or where one with many sets finds each state alone in
-//! its class. Each set is expanded once, in the time of the edges out of it and the letters up to sorting, and looked up by its hash.
+//! its class. Each set is expanded once, in the time of the edges out of it and the letters up to sorting short lists, and looked up by
+//! its hash.
 
 ghost use Rattle.std.specs.Prelude.{◌≡◌, ◌<◌, ◌≤◌, ◌+◌, ℕ, All, IsTrue, IfOk, OnOk, length, slice_index, slice_index_or, []};
 ghost use Rattle.abstraction.specs.Merging.{AreClasses};
 ghost use Rattle.abstraction.specs.Bounds.{up_to};
 ghost use Rattle.past_abstraction.specs.Pasts.{is_related};
-ghost use Rattle.past_abstraction.specs.private.WordSets.{HasEmptyLists, AreBlocksOf, AddsSet, AddsStates, AddsImages, AddsImagesOf, AreWordSets};
+ghost use Rattle.past_abstraction.specs.private.WordSets.{HasEmptyLists, HasNoMarks, AreBlocksOf, AddsSet, AddsStates, AddsImages, AddsImagesOf, AreWordSets};
 
-use crate::images::{all_states, empty_lists, put_images, take_states};
+use crate::images::{all_states, empty_lists, no_marks, put_images, take_states};
 use abstraction::{Partition, are_single};
+use bit_set::BitSet;
 use determinise::StateSet;
 use indexmap::IndexSet;
 use std::alloc::{AllocError, Global};
@@ -27,6 +29,7 @@ pub fn classes_by_words(alloc: Global, a: &Dfa, bound: u64) -> Result<Vec<usize>
     let mut sets = IndexSet::new(alloc);
     add_set(a, &mut sets, &mut blocks, all_states(alloc, a.states())?)?;
     let mut lists = empty_lists(alloc, a.letters())?;
+    let mut marks = no_marks(alloc, a)?;
     let mut first = 0;
     'rounds: for _ in 0..bound {
         let end = sets.len();
@@ -39,7 +42,15 @@ pub fn classes_by_words(alloc: Global, a: &Dfa, bound: u64) -> Result<Vec<usize>
                 return Ok(classes);
             }
         }
-        add_images_from(alloc, a, &mut lists, &mut sets, &mut blocks, first)?;
+        add_images_from(
+            alloc,
+            a,
+            &mut lists,
+            &mut marks,
+            &mut sets,
+            &mut blocks,
+            first,
+        )?;
         first = end;
     }
     blocks.classes(alloc)
@@ -51,69 +62,80 @@ fn are_many(a: &Dfa, first: usize, end: usize) -> bool {
     end.saturating_sub(first) >= a.states() / SINGLE_PART
 }
 
-/// Adds the images of the sets from the first one on. The lists, one for each letter, are empty before and after.
+/// Adds the images of the sets from the first one on. The lists, one for each letter, are empty before and after, and
+/// there is no mark.
 fn add_images_from(
     alloc: Global,
     a: &Dfa,
     lists: &mut Vec<Vec<usize>>,
+    marks: &mut BitSet,
     sets: &mut IndexSet<StateSet>,
     blocks: &mut Partition,
     first: usize,
 ) -> Result<(), AllocError>
     requires lists { HasEmptyLists a.now.letters lists.old.items }
+    requires marks { HasNoMarks (length a.now.states) marks.old }
     requires before { AreBlocksOf a.now sets.old.keys blocks.old }
     ensures lists { OnOk result (HasEmptyLists a.now.letters lists.new.items) }
+    ensures marks { OnOk result (HasNoMarks (length a.now.states) marks.new) }
     ensures blocks { OnOk result (AreBlocksOf a.now sets.new.keys blocks.new) }
     ensures images { OnOk result (AddsImagesOf a.now first (length sets.old.keys) sets.old.keys sets.new.keys) }
 {
     'sets: for number in first..sets.len() {
-        add_images(alloc, a, lists, sets, blocks, number)?;
+        add_images(alloc, a, lists, marks, sets, blocks, number)?;
     }
     Ok(())
 }
 
-/// Adds the images of the set with this number. The lists, one for each letter, are empty before and after.
+/// Adds the images of the set with this number. The lists, one for each letter, are empty before and after, and
+/// there is no mark.
 fn add_images(
     alloc: Global,
     a: &Dfa,
     lists: &mut Vec<Vec<usize>>,
+    marks: &mut BitSet,
     sets: &mut IndexSet<StateSet>,
     blocks: &mut Partition,
     number: usize,
 ) -> Result<(), AllocError>
     requires within { number < length sets.old.keys }
     requires lists { HasEmptyLists a.now.letters lists.old.items }
+    requires marks { HasNoMarks (length a.now.states) marks.old }
     requires before { AreBlocksOf a.now sets.old.keys blocks.old }
     ensures lists { OnOk result (HasEmptyLists a.now.letters lists.new.items) }
+    ensures marks { OnOk result (HasNoMarks (length a.now.states) marks.new) }
     ensures blocks { OnOk result (AreBlocksOf a.now sets.new.keys blocks.new) }
     ensures images { OnOk result (AddsImages a.now (slice_index_or sets.old.keys number []) sets.old.keys sets.new.keys) }
 {
     put_images(a, sets.as_slice()[number].as_slice(), lists)?;
     'letters: for letter in 0..lists.len() {
         let list: &mut Vec<usize> = &mut lists[letter];
-        add_states(alloc, a, list, sets, blocks)?;
+        add_states(alloc, a, list, marks, sets, blocks)?;
     }
     Ok(())
 }
 
-/// Adds the states of the list as a set, if there are any, and empties the list.
+/// Adds the states of the list as a set, if there are any, and empties the list. There is no mark before and after.
 fn add_states(
     alloc: Global,
     a: &Dfa,
     list: &mut Vec<usize>,
+    marks: &mut BitSet,
     sets: &mut IndexSet<StateSet>,
     blocks: &mut Partition,
 ) -> Result<(), AllocError>
     requires states { All (λ state. state < length a.now.states) list.old.items }
+    requires marks { HasNoMarks (length a.now.states) marks.old }
     requires before { AreBlocksOf a.now sets.old.keys blocks.old }
     ensures cleared { OnOk result (list.new.items ≡ []) }
+    ensures marks { OnOk result (HasNoMarks (length a.now.states) marks.new) }
     ensures blocks { OnOk result (AreBlocksOf a.now sets.new.keys blocks.new) }
     ensures set { OnOk result (AddsStates list.old.items sets.old.keys sets.new.keys) }
 {
     if list.is_empty() {
         return Ok(());
     }
-    let set = take_states(alloc, list)?;
+    let set = take_states(alloc, a, list, marks)?;
     add_set(a, sets, blocks, set)?;
     Ok(())
 }

@@ -1,9 +1,9 @@
 -- Rows as states: a row matches a configuration where its patterns match the lists of the sections, one after the other.
-use Rattle.std.proofs.Common.{◌≡◌, ◌≢◌, ◌==◌, ◌<◌, ◌+◌, ◌||◌, ◌↔◌, ◌⊎◌, ℕ, zero, suc, Bool, true, false, List, [], ◌∷◌, ◌++◌, Option, None, Some, Contains, AllPairs, IsTrue, length, take, get_or, slice_get, unwrap_or, refl, sym, ap, subst, ◌∙◌, inl, inr, arith, eq-eqb, eqb-true, ne_eqb, if◌then◌else◌, add-zero}
+use Rattle.std.proofs.Common.{◌≡◌, ◌≢◌, ◌==◌, ◌<◌, ◌+◌, ◌||◌, ◌↔◌, ◌⊎◌, ℕ, zero, suc, Bool, true, false, List, [], ◌∷◌, ◌++◌, Option, None, Some, Contains, AllPairs, IsTrue, length, get_or, slice_get, unwrap_or, refl, sym, ap, subst, ◌∙◌, inl, inr, arith, eq-eqb, eqb-true, ne_eqb, if◌then◌else◌, add-zero}
 use Rattle.std.specs.List.{list_all, list_any, AllByRecursion}
 use Rattle.std.proofs.lemmas.Bool.{cases_Bool, false≢true, and_parts, and_from, or_cases, or_left, or_right}
 use Rattle.std.proofs.lemmas.Option.{same_Some, slice_get_within, slice_get-get_or, get_or_from_slice_get}
-use Rattle.std.proofs.lemmas.List.Folds.{list_any_more}
+use Rattle.std.proofs.lemmas.List.Folds.{list_any-append}
 use Rattle.std.proofs.lemmas.List.Elements.{Contains-push, Contains-push_cases}
 use Rattle.word_automata.specs.Nondeterministic.{NondeterministicAutomaton, Accepts, with_start, empty_nondeterministic}
 use Rattle.word_automata.specs.Path.{IsPath}
@@ -161,39 +161,6 @@ module _ (s : SystemData) (row : Row) (valid : IsValidRow s.sections row) (w : L
   rest_out c fitting matches e =
       record { lists = c.lists; fitting = fitting; matches = row_in s.sections row valid c matches; spelled = e }
 
--- a configuration that one row more matches
-module _ (s : SystemData) (rows : List Row) (index : ℕ) (row : Row) (within : index < length rows) (is : row ≡ get_or rows index row) where
-  one_more : (c : Configuration) → list_any (row_matches c) (take (index + 1) rows) ≡ (list_any (row_matches c) (take index rows) || row_matches c row)
-  one_more c = list_any_more (row_matches c) rows index row within
-      ∙ ap (λ r. list_any (row_matches c) (take index rows) || row_matches c r) (sym is)
-
-  more_old : (w : List ℕ) → IsWordOfRows s (take index rows) w → IsWordOfRows s (take (index + 1) rows) w
-  more_old w (c, matches, e) =
-      let parts = and_parts (fits s c) (list_any (row_matches c) (take index rows)) matches in (
-        c,
-        and_from (fits s c) (list_any (row_matches c) (take (index + 1) rows)) parts.0
-            (one_more c ∙ or_left (list_any (row_matches c) (take index rows)) (row_matches c row) parts.1),
-        e,
-      )
-
-  more_new : (w : List ℕ) (c : Configuration) → fits s c ≡ true → row_matches c row ≡ true → w ≡ word_of s c → IsWordOfRows s (take (index + 1) rows) w
-  more_new w c fitting matches e = (
-    c,
-    and_from (fits s c) (list_any (row_matches c) (take (index + 1) rows)) fitting
-        (one_more c ∙ or_right (list_any (row_matches c) (take index rows)) (row_matches c row) matches),
-    e,
-  )
-
-  more_cases : (w : List ℕ) → IsWordOfRows s (take (index + 1) rows) w
-      → IsWordOfRows s (take index rows) w ⊎ ((c : Configuration) × ((fits s c ≡ true) × (row_matches c row ≡ true) × (w ≡ word_of s c)))
-  more_cases w (c, matches, e) =
-      let parts = and_parts (fits s c) (list_any (row_matches c) (take (index + 1) rows)) matches in
-      let either = sym (one_more c) ∙ parts.1 in
-      elim (cases_Bool (list_any (row_matches c) (take index rows))) [
-        | inl old ↦ inl (c, and_from (fits s c) (list_any (row_matches c) (take index rows)) parts.0 old, e)
-        | inr none ↦ inr (c, (parts.0, sym (ap (λ b. b || row_matches c row) none) ∙ either, e))
-      ]
-
 -- the words of the one row of an automaton
 module _ (s : SystemData) (row : Row) (mid : NondeterministicAutomaton) (start : ℕ) (valid : IsValidRow s.sections row)
     (added : IsAdded (empty_nondeterministic (separator_of s + 1)) mid start (IsRest row.parts 0 0 (separator_of s) s.sections)) (w : List ℕ) where
@@ -228,39 +195,32 @@ module _ (s : SystemData) (row : Row) (mid : NondeterministicAutomaton) (start :
 pub no_rows : (s : SystemData) (w : List ℕ) → IsWordOfRows s [] w → ⊥
 no_rows s w r = false≢true (and_parts (fits s r.0) false r.1).1
 
--- one row more
-rows_united : (s : SystemData) (rows : List Row) (index : ℕ) (row : Row) → index < length rows → row ≡ get_or rows index row
-    → (old more new : Bool) (w : List ℕ) → new ≡ (old || more) → (IsTrue old ↔ IsWordOfRows s (take index rows) w) → (IsTrue more ↔ IsWordOfRows s (row ∷ []) w)
-    → IsTrue new ↔ IsWordOfRows s (take (index + 1) rows) w
-rows_united s rows index row within is old more new w united before alone = (
-  λ accepted. elim (or_cases old more (sym united ∙ accepted)) [
-    | inl first ↦ more_old s rows index row within is w (before.0 first)
-    | inr second ↦
-        let r = alone.0 second in
-        let parts = and_parts (fits s r.0) (row_matches r.0 row || false) r.1 in
-        more_new s rows index row within is w r.0 parts.0 (or_false (row_matches r.0 row) parts.1) r.2
-  ],
-  λ r. elim (more_cases s rows index row within is w r) [
-    | inl first ↦ united ∙ or_left old more (before.1 first)
-    | inr second ↦
-        let matches : (row_matches second.0 row || false) ≡ true = or_left (row_matches second.0 row) false second.1.1 in
-        united ∙ or_right old more (alone.1 (second.0, and_from (fits s second.0) (row_matches second.0 row || false) second.1.0 matches, second.1.2))
-  ],
-)
+-- a configuration that some row of two lists matches
+module _ (s : SystemData) (first second rows : List Row) (cut : rows ≡ first ++ second) where
+  both_match : (c : Configuration) → list_any (row_matches c) rows ≡ (list_any (row_matches c) first || list_any (row_matches c) second)
+  both_match c = ap (list_any (row_matches c)) cut ∙ list_any-append (row_matches c) first second
 
--- one row more behind the first one
-pub rows_after_first : (s : SystemData) (first : Row) (later : List Row) (index : ℕ) (row : Row) → index < length later → row ≡ get_or later index row
-    → (old more new : Bool) (w : List ℕ) → new ≡ (old || more) → (IsTrue old ↔ IsWordOfRows s (first ∷ take index later) w)
-    → (IsTrue more ↔ IsWordOfRows s (row ∷ []) w) → IsTrue new ↔ IsWordOfRows s (first ∷ take (index + 1) later) w
-rows_after_first s first later index row within is old more new w united before alone =
-    let here : index + 1 ≡ suc index = omega arith in
-    let next : index + 1 + 1 ≡ suc (index + 1) = omega arith in
-    subst (λ xs. IsTrue new ↔ IsWordOfRows s xs w) (ap (λ k. take k (first ∷ later)) next)
-    (rows_united s (first ∷ later) (index + 1) row (omega arith) (is ∙ sym (ap (λ k. get_or (first ∷ later) k row) here)) old more new w united
-    (subst (λ xs. IsTrue old ↔ IsWordOfRows s xs w) (sym (ap (λ k. take k (first ∷ later)) here)) before) alone)
+  of_first : (w : List ℕ) → IsWordOfRows s first w → IsWordOfRows s rows w
+  of_first w (c, matches, e) =
+      let parts = and_parts (fits s c) (list_any (row_matches c) first) matches in
+      (c, and_from (fits s c) (list_any (row_matches c) rows) parts.0 (both_match c ∙ or_left (list_any (row_matches c) first) (list_any (row_matches c) second) parts.1), e)
 
--- each row is valid
-pub row_valid : (sections : List Section) (rows : List Row) (index : ℕ) (row : Row) → AllByRecursion (IsValidRow sections) rows → index < length rows
-    → row ≡ get_or rows index row → IsValidRow sections row
-row_valid sections rows index row all within is =
-    all_at (IsValidRow sections) rows all index row (slice_get-get_or rows index row within ∙ ap (λ r. Some r) (sym is))
+  of_second : (w : List ℕ) → IsWordOfRows s second w → IsWordOfRows s rows w
+  of_second w (c, matches, e) =
+      let parts = and_parts (fits s c) (list_any (row_matches c) second) matches in
+      (c, and_from (fits s c) (list_any (row_matches c) rows) parts.0 (both_match c ∙ or_right (list_any (row_matches c) first) (list_any (row_matches c) second) parts.1), e)
+
+  of_either : (w : List ℕ) → IsWordOfRows s rows w → IsWordOfRows s first w ⊎ IsWordOfRows s second w
+  of_either w (c, matches, e) =
+      let parts = and_parts (fits s c) (list_any (row_matches c) rows) matches in
+      elim (or_cases (list_any (row_matches c) first) (list_any (row_matches c) second) (sym (both_match c) ∙ parts.1)) [
+        | inl here ↦ inl (c, and_from (fits s c) (list_any (row_matches c) first) parts.0 here, e)
+        | inr there ↦ inr (c, and_from (fits s c) (list_any (row_matches c) second) parts.0 there, e)
+      ]
+
+  -- its words are those of both lists
+  pub rows_of_both : (a b both : Bool) (w : List ℕ) → both ≡ (a || b) → (IsTrue a ↔ IsWordOfRows s first w) → (IsTrue b ↔ IsWordOfRows s second w) → IsTrue both ↔ IsWordOfRows s rows w
+  rows_of_both a b both w united left right = (
+    λ accepted. elim (or_cases a b (sym united ∙ accepted)) [ inl here ↦ of_first w (left.0 here) | inr there ↦ of_second w (right.0 there) ],
+    λ r. elim (of_either w r) [ inl here ↦ united ∙ or_left a b (left.1 here) | inr there ↦ united ∙ or_right a b (right.1 there) ],
+  )

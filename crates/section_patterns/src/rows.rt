@@ -1,5 +1,6 @@
 //! The words of rows: of each row alone, and then of all together.
-//! Each row is made canonical alone, and the rows are united one after the other, from the first one on.
+//! Each row is made canonical alone, and the rows are united by halves of their list, so that what a row has is gone through as often
+//! as the list can be halved.
 
 ghost use Rattle.std.specs.Prelude.{◌≡◌, ◌↔◌, ◌||◌, ℕ, List, [], ◌∷◌, false, IfOk, IsTrue};
 ghost use Rattle.std.specs.List.{AllByRecursion};
@@ -27,31 +28,16 @@ pub(crate) fn words_of_rows(
     ensures letters { IfOk result (λ c. c.letters ≡ automata_letters system.now) }
     ensures canonical { IfOk result IsCanonical }
 {
-    match rows {
-        [] => no_words(alloc, system),
-        [first, later @ ..] => words_from(alloc, system, first, later),
+    if rows.is_empty() {
+        return no_words(alloc, system);
     }
-}
-
-/// The canonical automaton of the words of the configurations that the first row or some of the later ones match.
-fn words_from(
-    alloc: Global,
-    system: &System,
-    first: &Row,
-    later: &[Row],
-) -> Result<Canon, AllocError>
-    requires first { IsValidRow system.now.sections first.now }
-    requires later { AllByRecursion (IsValidRow system.now.sections) later.now }
-    ensures language { IfOk result (λ c. (w : List ℕ) → IsTrue (accepts c w) ↔ IsWordOfRows system.now (first.now ∷ later.now) w) }
-    ensures letters { IfOk result (λ c. c.letters ≡ automata_letters system.now) }
-    ensures canonical { IfOk result IsCanonical }
-{
-    let mut words = words_of_row(alloc, system, first)?;
-    'rows: for row in later {
-        let more = words_of_row(alloc, system, row)?;
-        words = united(alloc, &words, &more)?;
+    if rows.len() == 1 {
+        return Ok(words_of_row(alloc, system, &rows[0])?);
     }
-    Ok(words)
+    let (first, second) = rows.split_at(rows.len() / 2);
+    let a = words_of_rows(alloc, system, first)?;
+    let b = words_of_rows(alloc, system, second)?;
+    Ok(united(alloc, &a, &b)?)
 }
 
 /// The canonical automaton of no word.

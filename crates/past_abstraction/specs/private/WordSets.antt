@@ -1,6 +1,7 @@
 -- The sets of states into which words lead, their images, and the blocks that they split.
-use Rattle.std.specs.Prelude.{◌≡◌, ◌↔◌, ◌⊎◌, ◌<◌, ◌≤◌, ◌++◌, ℕ, List, Vec, [], Some, Contains, length, slice_get, slice_index, slice_index_or}
+use Rattle.std.specs.Prelude.{◌≡◌, ◌↔◌, ◌⊎◌, ◌<◌, ◌≤◌, ◌*◌, ◌++◌, ℕ, List, Vec, [], Some, Contains, length, slice_get, slice_index, slice_index_or}
 use Rattle.word_automata.specs.Automaton.{Automaton, target, IsValid}
+use Rattle.bit_set.specs.Bits.{Has}
 use Rattle.past_abstraction.specs.Pasts.{LeadsInto}
 
 -- the letter leads from a state of the set to q
@@ -32,6 +33,11 @@ AreImages a set lists = (letter q : ℕ) → IsListed lists letter q ↔ LeadsFr
 -- the lists have the same states
 abbrev pub HaveSameStates : List ℕ → List ℕ → Type 0
 HaveSameStates states others = (q : ℕ) → Contains others q ↔ Contains states q
+
+-- no number is marked, and there is room for marks of those below the bound
+pub record HasNoMarks (bound : ℕ) (marks : List ℕ) : Type 0 where
+  pub none : (q : ℕ) → Has marks q → ⊥
+  pub room : bound ≤ 64 * length marks
 
 -- the set has the states into which the word leads
 abbrev pub IsSetOf : Automaton → List ℕ → List ℕ → Type 0

@@ -23,6 +23,7 @@ letters-init c =
     let read = c.as_slice-2.ensures ∙ read_at old c.as_slice.result.now c.index-as_slice-number.result number c.as_slice.ensures.keys c.requires.within c.index-as_slice-number.is in
     record {
       lists = first_images a (get_or old number []) lists c.in_ok-put_images.ensures.count (subst (λ set. AreImages a set lists) read c.in_ok-put_images.ensures.images);
+      marks = c.requires.marks;
       blocks = c.requires.before;
       images = images_none a (get_or old number []) old;
     }
@@ -49,6 +50,7 @@ letters-preserved c =
     let list_is = c.index_mut-list.ensures.value in
     record {
       lists = images_from_next a set letter lists list within list_is before.lists c.add_states.new.list c.in_ok-add_states.ensures.cleared;
+      marks = c.in_ok-add_states.ensures.marks;
       blocks = c.in_ok-add_states.ensures.blocks;
       images = images_more a set list.items letter old c.letters.sets.keys c.add_states.new.sets.keys (is_image a set letter lists list within list_is before.lists) before.images
           c.in_ok-add_states.ensures.set;

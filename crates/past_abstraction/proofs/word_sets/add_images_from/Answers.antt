@@ -9,6 +9,7 @@ sets-preserved c =
     let within : number < length old = (let e = c.len-number-end.ensures.len in omega arith) in
     record {
       lists = c.in_ok-add_images.ensures.lists;
+      marks = c.in_ok-add_images.ensures.marks;
       blocks = c.in_ok-add_images.ensures.blocks;
       images = images_of_more c.args.a.now c.args.first number old c.sets.sets.keys c.add_images.new.sets.keys within c.sets.invariant.images c.in_ok-add_images.ensures.images;
     }

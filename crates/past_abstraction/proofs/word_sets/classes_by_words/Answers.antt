@@ -23,6 +23,7 @@ rounds-init c =
     let all = subst (λ n. (p : ℕ) → Contains set p ↔ (p < n)) c.states-2.ensures.count c.in_ok-all_states.ensures in
     record {
       lists = search rules;
+      marks = c.in_ok-marks.ensures;
       blocks = c.in_ok-add_set.ensures.blocks;
       words = first_sets c.args.a.now set sets all (subst (λ old. AddsSet set old sets) c.new-sets.ensures.empty c.in_ok-add_set.ensures.set);
     }
@@ -52,6 +53,7 @@ rounds-preserved c =
     let before = c.rounds.invariant in
     record {
       lists = c.in_ok-add_images_from.ensures.lists;
+      marks = c.in_ok-add_images_from.ensures.marks;
       blocks = c.in_ok-add_images_from.ensures.blocks;
       words = subst (λ n. AreWordSets a (c.rounds.counter + 1) n new) (sym c.len-end.ensures.len)
           (next_sets a c.rounds.counter c.rounds.first old new c.in_ok-add_images_from.ensures.images before.words);
