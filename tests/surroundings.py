@@ -17,29 +17,38 @@ import time
 TOP = os.path.dirname(os.path.dirname(os.path.abspath(__file__)))
 SECONDS = 300
 
-# A command rt that proves nothing: `lib` and `run` write what they were asked to a list and want the libraries below, and `run` makes a program
-# that prints its words.
-FAKE = """#!/usr/bin/env bash
-name=$(basename "$PWD")
+# A toolchain that proves nothing. `rattle` writes the crate that it was asked for to a list and wants the libraries below, and `rattle-link` makes
+# a program that prints its words.
+RT = """#!/usr/bin/env bash
 case $1 in
-version) echo "$FAKE_KIT logic 0"; exit ;;
+version) echo "$FAKE_KIT logic 0" ;;
+doc) echo "$FAKE_TOP/START-HERE.md" ;;
 try) shift 2; echo "words: $*"; printf 'armc: not proved\\nchecked: ended status=5\\nrun=ended status=5 runners=1 races=unchecked proved=no\\n' >&2; exit 5 ;;
 esac
-mkdir -p out/incremental out/rlib; echo "$name" >>"$FAKE_LIST"; sleep "$FAKE_SLEEP"
-for below in $(sed -n "s/^$name://p" ../../crates.txt); do
-  [ ! -d "../$below" ] || [ -f "../$below/out/rlib/stamp" ] || echo "$name-without-$below" >>"$FAKE_LIST"
+"""
+RATTLE = """#!/usr/bin/env bash
+[ "$2" != --help ] || { echo " --statements"; exit; }
+name=$3 made=${!#}
+echo "$name" >>"$FAKE_LIST"; [ "$name" != "$FAKE_SLOW" ] || sleep 30
+for word; do
+  case $word in *=*.rlib) [ -e "${word#*=}" ] || echo "$name-without-${word%%=*}" >>"$FAKE_LIST" ;; esac
 done
 case $name in middle | other)
   for _ in $(seq 100); do [ "$(grep -c 'middle\\|other' "$FAKE_LIST")" -lt 2 ] || break; sleep 0.1; done ;;
 esac
 [ "$name" != "$FAKE_FAULT" ] || { echo error; exit 1; }
-echo "$*" >out/rlib/stamp
-[ "$1" = lib ] || cat >out/armc <<'END'
+[ "$name" != "$FAKE_EDIT" ] || echo >>src/lib.rt
+case "$*" in *"--jobs 1 "*) ;; *) [ "$name" != "$FAKE_KILL" ] || kill -9 $$ ;; esac
+mkdir -p "$made"; echo "$*" >"$made/words"
+"""
+LINKER = """#!/usr/bin/env bash
+while [ "$1" != -o ]; do shift; done
+cat >"$2" <<'END'
 #!/bin/sh
 [ "$1" = verify ] && { echo valid; exit 0; }
 echo "words: $*"; exit 3
 END
-[ "$1" = lib ] || { chmod +x out/armc; echo valid; }
+chmod +x "$2"
 """
 CRATES = "low:\nmiddle: low io\nother: low\ntop: middle other\narmc: top\ntests: top\n"
 
@@ -58,7 +67,7 @@ def differences(found, wanted):
 
 
 class Tree:
-    """A small repository with the launcher and its surroundings, six crates without content and the rt above."""
+    """A small repository with the launcher and its surroundings, six crates without content and the toolchain above."""
 
     def __init__(self, folder):
         self.top, self.list = os.path.join(folder, "repository"), os.path.join(folder, "list")
@@ -75,13 +84,16 @@ class Tree:
             os.makedirs(os.path.join(self.top, "crates", line.partition(":")[0], "src"))
         with open(os.path.join(self.top, "HANDLES"), "w") as file:
             file.write("Handles allowed: none.\n")
-        self.bin = os.path.join(folder, "bin")
-        os.makedirs(self.bin)
-        with open(os.path.join(self.bin, "rt"), "w") as file:
-            file.write(FAKE)
-        os.chmod(os.path.join(self.bin, "rt"), 0o755)
-        self.environment = {**os.environ, "PATH": f"{self.bin}:{os.environ['PATH']}", "FAKE_LIST": self.list, "FAKE_SLEEP": "0", "FAKE_FAULT": ""}
-        self.environment.update(FAKE_KIT="rattle-kit-13b", TMPDIR=folder, ARMC_JOBS="2")
+        self.kit = os.path.join(folder, "kit")
+        self.bin = os.path.join(self.kit, "bin")
+        for name in ("bin", "rlibs/std.rlib", "rlibs/io.rlib"):
+            os.makedirs(os.path.join(self.kit, name))
+        for name, text in (("rt", RT), ("rattle", RATTLE), ("rattle-link", LINKER)):
+            with open(os.path.join(self.bin, name), "w") as file:
+                file.write(text)
+            os.chmod(os.path.join(self.bin, name), 0o755)
+        self.environment = {**os.environ, "PATH": f"{self.bin}:{os.environ['PATH']}", "FAKE_TOP": self.kit, "FAKE_LIST": self.list}
+        self.environment.update(FAKE_KIT="rattle-kit-13b", FAKE_SLOW="", FAKE_FAULT="", FAKE_EDIT="", FAKE_KILL="", TMPDIR=folder, ARMC_JOBS="2")
         self.environment.pop("ARMC_TRY", None)
 
     def call(self, *words, program="armc", **changed):
@@ -93,15 +105,16 @@ class Tree:
     def out(self, name, *parts):
         return os.path.join(self.top, "crates", name, "out", *parts)
 
-    def has(self, name, *parts):
-        return os.path.exists(self.out(name, *parts))
-
     def forget(self):
         shutil.rmtree(self.out("armc"), ignore_errors=True)
 
+    def change(self, name):
+        with open(os.path.join(self.top, "crates", name, "src", "lib.rt"), "a") as file:
+            file.write("//\n")
+
 
 def launcher():
-    """The launcher over the rt above: what it asks of it, what it says, and its status."""
+    """The launcher over the toolchain above: what it asks of it, what it says, and its status."""
     with tempfile.TemporaryDirectory() as folder:
         tree, wrong = Tree(folder), []
         found = tree.call("show", "a b")
@@ -110,25 +123,40 @@ def launcher():
             wrong.append(f"it proves {found['asked']}")
         if "armc: proved 4 of 5 crates, 0 min: top\narmc: the program is built, 0 min\n" not in found["stderr"]:
             wrong.append(f"it says {found['stderr']!r}")
-        wrong += [f"the folder out/ of {name} is not back" for name in ("low", "middle", "other", "top") if not tree.has(name, "rlib", "stamp")]
-        wrong += ["its workspaces are left"] if tree.has("armc", "workspaces") or any(name.startswith("armc-build-") for name in os.listdir(folder)) else []
+        wrong += ["its logs are left"] if any(name.startswith("armc-build-") for name in os.listdir(folder)) else []
         for name, jobs in (("low", 2), ("middle", 1), ("other", 1), ("top", 2)):
-            with open(tree.out(name, "rlib", "stamp")) as file:
-                wrong += differences({f"words for {name}": file.read()}, {f"words for {name}": f"lib --jobs {jobs}\n"})
+            with open(tree.out(name, "statements", f"{name}.rlib", "words")) as file:
+                words = file.read()
+            wrong += [] if f" --jobs {jobs} --statements -o " in words else [f"words for {name}: {words}"]
         wrong += differences(tree.call("x"), {"status": 3, "stdout": "words: x\n", "stderr": "", "asked": []})
-        tree.forget()
-        found = tree.call("x", FAKE_FAULT="other")
-        if found["status"] != 126 or "could not be built, at crate other; " not in found["stderr"] or "top" in found["asked"]:
-            wrong.append(f"with a crate that is not proved: {found}")
-        found = tree.call("x", FAKE_KIT="rattle-kit-13a")
-        if found["status"] != 126 or found["asked"] or found["stderr"].count("\n") != 1 or "rattle-kit-13b or later is needed" not in found["stderr"]:
-            wrong.append(f"with an old kit: {found}")
-        os.remove(os.path.join(tree.bin, "rt"))
-        if not shutil.which("rt", path=tree.environment["PATH"]):
-            found = tree.call("x")
-            if found["status"] != 126 or found["stderr"].count("\n") != 1 or "is not on the path" not in found["stderr"]:
-                wrong.append(f"without rt: {found}")
-        return wrong
+        return wrong + launcher_faults(tree)
+
+
+def launcher_faults(tree):
+    """A crate that is not proved, files that are changed during the build and after it, a check that is killed as long as it has more jobs than
+    one, an old kit, one without its checker, and none."""
+    wrong = []
+    tree.change("top")
+    found = tree.call("x", FAKE_FAULT="top")
+    if found["status"] != 126 or "could not be built, at crate top; " not in found["stderr"] or found["asked"] != ["top"]:
+        wrong.append(f"with a crate that is not proved: {found}")
+    found = tree.call("x", FAKE_EDIT="top")
+    if found["status"] != 126 or "at crate top, whose files were changed meanwhile" not in found["stderr"] or found["asked"] != ["top"]:
+        wrong.append(f"with a crate that is changed meanwhile: {found}")
+    wrong += differences(tree.call("x", FAKE_KILL="top"), {"status": 3, "stdout": "words: x\n", "asked": ["top", "top", "armc"]})
+    tree.forget()
+    found = tree.call("x", FAKE_KIT="rattle-kit-13a")
+    if found["status"] != 126 or found["asked"] or found["stderr"].count("\n") != 1 or "rattle-kit-13b or later is needed" not in found["stderr"]:
+        wrong.append(f"with an old kit: {found}")
+    found = tree.call("x", FAKE_TOP=tree.top)
+    if found["status"] != 126 or found["asked"] or "has no bin/rattle" not in found["stderr"]:
+        wrong.append(f"with a kit without its checker: {found}")
+    os.remove(os.path.join(tree.bin, "rt"))
+    if not shutil.which("rt", path=tree.environment["PATH"]):
+        found = tree.call("x")
+        if found["status"] != 126 or found["stderr"].count("\n") != 1 or "is not on the path" not in found["stderr"]:
+            wrong.append(f"without rt: {found}")
+    return wrong
 
 
 def launcher_unproved():
@@ -146,13 +174,13 @@ def launcher_unproved():
 
 
 def stopped_build(tree, number):
-    """Status and standard error of a build that a signal reaches while it proves the first crate."""
+    """Status and standard error of a build that a signal reaches while it proves the last of the libraries."""
     # (a program that a shell started in the background is handed a SIGINT that is ignored)
     answering = functools.partial(signal.signal, signal.SIGINT, signal.SIG_DFL)
     words = [os.path.join(tree.top, "tools", "build-program")]
-    build = subprocess.Popen(words, env={**tree.environment, "FAKE_SLEEP": "30"}, stderr=subprocess.PIPE, text=True, preexec_fn=answering)
+    build = subprocess.Popen(words, env={**tree.environment, "FAKE_SLOW": "top"}, stderr=subprocess.PIPE, text=True, preexec_fn=answering)
     end = time.monotonic() + 60
-    while not os.path.exists(tree.list) and time.monotonic() < end:
+    while time.monotonic() < end and not (os.path.exists(tree.list) and "top" in read(tree.list)):
         time.sleep(0.1)
     build.send_signal(number)
     try:
@@ -164,19 +192,14 @@ def stopped_build(tree, number):
 
 
 def launcher_interrupted():
-    """An interrupt ends what runs, what is kept stays, and the next call goes on; so it does after a build that was killed."""
+    """An interrupt ends what runs, what is proved stays, and the next call goes on; so it does after a build that was killed."""
     wrong = []
     for number, status, words in ((signal.SIGINT, 130, "interrupted; what is proved is kept"), (signal.SIGKILL, -signal.SIGKILL, "")):
         with tempfile.TemporaryDirectory() as folder:
             tree = Tree(folder)
             ended, said = stopped_build(tree, number)
             wrong += [] if ended == status and words in said else [f"status {ended}: {said!r}"]
-            wrong += [] if tree.has("low", "incremental") == (number == signal.SIGINT) else ["where is the folder of kept work?"]
-            kept = glob.glob(os.path.join(tree.top, "crates", "**", "low", "out", "incremental"), recursive=True)
-            for each in kept:
-                open(os.path.join(each, "kept"), "w").close()
-            wrong += differences(tree.call("x"), {"status": 3, "stdout": "words: x\n"})
-            wrong += [] if tree.has("low", "incremental", "kept") and not tree.has("armc", "workspaces") else ["the next call does not begin with what was kept"]
+            wrong += differences(tree.call("x"), {"status": 3, "stdout": "words: x\n", "asked": ["top", "armc"]})
     return wrong
 
 
