@@ -143,6 +143,10 @@ def launcher_faults(tree):
     found = tree.call("x", FAKE_EDIT="top")
     if found["status"] != 126 or "at crate top, whose files were changed meanwhile" not in found["stderr"] or found["asked"] != ["top"]:
         wrong.append(f"with a crate that is changed meanwhile: {found}")
+    found = tree.call("x", FAKE_EDIT="armc")
+    if found["status"] != 126 or "changed while the program was built" not in found["stderr"] or found["asked"] != ["top", "armc"]:
+        wrong.append(f"with a file that is changed while the program is built: {found}")
+    tree.change("top")
     wrong += differences(tree.call("x", FAKE_KILL="top"), {"status": 3, "stdout": "words: x\n", "asked": ["top", "top", "armc"]})
     tree.forget()
     found = tree.call("x", FAKE_KIT="rattle-kit-13a")
