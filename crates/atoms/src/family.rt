@@ -18,13 +18,14 @@ use std::alloc::{AllocError, Global};
 /// So many sets are each tested for being a union. Later ones are only while more than half were unions.
 const ALWAYS_ASKED: usize = 1024;
 
-/// The sets of the family, all that were seen, each a union of these, by which sets this is told, and how many edges were looked at.
+/// The sets of the family, all that were seen, each a union of these, by which sets this is told, and how many edges and words were
+/// looked at.
 #[derive(Drop)]
 pub struct Family {
     pub sets: Vec<BitSet>,
     pub seen: IndexSet<BitSet>,
     holders: Holders,
-    edges: usize,
+    looked: usize,
 }
 
 impl Family {
@@ -37,7 +38,7 @@ impl Family {
             sets: Vec::new(alloc),
             seen: IndexSet::new(alloc),
             holders: Holders::new(alloc, places)?,
-            edges: 0,
+            looked: 0,
         };
         family.add(alloc, set)?;
         Ok(family)
@@ -77,9 +78,9 @@ impl Family {
         set.numbers(alloc)
     }
 
-    /// How many edges and holders were looked at.
+    /// How many edges, holders, and words of sets were looked at.
     pub fn work(&self) -> usize {
-        self.edges.saturating_add(self.holders.asked())
+        self.looked.saturating_add(self.holders.asked())
     }
 
     /// Adds the set, if it has a number, and takes its numbers out.
@@ -132,7 +133,8 @@ impl Family {
     {
         let places = self.sets[number].numbers(alloc)?;
         let looked = add_preimages(preimages, into, used, &places);
-        self.edges = self.edges.saturating_add(looked);
+        let words = preimages.len().saturating_mul(used.len() / 64 + 1);
+        self.looked = self.looked.saturating_add(looked).saturating_add(words);
         self.take_each(alloc, preimages)?;
         Ok(())
     }

@@ -9,6 +9,7 @@ ghost use Rattle.atoms.specs.private.Family.{Covers};
 ghost use Rattle.atoms.specs.private.Rows.{AreNarrow, IsNumberAt, AreEmptyRows, AreRowsOf};
 
 use bit_set::{BitSet, empty_sets, insert_at};
+use indexmap::IndexSet;
 use std::alloc::{AllocError, Global};
 use std::marker::Model;
 use word_automata::Nfa;
@@ -44,16 +45,40 @@ impl Atoms {
         Ok(signature)
     }
 
-    /// Whether the numbers are states that have together the numbers of the signature. It takes no memory.
-    pub fn is_signature(&self, signature: &BitSet, states: &[usize]) -> bool
-        ensures { IsTrue result → IsSignature self.now states.now signature.now }
+    /// Whether the numbers are states.
+    pub fn are_states(&self, states: &[usize]) -> bool
+        ensures { IsTrue result → All (λ q. q < length self.now) states.now }
     {
         'states: for state in states {
             if *state >= self.rows.len() {
                 return false;
             }
         }
-        signature.is_union(&self.rows, states)
+        true
+    }
+
+    /// Whether the numbers are states that have together the numbers of the signature. It takes no memory.
+    pub fn is_signature(&self, signature: &BitSet, states: &[usize]) -> bool
+        ensures { IsTrue result → IsSignature self.now states.now signature.now }
+    {
+        self.are_states(states) && signature.is_union(&self.rows, states)
+    }
+
+    /// How many signatures these sets have, without those with a number that is no state. That it is right is no clause.
+    pub fn count_signatures(
+        &self,
+        alloc: Global,
+        sets: &[Vec<usize>],
+    ) -> Result<usize, AllocError> {
+        let mut signatures = IndexSet::new(alloc);
+        'sets: for states in sets {
+            if !self.are_states(states) {
+                continue;
+            }
+            let signature = self.signature(alloc, states)?;
+            signatures.insert(signature)?;
+        }
+        Ok(signatures.len())
     }
 
     /// Whether it is a state that has no number but those of the signature.

@@ -65,8 +65,8 @@ impl<'a> AtomSearch<'a> {
         })
     }
 
-    /// The search further on: at its end, or where at least `most` edges and sets were looked at since it began. `AllocError` where memory
-    /// runs out.
+    /// The search further on: at its end, or where at least `most` edges, sets and words of these were looked at since it began.
+    /// `AllocError` where memory runs out.
     pub fn advance(self, most: usize) -> Result<AtomSearch<'a>, AllocError>
         ensures { IfOk result (λ advanced. advanced ≡ self.entry) }
     {

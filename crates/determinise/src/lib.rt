@@ -10,6 +10,7 @@ mod above;
 mod bit_subsets;
 mod maximal;
 mod moves;
+mod sampling;
 mod signed_sets;
 mod silent;
 mod state_set;
@@ -24,6 +25,7 @@ ghost use Rattle.determinise.specs.private.Subsets.{IsPlain};
 ghost use Rattle.reduction.specs.Simulation.{AreIncluded};
 
 use crate::bit_subsets::BitSubsets;
+use crate::sampling::{sample_of_bits, sample_of_lists};
 use crate::silent::{has_true, silent_flags};
 use crate::subsets::Subsets;
 use crate::turns::Turns;
@@ -45,26 +47,17 @@ const FEW_SETS: usize = 512;
 /// Where there are more, and at most so many states, none with an edge without a letter, sets are bits from then on.
 const BIT_STATES: usize = 4_096;
 
-/// Where there are more sets of states, the atoms of the states are looked for.
+/// Where there are more sets of states, and as lists more than states, the atoms of the states are looked for.
 const FIRST_SETS: usize = 16_384;
 
-/// Of lists there are then so many turns, each with twice as many sets and more work for the atoms, before the sets are found to the end.
+/// There are then so many turns, each with twice as many sets and more work for the atoms, before the sets are found to the end.
 const TURNS: usize = 8;
 
-/// So many edges and sets are looked at for the atoms for each state of the lists that were found, which takes about as long.
-const WORK_PER_STATE: usize = 16;
+/// So many edges, sets and words are looked at for the atoms for each state of the lists that were found,
+const WORK_PER_STATE: usize = 128;
 
-/// Where sets are bits, at first at most so many edges and sets are looked at for the atoms.
-const FIRST_WORK: usize = 4_000_000;
-
-/// Then at most so many.
-const SECOND_WORK: usize = 256_000_000;
-
-/// Where there are more sets of states, as bits, the atoms are looked for once more,
-const SECOND_BIT_SETS: usize = 1 << 20;
-
-/// and also where the sets have more words.
-const SECOND_WORDS: usize = 1 << 25;
+/// and so many for each word of the sets of bits that were found, which takes no longer than finding these.
+const WORK_PER_WORD: usize = 64;
 
 /// The deterministic automaton of the sets of states that words lead to (M. O. Rabin and D. Scott, 1959), which accepts the same
 /// words. States are numbered breadth first, which is no clause here. States from which no word is accepted stand in no set. Of at most
@@ -164,14 +157,20 @@ fn list_subsets_of(alloc: Global, automaton: &Nfa, lists: &Subsets) -> Result<Df
     ensures valid { IfOk result IsValid }
 {
     let begun = Exploration::begin(alloc, lists)?;
-    let found = begun.advance(FIRST_SETS)?;
+    let first = FIRST_SETS.max(automaton.states());
+    let found = begun.advance(first)?;
     if found.is_done() {
         return Ok(found.finish()?);
     }
     let mut turns = Turns::begin(alloc, automaton, found)?;
     'turns: for turn in 0..TURNS {
-        let work = states_in(turns.found.states()).saturating_mul(WORK_PER_STATE);
-        turns = turns.next(work, FIRST_SETS << (turn + 1))?;
+        if turns.is_over() {
+            break;
+        }
+        let sets = turns.found.states();
+        let work = states_in(sets).saturating_mul(WORK_PER_STATE);
+        let sample = sample_of_lists(alloc, sets)?;
+        turns = turns.next(alloc, work, &sample, first << (turn + 1))?;
     }
     Ok(turns.finish(alloc, automaton, lists)?)
 }
@@ -223,13 +222,16 @@ fn explored_bits(
     if first.is_done() {
         return Ok(first.finish()?);
     }
-    let turns = Turns::begin(alloc, automaton, first)?;
-    let second = turns.next(FIRST_WORK, second_bit_sets(automaton.states()))?;
-    let third = second.next(SECOND_WORK, 0)?;
-    Ok(third.finish(alloc, automaton, lists)?)
-}
-
-/// So many sets of so many states, as bits, are found before the atoms are looked for once more.
-fn second_bit_sets(states: usize) -> usize {
-    SECOND_BIT_SETS.min(SECOND_WORDS / (states / 64 + 1))
+    let mut turns = Turns::begin(alloc, automaton, first)?;
+    'turns: for turn in 0..TURNS {
+        if turns.is_over() {
+            break;
+        }
+        let found = turns.found.states();
+        let words = found.len().saturating_mul(automaton.states() / 64 + 1);
+        let work = words.saturating_mul(WORK_PER_WORD);
+        let sample = sample_of_bits(alloc, found)?;
+        turns = turns.next(alloc, work, &sample, FIRST_SETS << (turn + 1))?;
+    }
+    Ok(turns.finish(alloc, automaton, lists)?)
 }

@@ -1,5 +1,6 @@
-//! The subset construction in turns with the search for atoms, of which the one that is sooner at its end gives the automaton. A turn
-//! costs the edges and sets that it looks at for atoms, and what the construction costs for the sets that it finds.
+//! The subset construction in turns with the search for atoms. Where the atoms are found and tell that many sets accept the same words,
+//! sets are told apart by these from then on. A turn costs the edges and sets that it looks at for atoms, the atoms of a sample, and what
+//! the construction costs for the sets that it finds.
 
 ghost use Rattle.std.specs.Prelude.{◌≡◌, ◌↔◌, List, ℕ, IsTrue, IfOk};
 ghost use Rattle.word_automata.specs.Automaton.{accepts, IsValid};
@@ -14,11 +15,15 @@ use exploration::{Exploration, LanguageSystem, explore_languages};
 use std::alloc::{AllocError, Global};
 use word_automata::{Dfa, Nfa};
 
-/// A construction and a search that are under way.
+/// There are to be at least so many sets for each signature.
+const SETS_PER_SIGNATURE: usize = 2;
+
+/// A construction and a search that are under way, and whether the search is at its end and its atoms are to tell sets apart.
 #[derive(Drop)]
 pub struct Turns<'a, T: LanguageSystem> {
     pub found: Exploration<'a, T>,
     pub search: AtomSearch<'a>,
+    pub signed: bool,
 }
 
 impl<'a, T: LanguageSystem> Turns<'a, T> {
@@ -32,28 +37,50 @@ impl<'a, T: LanguageSystem> Turns<'a, T> {
         ensures search { IfOk result (λ turns. turns.search ≡ automaton.now) }
     {
         let search = AtomSearch::begin(alloc, automaton)?;
-        Ok(Turns { found, search })
+        let signed = false;
+        Ok(Turns {
+            found,
+            search,
+            signed,
+        })
     }
 
-    /// A turn: the search goes on until so many edges and sets were looked at since it began, and then, if it is not at its end, the
-    /// construction until more than so many sets are found. Nothing is done where one of them is at its end.
-    pub fn next(self, work: usize, sets: usize) -> Result<Turns<'a, T>, AllocError>
+    /// Whether the construction is at its end, or the atoms are to tell sets apart.
+    pub fn is_over(&self) -> bool {
+        self.signed || self.found.is_done()
+    }
+
+    /// A turn: the search goes on until so many edges, sets and words were looked at since it began. If it is at its end, a sample of the
+    /// sets tells whether these have few signatures, and if they have not, the construction goes on until more than so many are found.
+    pub fn next(
+        self,
+        alloc: Global,
+        work: usize,
+        sample: &[Vec<usize>],
+        sets: usize,
+    ) -> Result<Turns<'a, T>, AllocError>
         ensures found { IfOk result (λ turns. turns.found ≡ self.entry.found) }
         ensures search { IfOk result (λ turns. turns.search ≡ self.entry.search) }
     {
-        if self.found.is_done() {
-            return Ok(self);
-        }
         let found = self.found;
         let search = self.search.advance(work)?;
-        if search.is_done() {
-            return Ok(Turns { found, search });
+        let signed = have_few_signatures(alloc, &search, sample, found.states().len())?;
+        if signed {
+            return Ok(Turns {
+                found,
+                search,
+                signed,
+            });
         }
         let found = found.advance(sets)?;
-        Ok(Turns { found, search })
+        Ok(Turns {
+            found,
+            search,
+            signed,
+        })
     }
 
-    /// The automaton of the atoms' signatures, where the search is at its end, and else that of the construction, after what is left.
+    /// The automaton of the atoms' signatures, where these are to tell sets apart, and else that of the construction, after what is left.
     pub fn finish(self, alloc: Global, automaton: &Nfa, lists: &Subsets) -> Result<Dfa, AllocError>
         requires search { self.search ≡ automaton.now }
         requires accepted { (w : List ℕ) → T.accepted self.found w ↔ Accepts automaton.now w }
@@ -65,11 +92,31 @@ impl<'a, T: LanguageSystem> Turns<'a, T> {
         ensures valid { IfOk result IsValid }
     {
         let found = self.found;
+        if !self.signed {
+            return Ok(found.finish()?);
+        }
         if let Some(atoms) = self.search.atoms()? {
             return Ok(languages_of(alloc, automaton, lists, &atoms)?);
         }
         Ok(found.finish()?)
     }
+}
+
+/// Whether the search is at its end and so many sets, of which these are a sample, have few signatures. Of n signatures that are equally
+/// likely a sample of k sets repeats about k * k / 2 n (the birthday problem).
+fn have_few_signatures(
+    alloc: Global,
+    search: &AtomSearch,
+    sample: &[Vec<usize>],
+    sets: usize,
+) -> Result<bool, AllocError> {
+    let Some(atoms) = search.atoms()? else {
+        return Ok(false);
+    };
+    let size = sample.len();
+    let repeated = size.saturating_sub(atoms.count_signatures(alloc, sample)?);
+    let least = size.saturating_mul(size).saturating_mul(SETS_PER_SIGNATURE);
+    Ok(repeated.saturating_mul(2).saturating_mul(sets) >= least)
 }
 
 /// The deterministic automaton of the languages of the sets, told apart by the atoms of the automaton's states.

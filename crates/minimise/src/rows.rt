@@ -76,20 +76,21 @@ pub fn class_of(classes: &[usize], state: usize) -> usize
     }
 }
 
-/// A number that few other letters have with their classes. Its square makes sums of numbers of edges that are alike come to different
-/// numbers.
+/// A number that few other letters have with their classes.
 fn edge_number(letter: u32, class: usize) -> usize
     ensures { result ≡ edge_number (letter, class) }
 {
-    let number = (letter as usize)
+    (letter as usize)
         .wrapping_mul(11_400_714_819_323_198_485)
-        .wrapping_add(class);
-    number.wrapping_mul(2 * (number / 4_294_967_296) + 1)
+        .wrapping_add(class)
 }
 
-/// The number in which the part is mixed, by a sum, so that no part waits for another one.
+/// The number in which the part is mixed. Its square makes sums of parts that are alike come to different numbers.
 fn mixed_in(value: usize, part: usize) -> usize
     ensures { result ≡ mixed_in value part }
 {
-    value.wrapping_add(part)
+    let product = value
+        .wrapping_add(part)
+        .wrapping_mul(11_400_714_819_323_198_485);
+    product.wrapping_mul(2 * (product / 4_294_967_296) + 1)
 }

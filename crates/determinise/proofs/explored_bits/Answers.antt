@@ -10,7 +10,5 @@ returns-then-is_done-clause-language c =
 
 pub finish-requires-2-clause-accepted : goal.finish-requires-2-clause-accepted
 finish-requires-2-clause-accepted c =
-    let same : c.in_ok-third.third.found.automaton.now ≡ c.args.automaton.now =
-    ap (λ s. s.automaton.now) (c.in_ok-third.ensures.found ∙ c.in_ok-second.ensures.found ∙ c.in_ok-turns.ensures.found ∙ c.in_ok-first.ensures ∙ c.in_ok-begun.ensures)
-    ∙ c.requires.bits in
+    let same : c.turns.turns.found.automaton.now ≡ c.args.automaton.now = ap (λ s. s.automaton.now) c.turns.invariant.sets ∙ c.requires.bits in
     subst (λ n. (w : List ℕ) → Accepts n w ↔ Accepts c.args.automaton.now w) (sym same) (λ w. (λ accepted. accepted, λ accepted. accepted))

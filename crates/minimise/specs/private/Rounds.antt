@@ -31,11 +31,11 @@ abbrev pub with_square : ℕ → ℕ
 with_square n = (n * (2 * (n / 4294967296) + 1)) % 2 ^ 64
 
 abbrev pub mixed_in : ℕ → ℕ → ℕ
-mixed_in value part = (value + part) % 2 ^ 64
+mixed_in value part = with_square ((((value + part) % 2 ^ 64) * 11400714819323198485) % 2 ^ 64)
 
 -- a letter with the class to which it leads as a number
 abbrev pub edge_number : ℕ × ℕ → ℕ
-edge_number edge = with_square (((edge.0 * 11400714819323198485) % 2 ^ 64 + edge.1) % 2 ^ 64)
+edge_number edge = ((edge.0 * 11400714819323198485) % 2 ^ 64 + edge.1) % 2 ^ 64
 
 abbrev pub mixed_in_edge : ℕ → ℕ × ℕ → ℕ
 mixed_in_edge value edge = mixed_in value (edge_number edge)

@@ -1,0 +1,8 @@
+use Rattle.std.proofs.Common.{◌≡◌}
+use Rattle.determinise.proofs.explored_bits.Given as goal
+
+abbrev pub invariant-turns : goal.invariant-turns
+invariant-turns l = record {
+  sets : l.turns.found ≡ l.sets;
+  automaton : l.turns.search ≡ l.automaton;
+}
