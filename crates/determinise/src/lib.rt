@@ -18,10 +18,10 @@ mod subset;
 mod subsets;
 mod turns;
 
-ghost use Rattle.std.specs.Prelude.{◌≡◌, ◌↔◌, List, ℕ, IsTrue, IfOk, IfSome};
+ghost use Rattle.std.specs.Prelude.{◌≡◌, ◌↔◌, List, ℕ, IsTrue, IfOk, length};
 ghost use Rattle.word_automata.specs.Automaton.{accepts, IsValid};
 ghost use Rattle.word_automata.specs.Nondeterministic.{Accepts};
-ghost use Rattle.determinise.specs.private.Subsets.{IsPlain};
+ghost use Rattle.determinise.specs.private.Subsets.{IsPlain, ArePlainWhereFalse};
 ghost use Rattle.reduction.specs.Simulation.{AreIncluded};
 
 use crate::bit_subsets::BitSubsets;
@@ -89,8 +89,13 @@ fn subsets_of_pruned(alloc: Global, automaton: &Nfa) -> Result<Dfa, AllocError>
     ensures letters { IfOk result (λ dfa. dfa.letters ≡ automaton.now.letters) }
     ensures valid { IfOk result IsValid }
 {
-    if let Some(dfa) = few_subsets_of(alloc, automaton)? {
-        return Ok(dfa);
+    let none = StatePairs::new(alloc)?;
+    let silent = silent_flags(alloc, automaton)?;
+    let lists = Subsets::new(automaton, &silent, &none);
+    let begun = Exploration::begin(alloc, &lists)?;
+    let few = begun.advance(uncompared_sets(automaton.states()))?;
+    if few.is_done() {
+        return Ok(few.finish()?);
     }
     match simulation(alloc, automaton)? {
         Some(pairs) => {
@@ -98,34 +103,18 @@ fn subsets_of_pruned(alloc: Global, automaton: &Nfa) -> Result<Dfa, AllocError>
             let dfa = subsets_of(alloc, &pruned, &pairs)?;
             Ok(dfa)
         }
-        None => {
-            let pairs = StatePairs::new(alloc)?;
-            let dfa = subsets_of(alloc, automaton, &pairs)?;
-            Ok(dfa)
-        }
+        None => Ok(subsets_from(
+            alloc, automaton, &none, &silent, &lists, few,
+        )?),
     }
 }
 
-/// The deterministic automaton of the sets of states that words lead to, or `None` where there are many states or many more such sets.
-fn few_subsets_of(alloc: Global, automaton: &Nfa) -> Result<Option<Dfa>, AllocError>
-    ensures language { IfOk result (λ found. IfSome found (λ dfa. (w : List ℕ) → IsTrue (accepts dfa w) ↔ Accepts automaton.now w)) }
-    ensures letters { IfOk result (λ found. IfSome found (λ dfa. dfa.letters ≡ automaton.now.letters)) }
-    ensures valid { IfOk result (λ found. IfSome found IsValid) }
-{
-    let states = automaton.states();
+/// So many sets of so many states are found before states are compared.
+fn uncompared_sets(states: usize) -> usize {
     if states > UNCOMPARED_STATES {
-        return Ok(None);
+        return 0;
     }
-    let none = StatePairs::new(alloc)?;
-    let silent = silent_flags(alloc, automaton)?;
-    let subsets = Subsets::new(automaton, &silent, &none);
-    let begun = Exploration::begin(alloc, &subsets)?;
-    let found = begun.advance(states.saturating_mul(SETS_PER_STATE))?;
-    if !found.is_done() {
-        return Ok(None);
-    }
-    let dfa = found.finish()?;
-    Ok(Some(dfa))
+    states.saturating_mul(SETS_PER_STATE)
 }
 
 /// The deterministic automaton of the sets of states that words lead to, without states that others of the set simulate.
@@ -136,16 +125,38 @@ fn subsets_of(alloc: Global, automaton: &Nfa, pairs: &StatePairs) -> Result<Dfa,
     ensures valid { IfOk result IsValid }
 {
     let silent = silent_flags(alloc, automaton)?;
-    let subsets = Subsets::new(automaton, &silent, pairs);
-    let begun = Exploration::begin(alloc, &subsets)?;
+    let lists = Subsets::new(automaton, &silent, pairs);
+    let begun = Exploration::begin(alloc, &lists)?;
+    let dfa = subsets_from(alloc, automaton, pairs, &silent, &lists, begun)?;
+    Ok(dfa)
+}
+
+/// The same, of which some sets were found as lists.
+fn subsets_from<'a>(
+    alloc: Global,
+    automaton: &Nfa,
+    pairs: &StatePairs,
+    silent: &[bool],
+    lists: &'a Subsets<'a>,
+    begun: Exploration<'a, Subsets<'a>>,
+) -> Result<Dfa, AllocError>
+    requires included { AreIncluded automaton.now pairs.now }
+    requires count { length silent.now ≡ length automaton.now.states }
+    requires plain { ArePlainWhereFalse automaton.now silent.now }
+    requires same { lists.now.automaton.now ≡ automaton.now }
+    requires begun { begun ≡ lists.now }
+    ensures language { IfOk result (λ dfa. (w : List ℕ) → IsTrue (accepts dfa w) ↔ Accepts automaton.now w) }
+    ensures letters { IfOk result (λ dfa. dfa.letters ≡ automaton.now.letters) }
+    ensures valid { IfOk result IsValid }
+{
     let few = begun.advance(FEW_SETS)?;
-    if few.is_done() || has_true(&silent) {
+    if few.is_done() || has_true(silent) {
         return Ok(few.finish()?);
     }
     if automaton.states() <= BIT_STATES {
-        return Ok(bit_subsets_of(alloc, automaton, pairs, &subsets)?);
+        return Ok(bit_subsets_of(alloc, automaton, pairs, lists)?);
     }
-    Ok(list_subsets_of(alloc, automaton, &subsets)?)
+    Ok(list_subsets_of(alloc, automaton, lists)?)
 }
 
 /// The deterministic automaton of the sets of states, as lists, or of the languages of these.
