@@ -61,9 +61,11 @@ const WORK_PER_WORD: usize = 64;
 
 /// The deterministic automaton of the sets of states that words lead to (M. O. Rabin and D. Scott, 1959), which accepts the same
 /// words. States are numbered breadth first, which is no clause here. States from which no word is accepted stand in no set. Of at most
-/// 4,096 states, two sets for each are found at first; where there are more sets or states, it begins anew, and as far as pairs were
-/// compared, states that others of it simulate stand in no set either; edges whose targets are simulated by those of edges beside them go.
-/// A set is a list of states; with more than 512 sets, and at most 4,096 states without edges without a letter, a bit for each state.
+/// 4,096 states, two sets for each are found at first; where there are more sets or states, states are compared, and where some simulate
+/// others it begins anew: those that others of it simulate stand in no set, and edges whose targets are simulated by those of edges beside
+/// them go. A set is a list of states; with more than 512 sets, and at most 4,096 states, none with an edge without a letter, a bit for
+/// each state. With more than 16,384 sets, and as lists more than states, atoms of the states are looked for, by which sets that accept
+/// the same words become one where a sample tells that many do.
 /// The time is linear in the edges of the automaton and in those that leave the sets' states, up to sorting, on average. Where a letter
 /// leads from one state to two, at most 2 to the 18 pairs of states are compared in at most 16 rounds, and a set may take its square.
 pub fn determinise(alloc: Global, automaton: &Nfa) -> Result<Dfa, AllocError>
