@@ -105,9 +105,7 @@ fn subsets_of_pruned(alloc: Global, automaton: &Nfa) -> Result<Dfa, AllocError>
             let dfa = subsets_of(alloc, &pruned, &pairs)?;
             Ok(dfa)
         }
-        None => Ok(subsets_from(
-            alloc, automaton, &none, &silent, &lists, few,
-        )?),
+        None => Ok(subsets_from(alloc, automaton, &none, &silent, &lists, few)?),
     }
 }
 
