@@ -47,7 +47,7 @@ const FEW_SETS: usize = 512;
 /// Where there are more, and at most so many states, none with an edge without a letter, sets are bits from then on.
 const BIT_STATES: usize = 4_096;
 
-/// Where there are more sets of states, and as lists more than states, the atoms of the states are looked for.
+/// Where there are more sets of states, and as lists more than twice as many as states, the atoms of the states are looked for.
 const FIRST_SETS: usize = 16_384;
 
 /// There are then so many turns, each with twice as many sets and more work for the atoms, before the sets are found to the end.
@@ -64,8 +64,8 @@ const WORK_PER_WORD: usize = 64;
 /// 4,096 states, two sets for each are found at first; where there are more sets or states, states are compared, and where some simulate
 /// others it begins anew: those that others of it simulate stand in no set, and edges whose targets are simulated by those of edges beside
 /// them go. A set is a list of states; with more than 512 sets, and at most 4,096 states, none with an edge without a letter, a bit for
-/// each state. With more than 16,384 sets, and as lists more than states, atoms of the states are looked for, by which sets that accept
-/// the same words become one where a sample tells that many do.
+/// each state. With more than 16,384 sets, and as lists more than twice as many as states, atoms of the states are looked for, by which
+/// sets that accept the same words become one where a sample tells that many do.
 /// The time is linear in the edges of the automaton and in those that leave the sets' states, up to sorting, on average. Where a letter
 /// leads from one state to two, at most 2 to the 18 pairs of states are compared in at most 16 rounds, and a set may take its square.
 pub fn determinise(alloc: Global, automaton: &Nfa) -> Result<Dfa, AllocError>
@@ -168,7 +168,7 @@ fn list_subsets_of(alloc: Global, automaton: &Nfa, lists: &Subsets) -> Result<Df
     ensures valid { IfOk result IsValid }
 {
     let begun = Exploration::begin(alloc, lists)?;
-    let first = FIRST_SETS.max(automaton.states());
+    let first = FIRST_SETS.max(automaton.states().saturating_mul(2));
     let found = begun.advance(first)?;
     if found.is_done() {
         return Ok(found.finish()?);
