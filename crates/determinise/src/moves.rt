@@ -10,7 +10,7 @@ use std::alloc::{AllocError, Global};
 use word_automata::Nfa;
 
 /// Room for so many moves of each state is made at once.
-const ROOM: usize = 4;
+const ROOM: usize = 8;
 
 /// Targets below this number are told apart by the order of moves.
 const TARGETS: u64 = 1 << 32;

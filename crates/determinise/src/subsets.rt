@@ -17,8 +17,8 @@ use reduction::StatePairs;
 use std::alloc::{AllocError, Global};
 use word_automata::Nfa;
 
-/// Room for so many successors of a set is made at once.
-const ROOM: usize = 4;
+/// Room for a successor by each move, or for so many, is made at once.
+const MOST_ROOM: usize = 64;
 
 /// The sets of states of the automaton out of which no move without a letter leads.
 #[derive(Drop)]
@@ -94,7 +94,7 @@ impl<'a> LanguageSystem for Subsets<'a> {
         state: &StateSet,
     ) -> Result<Vec<(u32, StateSet)>, AllocError> {
         let moves = ordered_moves(alloc, self.automaton, state.as_slice())?;
-        let mut successors = Vec::with_capacity(alloc, ROOM)?;
+        let mut successors = Vec::with_capacity(alloc, moves.len().min(MOST_ROOM))?;
         let mut at = 0;
         'runs: while at < moves.len() {
             let end = end_of_run(&moves, at);
