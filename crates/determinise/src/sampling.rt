@@ -1,4 +1,5 @@
-//! A sample of sets of states, evenly among them, each as the list of its states. It costs the states of the sample.
+//! A sample of sets of states, each as the list of its states: at most 1,024 of them, each as far behind the one before it. It costs the
+//! states of the sample. Nothing is promised of it.
 
 use crate::state_set::StateSet;
 use bit_set::BitSet;
