@@ -12,8 +12,9 @@ use Rattle.transducers.specs.Transducer.{Transducer}
 use Rattle.transducers.proofs.ForCallers.{Contains-single}
 use Rattle.exploration.proofs.ForCallers.{slice_get-append, slice_get-push, slice_get-push_cases}
 use Rattle.image_preimage.specs.declared.triples.Triple.{Triple}
+use Rattle.image_preimage.specs.Images.{HasImageOutside}
 use Rattle.image_preimage.specs.Pairs.{advance}
-use Rattle.image_preimage.specs.private.Triples.{or_no_state, triple_of, is_goal, LeadsOut, IsSomeOutside, AreReached, Grows, IsFound, IsFollowed, Finds, Follows}
+use Rattle.image_preimage.specs.private.Triples.{or_no_state, triple_of, is_goal, LeadsOut, AreReached, Grows, IsFound, IsFollowed, Finds, Follows}
 use Rattle.image_preimage.proofs.GraphLemmas.{accepts-advance, follows_letter, stops_at}
 
 module _ (b : Automaton) where
@@ -72,7 +73,7 @@ module _ (t : Transducer) (a b : Automaton) where
   }
 
   -- a start leads out only where some word of the image is refused
-  pub start_leads_out : (p : ℕ) → Contains t.starts p → LeadsOut t a b (triple_of p 0 0) → IsSomeOutside t a b
+  pub start_leads_out : (p : ℕ) → Contains t.starts p → LeadsOut t a b (triple_of p 0 0) → HasImageOutside t a b
   start_leads_out p is_start out = (out.image, (out.word, out.accepted, record { start = p; is_start = is_start; run = out.run }), out.refused)
 
   -- a triple that was there
@@ -81,12 +82,12 @@ module _ (t : Transducer) (a b : Automaton) where
   finds_old found triple i reached at = record { reached = reached; grows = λ j x h. h; is_found = (i, at) }
 
   -- a triple that is pushed
-  pub finds_new : (found new : List Triple) (triple : Triple) → AreReached t a b found → (LeadsOut t a b triple → IsSomeOutside t a b)
+  pub finds_new : (found new : List Triple) (triple : Triple) → AreReached t a b found → (LeadsOut t a b triple → HasImageOutside t a b)
       → new ≡ found ++ triple ∷ [] → Finds t a b found new triple
   finds_new found new triple reached out pushed = subst (λ new. Finds t a b found new triple) (sym pushed) (record {
     reached = λ i x at. elim (slice_get-push_cases found triple x i at) [
       | inl earlier ↦ reached i x earlier
-      | inr last ↦ subst (λ x. LeadsOut t a b x → IsSomeOutside t a b) last.1 out
+      | inr last ↦ subst (λ x. LeadsOut t a b x → HasImageOutside t a b) last.1 out
     ];
     grows = λ i x at. slice_get-append found (triple ∷ []) i x at;
     is_found = (length found, slice_get-push found triple);

@@ -12,10 +12,10 @@ use Rattle.transducers.specs.declared.Label.{Label}
 use Rattle.transducers.specs.Transducer.{Transducer, RelatesFrom, read_of, write_of}
 use Rattle.exploration.proofs.ForCallers.{slice_get-some}
 use Rattle.image_preimage.specs.declared.triples.Triple.{Triple}
-use Rattle.image_preimage.specs.Images.{IsImageIncluded}
+use Rattle.image_preimage.specs.Images.{HasImageOutside, IsImageIncluded}
 use Rattle.image_preimage.specs.Pairs.{advance}
 use Rattle.image_preimage.specs.private.CopyingStates.{AreIdentities}
-use Rattle.image_preimage.specs.private.Triples.{or_no_state, triple_of, is_goal, IsSomeOutside, IsSkipped, IsPassed, IsDone, IsFound, AreReached, AddsPlaces, Grows, Visits, Walks}
+use Rattle.image_preimage.specs.private.Triples.{or_no_state, triple_of, is_goal, IsSkipped, IsPassed, IsDone, IsFound, AreReached, AddsPlaces, Grows, Visits, Walks}
 use Rattle.image_preimage.proofs.GraphLemmas.{advance-accepts}
 use Rattle.image_preimage.proofs.TripleLemmas.{accepts_behind, IsFollowed-grows}
 
@@ -127,8 +127,14 @@ module _ (t : Transducer) (a b : Automaton) (copying : List Bool) where
         (subst (λ v. IsTrue (accepts_from a 0 v)) (sym r.run.reads) accepted))
 
 -- a word outside refutes the inclusion
-pub outside_refutes : (t : Transducer) (a b : Automaton) → IsSomeOutside t a b → IsImageIncluded t a b → ⊥
+pub outside_refutes : (t : Transducer) (a b : Automaton) → HasImageOutside t a b → IsImageIncluded t a b → ⊥
 outside_refutes t a b (w, image, refused) included = true≢false (sym (included w image) ∙ refused)
+
+-- a fact of a transducer and two automata, for others that are the same
+pub carried : {t u : Transducer} {a c b d : Automaton} (fact : Transducer → Automaton → Automaton → Type 0) → t ≡ u → a ≡ c → b ≡ d
+    → fact t a b → fact u c d
+carried {t = t} {a = a} {c = c} {d = d} fact transducers first second is =
+    subst (λ x. fact x c d) transducers (subst (λ x. fact t x d) first (subst (λ x. fact t a x) second is))
 
 -- places that are pushed
 pub AddsPlaces-none : (pending : List ℕ) (from : ℕ) → AddsPlaces pending pending from from

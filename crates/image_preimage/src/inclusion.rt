@@ -3,8 +3,8 @@
 //! not (Rabin and Scott, 1959, for products); the image is not built. It takes time linear in the edges of the transducer at the triples
 //! that are reached, on average.
 
-ghost use Rattle.std.specs.Prelude.{◌≡◌, ◌↔◌, ◌≤◌, ℕ, IsTrue, IfOk, OnOk};
-ghost use Rattle.image_preimage.specs.Images.{IsImageIncluded};
+ghost use Rattle.std.specs.Prelude.{◌≡◌, ◌↔◌, ◌≤◌, ℕ, false, IsTrue, IfOk, OnOk};
+ghost use Rattle.image_preimage.specs.Images.{HasImageOutside, IsImageIncluded};
 ghost use Rattle.image_preimage.specs.private.CopyingStates.{AreCopying};
 ghost use Rattle.image_preimage.specs.private.Triples.{AddsPlaces};
 
@@ -27,7 +27,8 @@ pub fn is_image_included(
     a: &Canon,
     b: &Canon,
 ) -> Result<bool, AllocError>
-    ensures { IfOk result (λ included. IsTrue included ↔ IsImageIncluded t.now a.now b.now) }
+    ensures included { IfOk result (λ included. IsTrue included ↔ IsImageIncluded t.now a.now b.now) }
+    ensures outside { IfOk result (λ included. included ≡ false → HasImageOutside t.now a.now b.now) }
 {
     let triples = Triples {
         t: t.transducer(),
@@ -43,7 +44,8 @@ fn walk(alloc: Global, triples: &Triples, a: &Canon, b: &Canon) -> Result<bool, 
     requires copying { AreCopying triples.now.t.now triples.now.copying.now }
     requires first { a.now ≡ triples.now.a.now }
     requires second { b.now ≡ triples.now.b.now }
-    ensures { IfOk result (λ included. IsTrue included ↔ IsImageIncluded triples.now.t.now triples.now.a.now triples.now.b.now) }
+    ensures included { IfOk result (λ included. IsTrue included ↔ IsImageIncluded triples.now.t.now triples.now.a.now triples.now.b.now) }
+    ensures outside { IfOk result (λ included. included ≡ false → HasImageOutside triples.now.t.now triples.now.a.now triples.now.b.now) }
 {
     let mut found = FoundStates::new(alloc, triples.codes())?;
     triples.begin(&mut found)?;

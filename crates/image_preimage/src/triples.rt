@@ -6,8 +6,9 @@ ghost use Rattle.std.specs.Prelude.{◌≡◌, ℕ, false, true, [], ◌∷◌, 
 ghost use Rattle.word_automata.specs.Path.{edges_of, is_accepting};
 ghost use Rattle.word_automata.specs.Automaton.{Automaton, HasIncreasingLetters};
 ghost use Rattle.image_preimage.specs.Gaps.{IsGap};
+ghost use Rattle.image_preimage.specs.Images.{HasImageOutside};
 ghost use Rattle.image_preimage.specs.Pairs.{advance};
-ghost use Rattle.image_preimage.specs.private.Triples.{is_goal, triple_of, AreReached, Finds, Follows, IsFound, IsGapAt, IsSomeOutside, LeadsOut, Visits, or_no_state};
+ghost use Rattle.image_preimage.specs.private.Triples.{is_goal, triple_of, AreReached, Finds, Follows, IsFound, IsGapAt, LeadsOut, Visits, or_no_state};
 
 use crate::copying_states::has_flag;
 use crate::gap::Gap;
@@ -183,7 +184,7 @@ impl Triples<'_> {
     ) -> Result<usize, AllocError>
         requires reached { AreReached self.now.t.now self.now.a.now self.now.b.now found.old.states.items }
         requires triple { LeadsOut self.now.t.now self.now.a.now self.now.b.now triple
-            → IsSomeOutside self.now.t.now self.now.a.now self.now.b.now }
+            → HasImageOutside self.now.t.now self.now.a.now self.now.b.now }
         ensures { OnOk result (Finds self.now.t.now self.now.a.now self.now.b.now found.old.states.items found.new.states.items triple) }
     {
         if found.holds(last, &triple) {

@@ -2,12 +2,12 @@
 -- the words that are written are looked for. A number that is no state of an automaton stands for no state.
 use Rattle.std.specs.Prelude.{◌≡◌, ◌<◌, ◌≤◌, ◌+◌, ◌-◌, ◌&&◌, ◌⊎◌, ℕ, Bool, true, false, not, List, Option, None, Some, IsTrue, Contains, length, slice_get, slice_index_or}
 use Rattle.word_automata.specs.Path.{edges_of, is_accepting}
-use Rattle.word_automata.specs.Automaton.{Automaton, HasIncreasingLetters, accepts, accepts_from}
+use Rattle.word_automata.specs.Automaton.{Automaton, HasIncreasingLetters, accepts_from}
 use Rattle.transducers.specs.declared.Label.{Label}
 use Rattle.transducers.specs.Transducer.{Transducer, RelatesFrom}
 use Rattle.image_preimage.specs.declared.triples.Triple.{Triple}
 use Rattle.image_preimage.specs.Gaps.{IsGap}
-use Rattle.image_preimage.specs.Images.{IsImage}
+use Rattle.image_preimage.specs.Images.{HasImageOutside}
 use Rattle.image_preimage.specs.Pairs.{advance}
 
 -- the state, or the number of states where there is none
@@ -30,13 +30,9 @@ pub record LeadsOut (t : Transducer) (a b : Automaton) (triple : Triple) : Type 
   pub accepted : IsTrue (accepts_from a triple.middle word)
   pub refused : accepts_from b triple.right image ≡ false
 
--- some word of the image is refused
-abbrev pub IsSomeOutside : Transducer → Automaton → Automaton → Type 0
-IsSomeOutside t a b = (w : List ℕ) × IsImage t a w × (accepts b w ≡ false)
-
 -- triples that lead out were found only where some word of the image is refused
 abbrev pub AreReached : Transducer → Automaton → Automaton → List Triple → Type 0
-AreReached t a b found = (i : ℕ) (triple : Triple) → slice_get found i ≡ Some triple → LeadsOut t a b triple → IsSomeOutside t a b
+AreReached t a b found = (i : ℕ) (triple : Triple) → slice_get found i ≡ Some triple → LeadsOut t a b triple → HasImageOutside t a b
 
 -- triples keep their places
 abbrev pub Grows : List Triple → List Triple → Type 0

@@ -1,5 +1,6 @@
 use Rattle.std.proofs.Common.{◌≡◌, ◌≤◌, ◌+◌, ◌-◌, ◌∷◌, ◌^◌, [], Some, slice_get, length, length-append, refl, sym, ap, ◌∙◌, subst, arith, true≢false}
 use Rattle.std.proofs.lemmas.Option.{slice_get-get_or}
+use Rattle.image_preimage.specs.Images.{HasImageOutside}
 use Rattle.image_preimage.specs.private.Triples.{AddsPlaces}
 use Rattle.image_preimage.proofs.CopyingLemmas.{identities}
 use Rattle.image_preimage.proofs.TripleLemmas.{leads_out_here}
@@ -40,11 +41,15 @@ returns-then-is_goal c =
     c.pop.result c.in-Some.place c.triples.invariant.0 c.pop.ensures.items c.in-Some.is in
     let at : slice_get found c.in-Some.place ≡ Some c.index.result.now =
     slice_get-get_or found c.in-Some.place c.index.result.now popped.1 ∙ ap Some (sym c.index.ensures) in
-    let out = leads_out_here triples.t.now triples.a.now triples.b.now c.index.result.now (sym c.is_goal.ensures ∙ c.if-is_goal.true) in (
-      λ e. absurd (true≢false (sym e)),
-      λ included. absurd (outside_refutes triples.t.now triples.a.now triples.b.now
-          (c.triples.invariant.0.reached c.in-Some.place c.index.result.now at out) included),
-    )
+    let out = leads_out_here triples.t.now triples.a.now triples.b.now c.index.result.now (sym c.is_goal.ensures ∙ c.if-is_goal.true) in
+    let outside : HasImageOutside triples.t.now triples.a.now triples.b.now = c.triples.invariant.0.reached c.in-Some.place c.index.result.now at out in
+    record {
+      included = (
+        λ e. absurd (true≢false (sym e)),
+        λ included. absurd (outside_refutes triples.t.now triples.a.now triples.b.now outside included),
+      );
+      outside = λ e. outside;
+    }
 
 pub push_places-requires-in-Some : goal.push_places-requires-in-Some
 push_places-requires-in-Some c =
@@ -92,8 +97,12 @@ returns c =
     let triples = c.args.triples.now in
     let old = c.triples.pending.items in
     let none : old ≡ [] = popped_none old c.pop.new.self.items c.pop.result c.triples.pending.len c.pop.ensures.variant (omega (arith, c.triples.pending.ok))
-    c.in_default.not-Some in (
-      λ e. walk_inside triples.t.now triples.a.now triples.b.now triples.copying.now c.triples.found.states.items old c.triples.invariant.0 none
-          (identities triples.t.now triples.copying.now c.requires.copying),
-      λ included. refl,
-    )
+    c.in_default.not-Some in
+    record {
+      included = (
+        λ e. walk_inside triples.t.now triples.a.now triples.b.now triples.copying.now c.triples.found.states.items old c.triples.invariant.0 none
+            (identities triples.t.now triples.copying.now c.requires.copying),
+        λ included. refl,
+      );
+      outside = λ e. absurd (true≢false e);
+    }
