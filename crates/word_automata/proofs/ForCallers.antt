@@ -1,5 +1,6 @@
 -- What proofs of other crates take from here: what lists contain, sorted edges, states of automata that are put together, paths, sets of
 -- states, and targets.
+pub use Rattle.word_automata.proofs.AsNondeterministic.{in_range_lettered, lettered, same_language}
 pub use Rattle.word_automata.proofs.EdgeList.{find_target_at, find_target_gap, find_target_within, letters_rise, searched}
 pub use Rattle.word_automata.proofs.Edges.{accepting_within, edge_found, edges_of-past, found_edge, is_accepting-past, leads_within}
 pub use Rattle.word_automata.proofs.Edges.{some_state}
