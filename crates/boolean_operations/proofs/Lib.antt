@@ -10,6 +10,7 @@ pub mod OptionalStates
 pub mod Order
 pub mod PairWalks
 pub mod ProductLanguages
+pub mod ReadEdges
 pub mod SearchCalls
 pub mod SearchSteps
 pub mod SearchWords

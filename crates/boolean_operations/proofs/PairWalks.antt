@@ -1,7 +1,7 @@
 -- Walks over pairs of states spell the words that one automaton accepts and the other refuses.
-use Rattle.std.proofs.Common.{◌≡◌, ◌+◌, ◌<◌, ◌≤◌, ◌⊎◌, ◌↔◌, ℕ, Bool, true, false, not, List, [], ◌∷◌, ◌++◌, Option, None, Some, All, Contains, get_or, length, slice_get, slice_index_or, IsTrue, MatchOption, refl, sym, ap, subst, ◌∙◌, inl, inr, arith}
+use Rattle.std.proofs.Common.{◌≡◌, ◌+◌, ◌<◌, ◌≤◌, ◌⊎◌, ◌↔◌, ℕ, Bool, true, false, not, List, [], ◌∷◌, ◌++◌, Option, None, Some, All, Contains, length, slice_get, slice_index_or, IsTrue, MatchOption, refl, sym, ap, subst, ◌∙◌, inl, inr, arith}
 use Rattle.std.proofs.lemmas.Bool.{and_parts, and_from, cases_eq, not-true, true≢false}
-use Rattle.std.proofs.lemmas.Option.{same_Some, slice_get-get_or}
+use Rattle.std.proofs.lemmas.Option.{same_Some}
 use Rattle.std.proofs.lemmas.List.Elements.{All-contains, All-nil, Contains-append_left, Contains-push, Contains-push_cases}
 use Rattle.sequence.specs.WordOrder.{IsLeastWord}
 use Rattle.word_automata.specs.Path.{edges_of, is_accepting, IsPath, spelled}
@@ -15,13 +15,6 @@ use Rattle.boolean_operations.specs.private.DeadStates.{AreRejecting}
 use Rattle.boolean_operations.specs.private.PairGraph.{IsPair, IsStartPair, advance, PairEdge, LiveEdge, is_outside_pair, IsStartAmong, IsSilentAmong, IsStepAmong}
 use Rattle.boolean_operations.proofs.OptionalStates.{accepts_option, accepts_option-nil, accepts_option-cons, accepts_option-start, follow-within}
 use Rattle.boolean_operations.proofs.SearchCalls.{place_of, contains_at}
-
--- an edge that is read
-pub edge_read : (edges same : List (Option ℕ × ℕ)) (k : ℕ) (l : Option ℕ) → edges ≡ same → k < length edges → (get_or edges k (None, 0)).0 ≡ l
-    → slice_get same k ≡ Some (l, (get_or edges k (None, 0)).1)
-edge_read edges same k l is within label =
-    subst (λ es. slice_get es k ≡ Some (l, (get_or edges k (None, 0)).1)) is
-    (slice_get-get_or edges k (None, 0) within ∙ ap (λ (x : Option ℕ). Some (x, (get_or edges k (None, 0)).1)) label)
 
 -- lists that gather things
 module _ {X : Type 0} (P : X → Type 0) where

@@ -1,8 +1,8 @@
-//! Whether each word of a nondeterministic automaton is one of a deterministic automaton: a walk over pairs of a state of the first
-//! and a state of the second or none, breadth first, which ends at the first pair where the one accepts and the other does not
-//! (so neither automaton is made deterministic or complemented), and enters no state from which no word is accepted. It takes time linear
-//! in the first automaton and in the edges that leave the pairs that are reached, at most as many as the product of both numbers of
-//! states, up to sorting and searching, on average.
+//! Whether each word of a finite automaton, deterministic or not, is one of a deterministic automaton: a walk over pairs of a state of the
+//! first and a state of the second or none, breadth first, which ends at the first pair where the one accepts and the other does not (so
+//! neither automaton is made deterministic or complemented), and enters no state from which no word is accepted. It takes time linear in
+//! the first automaton and in the edges that leave the pairs that are reached, at most as many as the product of both numbers of states,
+//! up to sorting and searching, on average.
 
 ghost use Rattle.std.specs.Prelude.{◌≡◌, MatchOption, IfOk};
 ghost use Rattle.sequence.specs.WordOrder.{IsLeastWord};
@@ -11,17 +11,18 @@ ghost use Rattle.boolean_operations.specs.private.PairGraph.{IsPair, IsStartPair
 ghost use Rattle.boolean_operations.specs.Equality.{same_left_pairs};
 
 use crate::dead_states::{dead_flags, has_flag};
+use crate::finite_automaton::FiniteAutomaton;
 use crate::graph::Graph;
 use crate::merged_edges::seek;
 use crate::optional_states::{accepts_at, code_of, edges_at, start_of};
 use crate::search::least_word_to_goal;
 use std::alloc::{AllocError, Global};
-use word_automata::{Dfa, Nfa};
+use word_automata::Dfa;
 
 /// The pairs of states of two automata, as a graph whose edges lead to no flagged state of the left automaton.
 #[derive(Drop)]
-pub(crate) struct PairGraph<'a> {
-    pub(crate) left: &'a Nfa,
+pub(crate) struct PairGraph<'a, A> {
+    pub(crate) left: &'a A,
     pub(crate) right: &'a Dfa,
     pub(crate) dead: &'a [bool],
 }
@@ -29,16 +30,16 @@ pub(crate) struct PairGraph<'a> {
 /// A state of the left automaton, and one of the right automaton or none.
 pub(crate) type LeftPair = (usize, Option<usize>);
 
-impl Graph for PairGraph<'_> {
+impl<'a, A: FiniteAutomaton> Graph for PairGraph<'a, A> {
     type State = LeftPair;
 
-    ghost is_state = { λ g. IsPair g.left.now g.right.now };
+    ghost is_state = { λ g. IsPair (A.automaton g.left.now) g.right.now };
 
-    ghost is_start = { λ g. IsStartPair g.left.now g.right.now };
+    ghost is_start = { λ g. IsStartPair (A.automaton g.left.now) g.right.now };
 
-    ghost edge = { λ g. LiveEdge g.left.now g.right.now g.dead.now };
+    ghost edge = { λ g. LiveEdge (A.automaton g.left.now) g.right.now g.dead.now };
 
-    ghost goal = { λ g. is_outside_pair g.left.now g.right.now };
+    ghost goal = { λ g. is_outside_pair (A.automaton g.left.now) g.right.now };
 
     fn starts(&self, alloc: Global) -> Result<Vec<LeftPair>, AllocError> {
         let right = start_of(self.right);
@@ -56,13 +57,15 @@ impl Graph for PairGraph<'_> {
     fn silent_targets(&self, alloc: Global, state: &LeftPair) -> Result<Vec<LeftPair>, AllocError> {
         let (left, right) = *state;
         let mut targets = Vec::new(alloc);
-        'edges: for &(letter, to) in self.left.edges_from(left) {
+        'edges: for &edge in self.left.edges_from(left) {
+            let (letter, to) = A::read(edge);
+            if letter.is_some() {
+                continue;
+            }
             if has_flag(self.dead, to) {
                 continue;
             }
-            if letter.is_none() {
-                targets.push((to, right))?;
-            }
+            targets.push((to, right))?;
         }
         Ok(targets)
     }
@@ -75,7 +78,8 @@ impl Graph for PairGraph<'_> {
         let (left, right) = *state;
         let edges = edges_at(self.right, right);
         let mut near = 0;
-        'edges: for &(letter, to) in self.left.edges_from(left) {
+        'edges: for &edge in self.left.edges_from(left) {
+            let (letter, to) = A::read(edge);
             if has_flag(self.dead, to) {
                 continue;
             }
@@ -104,9 +108,14 @@ impl Graph for PairGraph<'_> {
 
 /// `None` where `b` accepts every word that `a` accepts, and else the least word that `a` accepts and `b` refuses. Both have the
 /// same letters.
-pub fn included(alloc: Global, a: &Nfa, b: &Dfa) -> Result<Option<Vec<u32>>, AllocError>
-    requires { a.now.letters ≡ b.now.letters }
-    ensures { IfOk result (λ word. MatchOption word (IsIncluded a.now b.now) (λ w. IsLeastWord (IsOutside a.now b.now) w.items)) }
+pub fn included<A: FiniteAutomaton>(
+    alloc: Global,
+    a: &A,
+    b: &Dfa,
+) -> Result<Option<Vec<u32>>, AllocError>
+    requires { (A.automaton a.now).letters ≡ b.now.letters }
+    ensures { IfOk result (λ word. MatchOption word (IsIncluded (A.automaton a.now) b.now)
+        (λ w. IsLeastWord (IsOutside (A.automaton a.now) b.now) w.items)) }
 {
     let flags = dead_flags(alloc, a)?;
     let pairs = PairGraph {

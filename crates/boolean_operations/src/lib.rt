@@ -6,6 +6,7 @@
 mod common_words;
 mod complementation;
 mod dead_states;
+mod finite_automaton;
 mod graph;
 mod inclusion;
 mod least_words;
@@ -17,6 +18,7 @@ mod spelling;
 
 pub use common_words::least_common_word;
 pub use complementation::complement;
+pub use finite_automaton::FiniteAutomaton;
 pub use inclusion::included;
 pub use least_words::{is_empty, least_word};
 pub use merged_edges::search_near;

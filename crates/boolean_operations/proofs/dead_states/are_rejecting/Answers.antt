@@ -5,11 +5,11 @@ use Rattle.boolean_operations.proofs.DeadStates.{rejecting_past}
 use Rattle.boolean_operations.proofs.dead_states.are_rejecting.Goals as goal
 
 pub states-preserved : goal.states-preserved
-states-preserved c =
-    below_more (λ p. IsRejectingAt c.args.automaton.now c.args.flags.now p) c.states.state c.states.invariant (c.rejects_at.ensures c.if-not-rejects_at.false)
+states-preserved g c =
+    below_more (λ p. IsRejectingAt (g.A.FiniteAutomaton.automaton c.args.automaton.now) c.args.flags.now p) c.states.state c.states.invariant (c.rejects_at.ensures c.if-not-rejects_at.false)
 
 pub returns : goal.returns
-returns c t p = elim (cases_lt p (length c.args.automaton.now.states)) [
+returns g c t p = elim (cases_lt p (length (g.A.FiniteAutomaton.automaton c.args.automaton.now).states)) [
   | inl there ↦ c.states.invariant p (let e = c.states-state-end.ensures.count in let x = c.states-test.false in omega arith)
-  | inr past ↦ rejecting_past c.args.automaton.now c.args.flags.now p (let e = c.requires in omega arith)
+  | inr past ↦ rejecting_past (g.A.FiniteAutomaton.automaton c.args.automaton.now) c.args.flags.now p (let e = c.requires in omega arith)
 ]

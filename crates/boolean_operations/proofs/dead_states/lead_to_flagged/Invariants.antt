@@ -1,5 +1,6 @@
-use Rattle.std.proofs.Common.{◌≡◌, ◌<◌, ℕ, true, false, None, get_or}
+use Rattle.std.proofs.Common.{map}
+use Rattle.boolean_operations.proofs.DeadStates.{LeadToFlagged}
 use Rattle.boolean_operations.proofs.dead_states.lead_to_flagged.Given as goal
 
 abbrev pub invariant-edges : goal.invariant-edges
-invariant-edges l = (k : ℕ) → k < l.to-index → get_or l.flags (get_or l.edges k (None, 0)).1 false ≡ true
+invariant-edges g l = LeadToFlagged l.flags (map g.A.FiniteAutomaton.move_of l.edges) l.edge-index

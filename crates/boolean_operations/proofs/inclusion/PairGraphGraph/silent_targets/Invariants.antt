@@ -5,5 +5,5 @@ use Rattle.boolean_operations.specs.private.PairGraph.{IsPair, IsSilentAmong}
 use Rattle.boolean_operations.proofs.inclusion.PairGraphGraph.silent_targets.Given as goal
 
 abbrev pub invariant-edges : goal.invariant-edges
-invariant-edges l =
-    Gathers (IsPair l.self.left.now l.self.right.now) (IsSilentAmong l.self.dead.now l.right (edges_of l.self.left.now.states l.left) l.letter-index) [] l.targets.items
+invariant-edges g l =
+    Gathers (IsPair (g.A.FiniteAutomaton.automaton l.self.left.now) l.self.right.now) (IsSilentAmong l.self.dead.now l.right (edges_of (g.A.FiniteAutomaton.automaton l.self.left.now).states l.left) l.edge-index) [] l.targets.items

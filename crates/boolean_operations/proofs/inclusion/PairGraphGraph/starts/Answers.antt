@@ -6,15 +6,15 @@ use Rattle.boolean_operations.proofs.PairWalks.{gathers_none, gathered_states, g
 use Rattle.boolean_operations.proofs.inclusion.PairGraphGraph.starts.Goals as goal
 
 pub starts-init : goal.starts-init
-starts-init c =
-    let n = c.args.self.now.left.now in
+starts-init g c =
+    let n = g.A.FiniteAutomaton.automaton c.args.self.now.left.now in
     let m = c.args.self.now.right.now in
     subst (Gathers (IsPair n m) (IsStartAmong m n.starts 0) []) (sym c.new-pairs.ensures.items)
     (gathers_none (IsPair n m) (IsStartAmong m n.starts 0) [] (λ x is. let l = is.1 in omega arith))
 
 pub starts-preserved : goal.starts-preserved
-starts-preserved c =
-    let n = c.args.self.now.left.now in
+starts-preserved g c =
+    let n = g.A.FiniteAutomaton.automaton c.args.self.now.left.now in
     let m = c.args.self.now.right.now in
     let starts = c.starts-left-items.result.now in
     let k = c.starts.left-index in
@@ -26,15 +26,15 @@ starts-preserved c =
     c.start_of-right.ensures.value at c.starts.invariant)
 
 pub returns-clause-states : goal.returns-clause-states
-returns-clause-states c =
-    let n = c.args.self.now.left.now in
+returns-clause-states g c =
+    let n = g.A.FiniteAutomaton.automaton c.args.self.now.left.now in
     let m = c.args.self.now.right.now in
     gathered_states (IsPair n m) (IsStartPair n m) c.starts.pairs.items
     (starts_all n m c.starts.pairs.items c.starts.left-index (omega (arith, ap (λ (xs : List ℕ). length xs) c.starts-left-items.ensures.starts, c.starts-test.false)) c.starts.invariant)
 
 pub returns-clause-starts : goal.returns-clause-starts
-returns-clause-starts c =
-    let n = c.args.self.now.left.now in
+returns-clause-starts g c =
+    let n = g.A.FiniteAutomaton.automaton c.args.self.now.left.now in
     let m = c.args.self.now.right.now in
     gathered_members (IsPair n m) (IsStartPair n m) c.starts.pairs.items
     (starts_all n m c.starts.pairs.items c.starts.left-index (omega (arith, ap (λ (xs : List ℕ). length xs) c.starts-left-items.ensures.starts, c.starts-test.false)) c.starts.invariant)
