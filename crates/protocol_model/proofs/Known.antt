@@ -1,22 +1,11 @@
 -- Names that are in a list, and names that are not.
-use Rattle.std.proofs.Common.{◌≡◌, ℕ, ◌<◌, Bool, true, false, List, Option, None, Some, length, refl, cond, not, arith, ◌⊎◌, inl, inr}
+use Rattle.std.proofs.Common.{◌≡◌, ◌<◌, Bool, true, false, List, Option, None, Some, Result, Ok, Err, IfOk, length, refl, sym, subst, cond, arith, ◌⊎◌, inl, inr}
 use Rattle.std.specs.List.{list_any, position_or_len}
 use Rattle.std.specs.Option.{option_or}
-use Rattle.std.specs.Str.{bytes_eq}
-use Rattle.forms.specs.declared.name.Name.{Name}
 use Rattle.protocol_model.specs.declared.fault.ModelFault.{ModelFault}
 use Rattle.protocol_model.specs.declared.fault.ModelFault.TheVariants.{Memory}
-use Rattle.protocol_model.specs.Faults.{is_among}
-use Rattle.protocol_model.specs.Outcome.{IsFault}
+use Rattle.protocol_model.specs.Outcome.{IsOutcome, IsFault}
 use Rattle.protocol_model.proofs.Lists.{position_below}
-
-pub not_is_false : (b c : Bool) → b ≡ not c → b ≡ false → c ≡ true
-not_is_false b true e f = refl
-not_is_false b false e f = cc
-
-pub not_is_true : (b c : Bool) → b ≡ not c → b ≡ true → c ≡ false
-not_is_true b true e f = cc
-not_is_true b false e f = refl
 
 pub some_of_cond : {X : Type 0} (b : Bool) (n m : X) → Some n ≡ cond b (Some m) None → (b ≡ true) × (n ≡ m)
 some_of_cond true n m e = (refl, cc)
@@ -39,15 +28,6 @@ pub fault_where_false : (b : Bool) (fault e : ModelFault) → b ≡ false → Is
 fault_where_false b fault e h (inl s) = inl (rw (h, s) refl)
 fault_where_false b fault e h (inr m) = inr m
 
--- what `add` of a name says of the names before
-pub added_before : (names : List (List ℕ)) (name : Name) (text : List ℕ) (added : Bool) →
-    added ≡ not (list_any (bytes_eq text) names) → added ≡ false → text ≡ name.text → is_among names name ≡ true
-added_before names name text added e f t = rw (← t) (not_is_false added (list_any (bytes_eq text) names) e f)
-
-pub added_now : (names : List (List ℕ)) (name : Name) (text : List ℕ) (added : Bool) →
-    added ≡ not (list_any (bytes_eq text) names) → added ≡ true → text ≡ name.text → is_among names name ≡ false
-added_now names name text added e f t = rw (← t) (not_is_true added (list_any (bytes_eq text) names) e f)
-
 pub or_left : (o p : Option ModelFault) (e : ModelFault) →
     (o ≡ Some e) ⊎ (e ≡ Memory) → (option_or o p ≡ Some e) ⊎ (e ≡ Memory)
 or_left o p e (inl s) = inl (rw s refl)
@@ -60,3 +40,12 @@ or_right o p e n (inr m) = inr m
 
 pub or_none : (o p : Option ModelFault) → o ≡ None → p ≡ None → option_or o p ≡ None
 or_none o p n m = rw (n, m) refl
+
+-- where the first fault is none, the answer for the second is that for both
+pub outcome_after : {T : Type 0} (o p : Option ModelFault) (value : T) (r : Result T ModelFault) →
+    o ≡ None → IsOutcome p value r → IsOutcome (option_or o p) value r
+outcome_after o p value r n h = subst (λ q. IsOutcome (option_or q p) value r) (sym n) h
+
+pub ok_always : {T E P : Type 0} (r : Result T E) → P → IfOk r (λ _. P)
+ok_always (Ok x) p = p
+ok_always (Err e) p = tt

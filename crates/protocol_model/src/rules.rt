@@ -2,20 +2,22 @@
 //! Each move is checked against the kind of its section, and each letter is looked up once; what a rule or a table names before is searched
 //! through, so a rule costs the square of its names at most.
 
-ghost use Rattle.std.specs.Prelude.{◌≡◌, ◌≤◌, [], length, map};
+ghost use Rattle.std.specs.Prelude.{◌≡◌, ◌<◌, ◌≤◌, [], ◌∷◌, ◌++◌, IfOk, length, map};
 ghost use Rattle.std.specs.List.{list_any};
+ghost use Rattle.std.specs.Option.{option_or};
 ghost use Rattle.std.specs.Str.{bytes_eq};
 ghost use Rattle.protocol_syntax.specs.declared.limits.TheConstants.{MAX_RULES};
 ghost use Rattle.protocol_syntax.specs.MoveLetters.{belongs_to};
 ghost use Rattle.protocol_model.specs.Numbering.{step_of, rule_of};
-ghost use Rattle.protocol_model.specs.Faults.{step_fault, rule_fault, first_fault_of};
+ghost use Rattle.protocol_model.specs.Faults.{duplicate, step_fault, rule_fault, first_fault_of};
 ghost use Rattle.protocol_model.specs.Outcome.{IsOutcome, IsFault};
 ghost use Rattle.protocol_model.specs.declared.fault.ModelFault.TheVariants as fault;
+ghost use Rattle.protocol_model.specs.declared.names.TheConstants.{MAX_NAMES};
 
 use crate::fault::ModelFault;
 use crate::names::Names;
 use crate::renaming::rename_move;
-use crate::sections::{Sections, copy_name, copy_text, duplicate_name, unknown_name};
+use crate::sections::{Sections, add_name, copy_name, copy_text, unknown_name};
 use crate::system::{Move, Rule};
 use protocol_syntax::{Kind, MoveBody, MoveText, Name, RuleText};
 use sequence::Sequence;
@@ -117,6 +119,22 @@ fn resolve_rule(alloc: Global, sections: &Sections, rule: &RuleText) -> Result<R
     Ok(Rule { name, moves })
 }
 
+/// A rule whose name is added to those of the rules before it, or stands among them.
+fn resolve_next_rule<'a>(
+    alloc: Global,
+    sections: &Sections,
+    names: &mut Names<'a>,
+    rule: &'a RuleText,
+) -> Result<Rule, ModelFault>
+    requires { length names.old < MAX_NAMES }
+    ensures outcome { IsOutcome (option_or (duplicate names.old rule.now.name)
+        (first_fault_of (step_fault sections.now) [] rule.now.moves)) (rule_of sections.now rule.now) result }
+    ensures added { IfOk result (λ _. names.new ≡ names.old ++ rule.now.name.text ∷ []) }
+{
+    add_name(alloc, names, &rule.name)?;
+    resolve_rule(alloc, sections, rule)
+}
+
 /// The rules.
 pub fn resolve_rules(
     alloc: Global,
@@ -129,10 +147,7 @@ pub fn resolve_rules(
     let mut names = Names::new(alloc);
     let mut resolved = Vec::new(alloc);
     'rules: for rule in rules {
-        if !names.add(rule.name.text.as_str())? {
-            return Err(duplicate_name(alloc, &rule.name));
-        }
-        let next = resolve_rule(alloc, sections, rule)?;
+        let next = resolve_next_rule(alloc, sections, &mut names, rule)?;
         resolved.push(next)?;
     }
     Ok(Sequence::from_vec(resolved))

@@ -1,8 +1,9 @@
 //! The sections of a protocol, found by their names.
 //! A section is found by its name in constant expected time, and keeps the numbers of its letters.
 
-ghost use Rattle.std.specs.Prelude.{◌≡◌, ◌<◌, ◌≤◌, [], IfOk, IfSome, IfNone, length, false};
+ghost use Rattle.std.specs.Prelude.{◌≡◌, ◌<◌, ◌≤◌, [], ◌∷◌, ◌++◌, IfOk, IfSome, IfNone, length, false};
 ghost use Rattle.std.specs.List.{AllByRecursion};
+ghost use Rattle.std.specs.Option.{option_or};
 ghost use Rattle.protocol_model.specs.Numbering.{texts_of, section_names};
 ghost use Rattle.protocol_model.specs.Faults.{duplicate, is_among, section_fault, first_fault_of};
 ghost use Rattle.protocol_model.specs.Outcome.{IsOutcome, IsFault, IsSectionNamed};
@@ -85,6 +86,19 @@ pub fn unknown_name(alloc: Global, name: &Name) -> ModelFault
     }
 }
 
+/// Gives the name the next number, or answers that it stands twice.
+pub fn add_name<'a>(alloc: Global, names: &mut Names<'a>, name: &'a Name) -> Result<(), ModelFault>
+    requires { length names.old < MAX_NAMES }
+    ensures outcome { IsOutcome (duplicate names.old name.now) tt result }
+    ensures added { IfOk result (λ _. names.new ≡ names.old ++ name.now.text ∷ []) }
+{
+    if names.add(name.text.as_str())? {
+        Ok(())
+    } else {
+        Err(duplicate_name(alloc, name))
+    }
+}
+
 /// The letters of a section by number, or the first of them that stands twice.
 fn letter_names<'a>(alloc: Global, letters: &'a [Name]) -> Result<Names<'a>, ModelFault>
     requires { length letters.now ≤ MAX_NAMES }
@@ -92,11 +106,25 @@ fn letter_names<'a>(alloc: Global, letters: &'a [Name]) -> Result<Names<'a>, Mod
 {
     let mut names = Names::new(alloc);
     'letters: for letter in letters {
-        if !names.add(letter.text.as_str())? {
-            return Err(duplicate_name(alloc, letter));
-        }
+        add_name(alloc, &mut names, letter)?;
     }
     Ok(names)
+}
+
+/// The letters of a section by number, where its name gets the next number of a section; or the first of these names that stands twice.
+fn number_section<'a>(
+    alloc: Global,
+    numbers: &mut Names<'a>,
+    section: &'a SectionText,
+) -> Result<Names<'a>, ModelFault>
+    requires few { length numbers.old < MAX_NAMES }
+    requires few_letters { length section.now.letters ≤ MAX_NAMES }
+    ensures outcome { IsOutcome (option_or (duplicate numbers.old section.now.name)
+        (first_fault_of (λ before. duplicate (texts_of before)) [] section.now.letters)) (texts_of section.now.letters) result }
+    ensures added { IfOk result (λ _. numbers.new ≡ numbers.old ++ section.now.name.text ∷ []) }
+{
+    add_name(alloc, numbers, &section.name)?;
+    letter_names(alloc, section.letters.as_slice())
 }
 
 impl<'a> Sections<'a> {
@@ -109,10 +137,8 @@ impl<'a> Sections<'a> {
         let mut numbers = Names::new(alloc);
         let mut letters = Vec::new(alloc);
         'sections: for section in texts {
-            if !numbers.add(section.name.text.as_str())? {
-                return Err(duplicate_name(alloc, &section.name));
-            }
-            letters.push(letter_names(alloc, section.letters.as_slice())?)?;
+            let names = number_section(alloc, &mut numbers, section)?;
+            letters.push(names)?;
         }
         Ok(Sections {
             texts,

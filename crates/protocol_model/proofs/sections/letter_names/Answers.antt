@@ -1,31 +1,27 @@
-use Rattle.std.proofs.Common.{◌≡◌, true, false, None, Some, cond, ap, subst, ◌∙◌, ◌∷◌, [], ◌++◌, take, if◌then◌else◌}
+use Rattle.std.proofs.Common.{◌≡◌, None, Some, subst, ◌⊎◌, refl}
+use Rattle.std.proofs.lemmas.Result.{err_from_is_err_and}
 use Rattle.protocol_model.specs.Numbering.{texts_of}
-use Rattle.protocol_model.specs.Faults.{duplicate, is_among}
-use Rattle.protocol_model.specs.declared.fault.ModelFault.TheVariants.{Duplicate}
+use Rattle.protocol_model.specs.Faults.{duplicate}
+use Rattle.protocol_model.specs.declared.fault.ModelFault.TheVariants.{Memory}
 use Rattle.protocol_model.proofs.Walk.{stops, goes_on}
-use Rattle.protocol_model.proofs.Known.{added_before, added_now, fault_where_true}
 use Rattle.protocol_model.proofs.sections.letter_names.Goals as goal
 
-pub returns-then-not-branch : goal.returns-then-not-branch
-returns-then-not-branch c =
+pub returns-in_err-add_name : goal.returns-in_err-add_name
+returns-in_err-add_name c =
     let walk = c.letters in
     let item = c.letter-item.result in
-    let among : is_among (texts_of (take walk.letter-index c.args.letters.now)) item ≡ true =
-    subst (λ names. is_among names item ≡ true) walk.invariant.values
-    (added_before walk.names item c.as_str.result.now c.in_ok-add.field-0 c.in_ok-add.ensures.added c.if-not-branch.true c.as_str.ensures) in
-    stops (λ before. duplicate (texts_of before)) (λ name. name.text) c.args.letters.now walk.letter-index walk.names item c.duplicate_name.result
+    let e = c.in_err-add_name.field-0.0 in
+    let p = err_from_is_err_and c.from_residual.result c.from_residual.ensures.1 in
+    rw (p.1, p.2)
+    (stops (λ before. duplicate (texts_of before)) (λ name. name.text) c.args.letters.now walk.letter-index walk.names item e
     c.letters-test.true walk.invariant c.letter-item.is
-    (fault_where_true (is_among (texts_of (take walk.letter-index c.args.letters.now)) item) (Duplicate item) c.duplicate_name.result among c.duplicate_name.ensures)
+    (subst (λ names. (duplicate names item ≡ Some e) ⊎ (e ≡ Memory)) walk.invariant.values c.in_err-add_name.ensures.outcome))
 
 pub letters-preserved : goal.letters-preserved
 letters-preserved c =
     let walk = c.letters in
     let item = c.letter-item.result in
-    let among : is_among (texts_of (take walk.letter-index c.args.letters.now)) item ≡ false =
-    subst (λ names. is_among names item ≡ false) walk.invariant.values
-    (added_now walk.names item c.as_str.result.now c.in_ok-add.field-0 c.in_ok-add.ensures.added c.if-not-branch.false c.as_str.ensures) in
-    let more : c.add.new.self ≡ walk.names ++ c.as_str.result.now ∷ [] =
-    c.in_ok-add.ensures.names ∙ ap (λ b. if b then walk.names ++ c.as_str.result.now ∷ [] else walk.names) c.if-not-branch.false in
-    rw more (goes_on (λ before. duplicate (texts_of before)) (λ name. name.text) c.args.letters.now walk.letter-index walk.names item c.as_str.result.now
+    rw c.in_ok-add_name.ensures.added
+    (goes_on (λ before. duplicate (texts_of before)) (λ name. name.text) c.args.letters.now walk.letter-index walk.names item item.text
     c.letters-test.true walk.invariant c.letter-item.is
-    (ap (λ b. cond b (Some (Duplicate item)) None) among) c.as_str.ensures)
+    (subst (λ names. duplicate names item ≡ None) walk.invariant.values c.in_ok-add_name.ensures.outcome.0) refl)
