@@ -22,7 +22,7 @@ ghost use Rattle.std.specs.Prelude.{◌≡◌, ◌↔◌, List, ℕ, IsTrue, IfO
 ghost use Rattle.word_automata.specs.Automaton.{accepts, IsValid};
 ghost use Rattle.word_automata.specs.Nondeterministic.{Accepts};
 ghost use Rattle.determinise.specs.private.Subsets.{IsPlain, ArePlainWhereFalse};
-ghost use Rattle.reduction.specs.Simulation.{AreIncluded};
+ghost use Rattle.reduction.specs.Simulation.{AreIncluded, IsSimulation};
 
 use crate::bit_subsets::BitSubsets;
 use crate::sampling::{sample_of_bits, sample_of_lists};
@@ -97,16 +97,45 @@ fn subsets_of_pruned(alloc: Global, automaton: &Nfa) -> Result<Dfa, AllocError>
     let begun = Exploration::begin(alloc, &lists)?;
     let few = begun.advance(uncompared_sets(automaton.states()))?;
     if few.is_done() {
-        return Ok(few.finish()?);
+        return few.finish();
     }
+    compared_subsets_from(alloc, automaton, &none, &silent, &lists, few)
+}
+
+/// The deterministic automaton of the sets of states, of which some were found as lists, without edges that others match.
+fn compared_subsets_from<'a>(
+    alloc: Global,
+    automaton: &Nfa,
+    none: &StatePairs,
+    silent: &[bool],
+    lists: &'a Subsets<'a>,
+    begun: Exploration<'a, Subsets<'a>>,
+) -> Result<Dfa, AllocError>
+    requires included { AreIncluded automaton.now none.now }
+    requires count { length silent.now ≡ length automaton.now.states }
+    requires plain { ArePlainWhereFalse automaton.now silent.now }
+    requires same { lists.now.automaton.now ≡ automaton.now }
+    requires begun { begun ≡ lists.now }
+    ensures language { IfOk result (λ dfa. (w : List ℕ) → IsTrue (accepts dfa w) ↔ Accepts automaton.now w) }
+    ensures letters { IfOk result (λ dfa. dfa.letters ≡ automaton.now.letters) }
+    ensures valid { IfOk result IsValid }
+{
     match simulation(alloc, automaton)? {
-        Some(pairs) => {
-            let pruned = pruned(alloc, automaton, &pairs)?;
-            let dfa = subsets_of(alloc, &pruned, &pairs)?;
-            Ok(dfa)
-        }
-        None => Ok(subsets_from(alloc, automaton, &none, &silent, &lists, few)?),
+        Some(pairs) => pruned_subsets_of(alloc, automaton, &pairs),
+        None => subsets_from(alloc, automaton, none, silent, lists, begun),
     }
+}
+
+/// The deterministic automaton of the sets of states that words lead to, without edges that others match.
+fn pruned_subsets_of(alloc: Global, automaton: &Nfa, pairs: &StatePairs) -> Result<Dfa, AllocError>
+    requires { IsSimulation automaton.now pairs.now }
+    ensures language { IfOk result (λ dfa. (w : List ℕ) → IsTrue (accepts dfa w) ↔ Accepts automaton.now w) }
+    ensures letters { IfOk result (λ dfa. dfa.letters ≡ automaton.now.letters) }
+    ensures valid { IfOk result IsValid }
+{
+    let pruned = pruned(alloc, automaton, pairs)?;
+    let dfa = subsets_of(alloc, &pruned, pairs)?;
+    Ok(dfa)
 }
 
 /// So many sets of so many states are found before states are compared.
@@ -127,8 +156,7 @@ fn subsets_of(alloc: Global, automaton: &Nfa, pairs: &StatePairs) -> Result<Dfa,
     let silent = silent_flags(alloc, automaton)?;
     let lists = Subsets::new(automaton, &silent, pairs);
     let begun = Exploration::begin(alloc, &lists)?;
-    let dfa = subsets_from(alloc, automaton, pairs, &silent, &lists, begun)?;
-    Ok(dfa)
+    subsets_from(alloc, automaton, pairs, &silent, &lists, begun)
 }
 
 /// The same, of which some sets were found as lists.
@@ -151,12 +179,12 @@ fn subsets_from<'a>(
 {
     let few = begun.advance(FEW_SETS)?;
     if few.is_done() || has_true(silent) {
-        return Ok(few.finish()?);
+        return few.finish();
     }
     if automaton.states() <= BIT_STATES {
-        return Ok(bit_subsets_of(alloc, automaton, pairs, lists)?);
+        return bit_subsets_of(alloc, automaton, pairs, lists);
     }
-    Ok(list_subsets_of(alloc, automaton, lists)?)
+    list_subsets_of(alloc, automaton, lists)
 }
 
 /// The deterministic automaton of the sets of states, as lists, or of the languages of these.
@@ -171,7 +199,7 @@ fn list_subsets_of(alloc: Global, automaton: &Nfa, lists: &Subsets) -> Result<Df
     let first = FIRST_SETS.max(automaton.states().saturating_mul(2));
     let found = begun.advance(first)?;
     if found.is_done() {
-        return Ok(found.finish()?);
+        return found.finish();
     }
     let mut turns = Turns::begin(alloc, automaton, found)?;
     'turns: for turn in 0..TURNS {
@@ -183,7 +211,7 @@ fn list_subsets_of(alloc: Global, automaton: &Nfa, lists: &Subsets) -> Result<Df
         let sample = sample_of_lists(alloc, sets)?;
         turns = turns.next(alloc, work, &sample, first << (turn + 1))?;
     }
-    Ok(turns.finish(alloc, automaton, lists)?)
+    turns.finish(alloc, automaton, lists)
 }
 
 /// How many states the sets have together.
@@ -231,7 +259,7 @@ fn explored_bits(
     let begun = Exploration::begin(alloc, sets)?;
     let first = begun.advance(FIRST_SETS)?;
     if first.is_done() {
-        return Ok(first.finish()?);
+        return first.finish();
     }
     let mut turns = Turns::begin(alloc, automaton, first)?;
     'turns: for turn in 0..TURNS {
@@ -244,5 +272,5 @@ fn explored_bits(
         let sample = sample_of_bits(alloc, found)?;
         turns = turns.next(alloc, work, &sample, FIRST_SETS << (turn + 1))?;
     }
-    Ok(turns.finish(alloc, automaton, lists)?)
+    turns.finish(alloc, automaton, lists)
 }

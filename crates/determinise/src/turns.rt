@@ -2,7 +2,7 @@
 //! sets are told apart by these from then on. A turn costs the edges and sets that it looks at for atoms, the atoms of a sample, and what
 //! the construction costs for the sets that it finds.
 
-ghost use Rattle.std.specs.Prelude.{◌≡◌, ◌↔◌, List, ℕ, IsTrue, IfOk};
+ghost use Rattle.std.specs.Prelude.{◌≡◌, ◌↔◌, List, ℕ, IsTrue, IfOk, IfSome};
 ghost use Rattle.word_automata.specs.Automaton.{accepts, IsValid};
 ghost use Rattle.word_automata.specs.Nondeterministic.{Accepts};
 ghost use Rattle.atoms.specs.Covers.{AreAtomsOf};
@@ -91,14 +91,20 @@ impl<'a, T: LanguageSystem> Turns<'a, T> {
         ensures letters { IfOk result (λ dfa. dfa.letters ≡ automaton.now.letters) }
         ensures valid { IfOk result IsValid }
     {
-        let found = self.found;
+        match self.telling_atoms()? {
+            Some(atoms) => languages_of(alloc, automaton, lists, &atoms),
+            None => self.found.finish(),
+        }
+    }
+
+    /// The atoms, where they are to tell sets apart.
+    fn telling_atoms(&self) -> Result<Option<Atoms>, AllocError>
+        ensures { IfOk result (λ found. IfSome found (AreAtomsOf self.now.search)) }
+    {
         if !self.signed {
-            return Ok(found.finish()?);
+            return Ok(None);
         }
-        if let Some(atoms) = self.search.atoms()? {
-            return Ok(languages_of(alloc, automaton, lists, &atoms)?);
-        }
-        Ok(found.finish()?)
+        self.search.atoms()
     }
 }
 
