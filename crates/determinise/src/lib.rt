@@ -2,8 +2,8 @@
 //! leaves: no states from which no word is accepted and, where sets are many, nor edges and states that others simulate. It costs time
 //! linear in the edges that leave the sets. The sets are lists of states at first and, where there are many of them, sets of bits, which
 //! are merged without being sorted. Where there are more, sets of one language become one state, told apart by atoms (J. A. Brzozowski
-//! and H. Tamm, 2014), if these are found: the sets go on being found in turns with the search for atoms, so that neither takes much
-//! longer than the other.
+//! and H. Tamm, 2014), if these are found: the sets go on being found in turns with the search for atoms, which looks at so many edges
+//! and sets for each state of the sets that were found.
 #![tactic(auto)]
 
 mod above;
@@ -25,7 +25,7 @@ ghost use Rattle.determinise.specs.private.Subsets.{IsPlain, ArePlainWhereFalse}
 ghost use Rattle.reduction.specs.Simulation.{AreIncluded, IsSimulation};
 
 use crate::bit_subsets::BitSubsets;
-use crate::sampling::{sample_of_bits, sample_of_lists};
+use crate::sampling::sample_of;
 use crate::silent::{has_true, silent_flags};
 use crate::subsets::Subsets;
 use crate::turns::Turns;
@@ -56,7 +56,7 @@ const TURNS: usize = 8;
 /// So many edges, sets and words are looked at for the atoms for each state of the lists that were found,
 const WORK_PER_STATE: usize = 128;
 
-/// and so many for each word of the sets of bits that were found, which takes no longer than finding these.
+/// and so many for each word of the sets of bits that were found.
 const WORK_PER_WORD: usize = 64;
 
 /// The deterministic automaton of the sets of states that words lead to (M. O. Rabin and D. Scott, 1959), which accepts the same
@@ -201,17 +201,47 @@ fn list_subsets_of(alloc: Global, automaton: &Nfa, lists: &Subsets) -> Result<Df
     if found.is_done() {
         return found.finish();
     }
+    lists_in_turns(alloc, automaton, lists, found, first)
+}
+
+/// The same, of which so many lists were found, in turns with the search for atoms.
+fn lists_in_turns<'a>(
+    alloc: Global,
+    automaton: &'a Nfa,
+    lists: &'a Subsets<'a>,
+    found: Exploration<'a, Subsets<'a>>,
+    first: usize,
+) -> Result<Dfa, AllocError>
+    requires same { lists.now.automaton.now ≡ automaton.now }
+    requires plain { (p : ℕ) → IsPlain automaton.now p }
+    requires found { found ≡ lists.now }
+    ensures language { IfOk result (λ dfa. (w : List ℕ) → IsTrue (accepts dfa w) ↔ Accepts automaton.now w) }
+    ensures letters { IfOk result (λ dfa. dfa.letters ≡ automaton.now.letters) }
+    ensures valid { IfOk result IsValid }
+{
     let mut turns = Turns::begin(alloc, automaton, found)?;
     'turns: for turn in 0..TURNS {
         if turns.is_over() {
             break;
         }
-        let sets = turns.found.states();
-        let work = states_in(sets).saturating_mul(WORK_PER_STATE);
-        let sample = sample_of_lists(alloc, sets)?;
-        turns = turns.next(alloc, work, &sample, first << (turn + 1))?;
+        turns = turn_of_lists(alloc, turns, first << (turn + 1))?;
     }
     turns.finish(alloc, automaton, lists)
+}
+
+/// A turn in which the construction goes on until more than so many lists are found.
+fn turn_of_lists<'a>(
+    alloc: Global,
+    turns: Turns<'a, Subsets<'a>>,
+    sets: usize,
+) -> Result<Turns<'a, Subsets<'a>>, AllocError>
+    ensures found { IfOk result (λ later. later.found ≡ turns.entry.found) }
+    ensures search { IfOk result (λ later. later.search ≡ turns.entry.search) }
+{
+    let lists = turns.found.states();
+    let work = states_in(lists).saturating_mul(WORK_PER_STATE);
+    let sample = sample_of(alloc, lists)?;
+    turns.next(alloc, work, &sample, sets)
 }
 
 /// How many states the sets have together.
@@ -261,16 +291,48 @@ fn explored_bits(
     if first.is_done() {
         return first.finish();
     }
-    let mut turns = Turns::begin(alloc, automaton, first)?;
+    bits_in_turns(alloc, automaton, lists, sets, first)
+}
+
+/// The same, of which some sets were found, in turns with the search for atoms.
+fn bits_in_turns<'a>(
+    alloc: Global,
+    automaton: &'a Nfa,
+    lists: &Subsets,
+    sets: &'a BitSubsets<'a>,
+    found: Exploration<'a, BitSubsets<'a>>,
+) -> Result<Dfa, AllocError>
+    requires bits { sets.now.automaton.now ≡ automaton.now }
+    requires same { lists.now.automaton.now ≡ automaton.now }
+    requires plain { (p : ℕ) → IsPlain automaton.now p }
+    requires found { found ≡ sets.now }
+    ensures language { IfOk result (λ dfa. (w : List ℕ) → IsTrue (accepts dfa w) ↔ Accepts automaton.now w) }
+    ensures letters { IfOk result (λ dfa. dfa.letters ≡ automaton.now.letters) }
+    ensures valid { IfOk result IsValid }
+{
+    let mut turns = Turns::begin(alloc, automaton, found)?;
     'turns: for turn in 0..TURNS {
         if turns.is_over() {
             break;
         }
-        let found = turns.found.states();
-        let words = found.len().saturating_mul(automaton.states() / 64 + 1);
-        let work = words.saturating_mul(WORK_PER_WORD);
-        let sample = sample_of_bits(alloc, found)?;
-        turns = turns.next(alloc, work, &sample, FIRST_SETS << (turn + 1))?;
+        turns = turn_of_bits(alloc, automaton, turns, FIRST_SETS << (turn + 1))?;
     }
     turns.finish(alloc, automaton, lists)
+}
+
+/// A turn in which the construction goes on until more than so many sets of bits are found.
+fn turn_of_bits<'a>(
+    alloc: Global,
+    automaton: &Nfa,
+    turns: Turns<'a, BitSubsets<'a>>,
+    sets: usize,
+) -> Result<Turns<'a, BitSubsets<'a>>, AllocError>
+    ensures found { IfOk result (λ later. later.found ≡ turns.entry.found) }
+    ensures search { IfOk result (λ later. later.search ≡ turns.entry.search) }
+{
+    let found = turns.found.states();
+    let words = found.len().saturating_mul(automaton.states() / 64 + 1);
+    let work = words.saturating_mul(WORK_PER_WORD);
+    let sample = sample_of(alloc, found)?;
+    turns.next(alloc, work, &sample, sets)
 }

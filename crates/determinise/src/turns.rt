@@ -62,22 +62,9 @@ impl<'a, T: LanguageSystem> Turns<'a, T> {
         ensures found { IfOk result (λ turns. turns.found ≡ self.entry.found) }
         ensures search { IfOk result (λ turns. turns.search ≡ self.entry.search) }
     {
-        let found = self.found;
         let search = self.search.advance(work)?;
-        let signed = have_few_signatures(alloc, &search, sample, found.states().len())?;
-        if signed {
-            return Ok(Turns {
-                found,
-                search,
-                signed,
-            });
-        }
-        let found = found.advance(sets)?;
-        Ok(Turns {
-            found,
-            search,
-            signed,
-        })
+        let signed = have_few_signatures(alloc, &search, sample, self.found.states().len())?;
+        further(self.found, search, signed, sets)
     }
 
     /// The automaton of the atoms' signatures, where these are to tell sets apart, and else that of the construction, after what is left.
@@ -106,6 +93,31 @@ impl<'a, T: LanguageSystem> Turns<'a, T> {
         }
         self.search.atoms()
     }
+}
+
+/// The search, and the construction further on until more than so many sets are found, unless the atoms are to tell sets apart.
+fn further<'a, T: LanguageSystem>(
+    found: Exploration<'a, T>,
+    search: AtomSearch<'a>,
+    signed: bool,
+    sets: usize,
+) -> Result<Turns<'a, T>, AllocError>
+    ensures found { IfOk result (λ turns. turns.found ≡ found.entry) }
+    ensures search { IfOk result (λ turns. turns.search ≡ search.entry) }
+{
+    if signed {
+        return Ok(Turns {
+            found,
+            search,
+            signed,
+        });
+    }
+    let found = found.advance(sets)?;
+    Ok(Turns {
+        found,
+        search,
+        signed,
+    })
 }
 
 /// Whether the search is at its end and so many sets, of which these are a sample, have few signatures. Of n signatures that are equally

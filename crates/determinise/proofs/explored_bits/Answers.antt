@@ -1,4 +1,4 @@
-use Rattle.std.proofs.Common.{◌≡◌, ◌↔◌, ℕ, List, IsTrue, IfOk, ap, sym, subst, ◌∙◌}
+use Rattle.std.proofs.Common.{◌≡◌, ◌↔◌, ℕ, List, IsTrue, IfOk, ap, subst, ◌∙◌}
 use Rattle.word_automata.specs.Automaton.{accepts}
 use Rattle.word_automata.specs.Nondeterministic.{Accepts}
 use Rattle.determinise.proofs.explored_bits.Goals as goal
@@ -7,8 +7,3 @@ pub returns-then-is_done-clause-language : goal.returns-then-is_done-clause-lang
 returns-then-is_done-clause-language c =
     let same : c.in_ok-first.first.automaton.now ≡ c.args.automaton.now = ap (λ s. s.automaton.now) (c.in_ok-first.ensures ∙ c.in_ok-begun.ensures) ∙ c.requires.bits in
     subst (λ n. IfOk c.finish.result (λ dfa. (w : List ℕ) → IsTrue (accepts dfa w) ↔ Accepts n w)) same c.finish.ensures.language
-
-pub finish-requires-2-clause-accepted : goal.finish-requires-2-clause-accepted
-finish-requires-2-clause-accepted c =
-    let same : c.turns.turns.found.automaton.now ≡ c.args.automaton.now = ap (λ s. s.automaton.now) c.turns.invariant.sets ∙ c.requires.bits in
-    subst (λ n. (w : List ℕ) → Accepts n w ↔ Accepts c.args.automaton.now w) (sym same) (λ w. (λ accepted. accepted, λ accepted. accepted))

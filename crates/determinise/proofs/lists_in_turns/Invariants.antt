@@ -1,8 +1,8 @@
 use Rattle.std.proofs.Common.{◌≡◌}
-use Rattle.determinise.proofs.explored_bits.Given as goal
+use Rattle.determinise.proofs.lists_in_turns.Given as goal
 
 abbrev pub invariant-turns : goal.invariant-turns
 invariant-turns l = record {
-  sets : l.turns.found ≡ l.sets;
+  lists : l.turns.found ≡ l.lists;
   automaton : l.turns.search ≡ l.automaton;
 }

@@ -1,8 +1,8 @@
 use Rattle.std.proofs.Common.{◌≡◌}
-use Rattle.determinise.proofs.list_subsets_of.Given as goal
+use Rattle.determinise.proofs.bits_in_turns.Given as goal
 
 abbrev pub invariant-turns : goal.invariant-turns
 invariant-turns l = record {
-  lists : l.turns.found ≡ l.lists;
+  sets : l.turns.found ≡ l.sets;
   automaton : l.turns.search ≡ l.automaton;
 }
