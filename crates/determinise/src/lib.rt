@@ -268,8 +268,7 @@ fn bit_subsets_of(
     ensures valid { IfOk result IsValid }
 {
     let sets = BitSubsets::new(alloc, automaton, pairs)?;
-    let dfa = explored_bits(alloc, automaton, lists, &sets)?;
-    Ok(dfa)
+    explored_bits(alloc, automaton, lists, &sets)
 }
 
 /// The deterministic automaton of these sets of bits, or of the languages of the sets.

@@ -78,21 +78,22 @@ impl<'a, T: LanguageSystem> Turns<'a, T> {
         ensures letters { IfOk result (λ dfa. dfa.letters ≡ automaton.now.letters) }
         ensures valid { IfOk result IsValid }
     {
-        match self.telling_atoms()? {
+        let found = self.found;
+        match telling_atoms(self.search, self.signed)? {
             Some(atoms) => languages_of(alloc, automaton, lists, &atoms),
-            None => self.found.finish(),
+            None => found.finish(),
         }
     }
+}
 
-    /// The atoms, where they are to tell sets apart.
-    fn telling_atoms(&self) -> Result<Option<Atoms>, AllocError>
-        ensures { IfOk result (λ found. IfSome found (AreAtomsOf self.now.search)) }
-    {
-        if !self.signed {
-            return Ok(None);
-        }
-        self.search.atoms()
+/// The atoms, where they are to tell sets apart.
+fn telling_atoms(search: AtomSearch, signed: bool) -> Result<Option<Atoms>, AllocError>
+    ensures { IfOk result (λ found. IfSome found (AreAtomsOf search.entry)) }
+{
+    if !signed {
+        return Ok(None);
     }
+    search.atoms()
 }
 
 /// The search, and the construction further on until more than so many sets are found, unless the atoms are to tell sets apart.
