@@ -113,6 +113,31 @@ fn resolve_property(
     Ok(Property { name, system })
 }
 
+/// The properties of the blocks, in the order of their first blocks, where these are the sections of the system.
+fn resolve_blocks(
+    alloc: Global,
+    system: &System,
+    sections: &Sections,
+    blocks: &[(Name, RowText)],
+) -> Result<Sequence<Property>, ModelFault>
+    requires sections { sections.now ≡ section_texts system.now }
+    requires allowed { AreAllowedBlocks blocks.now }
+    ensures properties { IfOk result (λ properties. (first_properties_fault system.now blocks.now ≡ None)
+        × (properties ≡ properties_of system.now blocks.now)) }
+    ensures refused { IfErr result (λ e. (first_properties_fault system.now blocks.now ≡ Some e) ⊎ (e ≡ fault.Memory)) }
+{
+    test_rows(alloc, sections, blocks)?;
+    let mut properties = Vec::new(alloc);
+    'each_block: for (i, block) in blocks.iter().enumerate() {
+        if is_named(&blocks[..i], &block.0) {
+            continue;
+        }
+        let property = resolve_property(alloc, system, sections, blocks, &block.0)?;
+        properties.push(property)?;
+    }
+    Ok(Sequence::from_vec(properties))
+}
+
 /// The properties of the blocks, in the order of their first blocks: blocks of one name are the bad rows of one property, which holds the
 /// system with these rows in place of its bad rows.
 ///
@@ -130,14 +155,5 @@ pub fn resolve_properties(
 {
     let texts = section_texts(alloc, system.sections.as_slice())?;
     let sections = Sections::new(alloc, texts.as_slice())?;
-    test_rows(alloc, &sections, blocks)?;
-    let mut properties = Vec::new(alloc);
-    'each_block: for (i, block) in blocks.iter().enumerate() {
-        if is_named(&blocks[..i], &block.0) {
-            continue;
-        }
-        let property = resolve_property(alloc, system, &sections, blocks, &block.0)?;
-        properties.push(property)?;
-    }
-    Ok(Sequence::from_vec(properties))
+    resolve_blocks(alloc, system, &sections, blocks)
 }

@@ -1,6 +1,6 @@
 use Rattle.std.proofs.Common.{◌≡◌, map, take}
 use Rattle.protocol_properties.specs.Properties.{property_named, property_names}
-use Rattle.protocol_properties.proofs.properties.resolve_properties.Given as goal
+use Rattle.protocol_properties.proofs.properties.resolve_blocks.Given as goal
 
 -- the properties whose first blocks are among those so far
 abbrev pub invariant-each_block : goal.invariant-each_block
