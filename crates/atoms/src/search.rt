@@ -88,11 +88,6 @@ impl<'a> AtomSearch<'a> {
         })
     }
 
-    /// Whether it is at its end, which is no clause.
-    pub fn is_done(&self) -> bool {
-        self.next >= self.family.sets.len()
-    }
-
     /// The atoms of the automaton's states, up to unions, or `None` where the search is not at its end. `AllocError` where memory runs out.
     pub fn atoms(&self) -> Result<Option<Atoms>, AllocError>
         ensures { IfOk result (λ found. IfSome found (AreAtomsOf self.now)) }
