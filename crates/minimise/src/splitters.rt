@@ -5,7 +5,8 @@
 //! states, up to sorting by letters, and stops only where each class was a splitter, or the rest of one.
 
 ghost use Rattle.std.specs.Prelude.{◌≡◌, ◌<◌, ◌≤◌, ℕ, IfOk, OnOk, length, nat_eq, slice_index};
-ghost use Rattle.word_automata.specs.Automaton.{IsValid};
+ghost use Rattle.word_automata.specs.Automaton.{Automaton, IsValid};
+ghost use Rattle.exploration.specs.Incoming.{AreIncoming};
 ghost use Rattle.minimise.specs.Refinement.{AreCoarse};
 ghost use Rattle.minimise.specs.private.Rounds.{AreToldApart};
 ghost use Rattle.minimise.specs.private.Splitters.{AreListed, KeepsMembers, AddsMovesOf, AreMovesInto, HasOrderedLetters, IsRun, IsSaturated, AreSources, SplitsSoundly, AreMoved, target_of};
@@ -31,15 +32,31 @@ pub fn refine(
     let mut parts = Parts::new(alloc, &coarse, coarser)?;
     let mut members = members(alloc, &coarse)?;
     let mut classes = coarse;
+    split_by_classes(alloc, &incoming, &mut classes, &mut members, &mut parts)?;
+    Ok(classes)
+}
+
+/// Splits the classes by those that wait, until none does.
+fn split_by_classes(
+    alloc: Global,
+    incoming: &Incoming,
+    classes: &mut Vec<usize>,
+    members: &mut Vec<Vec<usize>>,
+    parts: &mut Parts,
+) -> Result<(), AllocError>
+    requires { AreListed classes.old.items members.old.items }
+    ensures { OnOk result ((m : Automaton) → IsValid m → AreIncoming m incoming.now
+        → AreToldApart m classes.old.items → AreToldApart m classes.new.items) }
+{
     let mut found = Vec::new(alloc);
     'splitters: for _ in 0..usize::MAX {
         let Some(splitter) = parts.next_splitter() else {
-            return Ok(classes);
+            return Ok(());
         };
-        find_moves(&incoming, &classes, &mut members, splitter, &mut found)?;
-        split_by_letters(&mut classes, &mut members, &mut parts, &found)?;
+        find_moves(incoming, classes, members, splitter, &mut found)?;
+        split_by_letters(classes, members, parts, &found)?;
     }
-    Ok(classes)
+    Ok(())
 }
 
 /// For each class but 0 the list of its states.
