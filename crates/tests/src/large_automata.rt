@@ -36,11 +36,10 @@ fn one_letter(alloc: Global, letter: u32) -> Result<Dfa, Fail> {
 
 /// The least word of the one outside the other. Both are over the same letters.
 fn outside(alloc: Global, a: &Dfa, b: &Dfa) -> Result<Option<Vec<u32>>, Fail> {
-    let nondeterministic = a.as_nfa(alloc)?;
-    if nondeterministic.letters() != b.letters() {
+    if a.letters() != b.letters() {
         return Err(Fail::new("other letters"));
     }
-    Ok(included(alloc, &nondeterministic, b)?)
+    Ok(included(alloc, a, b)?)
 }
 
 #[test]
