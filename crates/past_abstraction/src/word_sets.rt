@@ -24,17 +24,50 @@ const SINGLE_PART: usize = 4;
 pub fn classes_by_words(alloc: Global, a: &Dfa, bound: u64) -> Result<Vec<usize>, AllocError>
     ensures { IfOk result (λ classes. AreClasses (is_related (up_to bound) a.now) (length a.now.states) classes.items) }
 {
-    let none = vec![in alloc; 0; a.states()]?;
-    let mut blocks = Partition::new(alloc, &none)?;
+    let mut blocks = one_block(alloc, a)?;
     let mut sets = IndexSet::new(alloc);
     add_set(a, &mut sets, &mut blocks, all_states(alloc, a.states())?)?;
+    classes_from(alloc, a, bound, &mut sets, &mut blocks)
+}
+
+/// The same, where the set of the word without letters is there.
+fn classes_from(
+    alloc: Global,
+    a: &Dfa,
+    bound: u64,
+    sets: &mut IndexSet<StateSet>,
+    blocks: &mut Partition,
+) -> Result<Vec<usize>, AllocError>
+    requires before { AreBlocksOf a.now sets.old.keys blocks.old }
+    requires words { AreWordSets a.now 0 0 sets.old.keys }
+    ensures { IfOk result (λ classes. AreClasses (is_related (up_to bound) a.now) (length a.now.states) classes.items) }
+{
     let mut lists = empty_lists(alloc, a.letters())?;
     let mut marks = no_marks(alloc, a)?;
+    classes_by_rounds(alloc, a, bound, &mut lists, &mut marks, sets, blocks)
+}
+
+/// The same, in a round for each letter. The lists, one for each letter, are empty, and there is no mark.
+fn classes_by_rounds(
+    alloc: Global,
+    a: &Dfa,
+    bound: u64,
+    lists: &mut Vec<Vec<usize>>,
+    marks: &mut BitSet,
+    sets: &mut IndexSet<StateSet>,
+    blocks: &mut Partition,
+) -> Result<Vec<usize>, AllocError>
+    requires lists { HasEmptyLists a.now.letters lists.old.items }
+    requires marks { HasNoMarks (length a.now.states) marks.old }
+    requires before { AreBlocksOf a.now sets.old.keys blocks.old }
+    requires words { AreWordSets a.now 0 0 sets.old.keys }
+    ensures { IfOk result (λ classes. AreClasses (is_related (up_to bound) a.now) (length a.now.states) classes.items) }
+{
     let mut first = 0;
     'rounds: for _ in 0..bound {
         let end = sets.len();
         if first == end {
-            return Ok(blocks.classes(alloc)?);
+            return blocks.classes(alloc);
         }
         if are_many(a, first, end) {
             let classes = blocks.classes(alloc)?;
@@ -42,18 +75,19 @@ pub fn classes_by_words(alloc: Global, a: &Dfa, bound: u64) -> Result<Vec<usize>
                 return Ok(classes);
             }
         }
-        add_images_from(
-            alloc,
-            a,
-            &mut lists,
-            &mut marks,
-            &mut sets,
-            &mut blocks,
-            first,
-        )?;
+        add_images_from(alloc, a, lists, marks, sets, blocks, first)?;
         first = end;
     }
     blocks.classes(alloc)
+}
+
+/// One block of all states.
+fn one_block(alloc: Global, a: &Dfa) -> Result<Partition, AllocError>
+    ensures { IfOk result (AreBlocksOf a.now []) }
+{
+    let none = vec![in alloc; 0; a.states()]?;
+    let blocks = Partition::new(alloc, &none)?;
+    Ok(blocks)
 }
 
 /// Whether the sets from the first one on and before the end cost more than to number the classes, which tells whether each state is

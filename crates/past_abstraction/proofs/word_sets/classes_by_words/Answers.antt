@@ -1,73 +1,18 @@
-use Rattle.std.proofs.Common.{rules, ◌≡◌, ◌<◌, ◌↔◌, ◌+◌, ℕ, Contains, length, slice_index, sym, subst, arith}
-use Rattle.std.proofs.lemmas.Result.{IfOk-weaker}
+use Rattle.std.proofs.Common.{◌<◌, ◌↔◌, ℕ, Contains, length, subst}
 use Rattle.word_automata.proofs.ForCallers.{All-from_contains}
-use Rattle.abstraction.specs.Bounds.{up_to}
-use Rattle.abstraction.specs.Merging.{AreClasses}
-use Rattle.abstraction.specs.Partitions.{IsNumbering}
-use Rattle.past_abstraction.specs.Pasts.{is_related}
-use Rattle.past_abstraction.specs.private.WordSets.{AddsSet, AreWordSets}
-use Rattle.past_abstraction.proofs.Classes.{classes_by_sets, classes_alone}
-use Rattle.past_abstraction.proofs.Rounds.{first_sets, next_sets, all_sets}
+use Rattle.past_abstraction.specs.private.WordSets.{AddsSet}
+use Rattle.past_abstraction.proofs.Rounds.{first_sets}
 use Rattle.past_abstraction.proofs.word_sets.classes_by_words.Goals as goal
 
 pub add_set-requires-clause-states : goal.add_set-requires-clause-states
 add_set-requires-clause-states c =
     let set = c.in_ok-all_states.field-0 in
-    let all = subst (λ n. (p : ℕ) → Contains set p ↔ (p < n)) c.states-2.ensures.count c.in_ok-all_states.ensures in
+    let all = subst (λ n. (p : ℕ) → Contains set p ↔ (p < n)) c.states.ensures.count c.in_ok-all_states.ensures in
     All-from_contains (λ p. p < length c.args.a.now.states) set (λ p there. (all p).0 there)
 
-pub rounds-init : goal.rounds-init
-rounds-init c =
+pub classes_from-requires-clause-words : goal.classes_from-requires-clause-words
+classes_from-requires-clause-words c =
     let set = c.in_ok-all_states.field-0 in
     let sets = c.add_set.new.sets.keys in
-    let all = subst (λ n. (p : ℕ) → Contains set p ↔ (p < n)) c.states-2.ensures.count c.in_ok-all_states.ensures in
-    record {
-      lists = search rules;
-      marks = c.in_ok-marks.ensures;
-      blocks = c.in_ok-add_set.ensures.blocks;
-      words = first_sets c.args.a.now set sets all (subst (λ old. AddsSet set old sets) c.new-sets.ensures.empty c.in_ok-add_set.ensures.set);
-    }
-
-pub returns-then-first-end : goal.returns-then-first-end
-returns-then-first-end c =
-    let a = c.args.a.now in
-    let sets = c.rounds.sets.keys in
-    let bound = c.args.bound in
-    let before = c.rounds.invariant in
-    let none_new : c.rounds.first ≡ length sets = (let l = c.len-end.ensures.len in let e = c.if-first-end.true in omega arith) in
-    let all = all_sets a c.rounds.counter sets (subst (λ f. AreWordSets a c.rounds.counter f sets) none_new before.words) bound (omega arith) in
-    classes_by_sets a sets c.rounds.blocks c.in_ok-classes.field-0.items bound bound (length sets) before.blocks c.in_ok-classes.ensures all (omega arith) (omega arith)
-
-pub returns-then-are_single : goal.returns-then-are_single
-returns-then-are_single c =
-    let before = c.rounds.invariant in
-    classes_alone c.args.a.now c.rounds.sets.keys c.rounds.blocks c.in_ok-classes-2.classes.items c.args.bound c.rounds.counter c.rounds.first before.blocks c.in_ok-classes-2.ensures before.words
-    (omega arith)
-    (subst (λ xs. (p : ℕ) → p < length xs → slice_index xs p ≡ p) c.deref-then-are_many.ensures.value (c.are_single.ensures c.if-are_single.true))
-
-pub rounds-preserved : goal.rounds-preserved
-rounds-preserved c =
-    let a = c.args.a.now in
-    let old = c.rounds.sets.keys in
-    let new = c.add_images_from.new.sets.keys in
-    let before = c.rounds.invariant in
-    record {
-      lists = c.in_ok-add_images_from.ensures.lists;
-      marks = c.in_ok-add_images_from.ensures.marks;
-      blocks = c.in_ok-add_images_from.ensures.blocks;
-      words = subst (λ n. AreWordSets a (c.rounds.counter + 1) n new) (sym c.len-end.ensures.len)
-          (next_sets a c.rounds.counter c.rounds.first old new c.in_ok-add_images_from.ensures.images before.words);
-    }
-
-pub returns : goal.returns
-returns c =
-    let a = c.args.a.now in
-    let sets = c.rounds.sets.keys in
-    let blocks = c.rounds.blocks in
-    let bound = c.args.bound in
-    let before = c.rounds.invariant in
-    let end : c.rounds.counter ≡ bound = omega arith in
-    IfOk-weaker c.classes-2.result (λ classes. IsNumbering blocks classes.items) (λ classes. AreClasses (is_related (up_to bound) a) (length a.states) classes.items)
-    (λ classes numbering. classes_by_sets a sets blocks classes.items bound bound c.rounds.first before.blocks numbering
-    (subst (λ k. AreWordSets a k c.rounds.first sets) end before.words) (omega arith) (omega arith))
-    c.classes-2.ensures
+    let all = subst (λ n. (p : ℕ) → Contains set p ↔ (p < n)) c.states.ensures.count c.in_ok-all_states.ensures in
+    first_sets c.args.a.now set sets all (subst (λ old. AddsSet set old sets) c.new-sets.ensures.empty c.in_ok-add_set.ensures.set)

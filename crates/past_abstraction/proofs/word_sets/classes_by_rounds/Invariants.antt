@@ -1,6 +1,6 @@
 use Rattle.std.proofs.Common.{length}
 use Rattle.past_abstraction.specs.private.WordSets.{HasEmptyLists, HasNoMarks, AreBlocksOf, AreWordSets}
-use Rattle.past_abstraction.proofs.word_sets.classes_by_words.Given as goal
+use Rattle.past_abstraction.proofs.word_sets.classes_by_rounds.Given as goal
 
 abbrev pub invariant-rounds : goal.invariant-rounds
 invariant-rounds l = record {
