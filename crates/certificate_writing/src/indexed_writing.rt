@@ -7,8 +7,9 @@ ghost use Rattle.std.specs.List.{range_with_len};
 ghost use Rattle.protocol_model.specs.Words.{automata_letters};
 ghost use Rattle.certificate.specs.SafeText.{letter_line, MeansAutomaton};
 ghost use Rattle.certificate.specs.LineLayout.{letters_text, states_line};
-ghost use Rattle.certificate_writing.specs.IndexedWriting.{indexed_text};
-ghost use Rattle.certificate_writing.specs.private.IndexedWritingParts.{AreByTarget, before_index, line_start, sorted_text, text_from};
+ghost use Rattle.certificate_writing.specs.IndexedWriting.{indexed_text, used_letters};
+ghost use Rattle.certificate_writing.specs.private.IndexedWritingParts.{AreByTarget, AreIndicesOf, before_index, line_start, sorted_text};
+ghost use Rattle.certificate_writing.specs.private.IndexedWritingParts.{text_from};
 
 use crate::letter_table::{indices_of, used_letters};
 use crate::writing::{push_final_states, push_number};
@@ -37,14 +38,37 @@ fn indexed_text(alloc: Global, system: &System, proof: &Dfa) -> Result<Vec<u8>, 
     ensures { IfOk result (λ text. text.items ≡ indexed_text system.now proof.now) }
 {
     let alphabet = Alphabet::new(alloc, system)?;
-    let count = proof.states();
+    let _states = proof.states();
     let letters = used_letters(alloc, proof)?;
     let indices = indices_of(alloc, letters.as_slice(), proof.letters())?;
+    text_by_table(
+        alloc,
+        &alphabet,
+        letters.as_slice(),
+        indices.as_slice(),
+        proof,
+    )
+}
+
+/// The text of version 2 of this automaton, whose edges are labelled by these letters, with these indices.
+fn text_by_table(
+    alloc: Global,
+    alphabet: &Alphabet,
+    letters: &[u32],
+    indices: &[usize],
+    proof: &Dfa,
+) -> Result<Vec<u8>, AllocError>
+    requires alphabet { proof.now.letters ≡ automata_letters alphabet.now }
+    requires letters { letters.now ≡ used_letters proof.now }
+    requires indices { AreIndicesOf letters.now proof.now.letters indices.now }
+    ensures { IfOk result (λ text. text.items ≡ indexed_text alphabet.now proof.now) }
+{
+    let count = proof.states();
     let mut text = Vec::from_slice(alloc, b"armc 2 safe\n")?;
-    push_letters(&mut text, &alphabet, letters.as_slice())?;
+    push_letters(&mut text, alphabet, letters)?;
     push_states_line(&mut text, count)?;
     push_final_states(&mut text, proof)?;
-    push_edges(alloc, &mut text, indices.as_slice(), proof)?;
+    push_edges(alloc, &mut text, indices, proof)?;
     text.extend_from_slice(b"end\n")?;
     Ok(text)
 }

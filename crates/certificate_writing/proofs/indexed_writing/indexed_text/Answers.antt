@@ -1,12 +1,8 @@
-use Rattle.std.proofs.Common.{◌≡◌, ◌≢◌, ◌<◌, [], ◌∷◌, ◌++◌, All, AllPairs, length, codes, flat_map, subst, sym, ap, ◌∙◌}
-use Rattle.std.specs.List.{range_with_len}
+use Rattle.std.proofs.Common.{◌≡◌, ◌≢◌, ◌<◌, All, AllPairs, IfOk, subst, sym, ap, ◌∙◌}
+use Rattle.protocol_model.specs.System.{SystemData}
 use Rattle.protocol_model.specs.Words.{automata_letters}
-use Rattle.certificate.specs.LineLayout.{letters_text, states_line}
-use Rattle.certificate_writing.specs.Writing.{final_states}
-use Rattle.certificate_writing.specs.private.WritingParts.{final_text}
-use Rattle.certificate_writing.specs.IndexedWriting.{used_letters}
-use Rattle.certificate_writing.specs.private.IndexedWritingParts.{AreIndicesOf, text_from}
-use Rattle.certificate_writing.proofs.IndexedLineLemmas.{indexed_text-is}
+use Rattle.certificate_writing.specs.IndexedWriting.{indexed_text, used_letters}
+use Rattle.certificate_writing.specs.private.IndexedWritingParts.{AreIndicesOf}
 use Rattle.certificate_writing.proofs.IndexedMeaningLemmas.{used_in_range, used_distinct}
 use Rattle.certificate_writing.proofs.indexed_writing.indexed_text.Goals as goal
 
@@ -14,43 +10,30 @@ pub indices_of-requires-clause-in_range : goal.indices_of-requires-clause-in_ran
 indices_of-requires-clause-in_range c =
     let m = c.args.proof.now in
     subst (λ count. All (λ a. a < count) c.as_slice.result.now) (sym c.letters.ensures)
-    (subst (All (λ a. a < m.letters)) (sym (c.as_slice.ensures.value ∙ c.in_ok-letters.ensures)) (used_in_range m c.states-count.ensures.valid))
+    (subst (All (λ a. a < m.letters)) (sym (c.as_slice.ensures.value ∙ c.in_ok-letters.ensures)) (used_in_range m c.states-states.ensures.valid))
 
 pub indices_of-requires-clause-distinct : goal.indices_of-requires-clause-distinct
 indices_of-requires-clause-distinct c =
-    subst (AllPairs ◌≢◌) (sym (c.as_slice.ensures.value ∙ c.in_ok-letters.ensures)) (used_distinct c.args.proof.now c.states-count.ensures.valid)
+    subst (AllPairs ◌≢◌) (sym (c.as_slice.ensures.value ∙ c.in_ok-letters.ensures)) (used_distinct c.args.proof.now c.states-states.ensures.valid)
 
-pub push_letters-requires : goal.push_letters-requires
-push_letters-requires c =
-    let m = c.args.proof.now in
-    let size : m.letters ≡ automata_letters c.in_ok-alphabet.alphabet = c.requires ∙ ap automata_letters (sym c.in_ok-alphabet.ensures.same) in
-    subst (λ count. All (λ a. a < count) c.as_slice-2.result.now) size
-    (subst (All (λ a. a < m.letters)) (sym (c.as_slice-2.ensures.value ∙ c.in_ok-letters.ensures)) (used_in_range m c.states-count.ensures.valid))
+pub text_by_table-requires-clause-alphabet : goal.text_by_table-requires-clause-alphabet
+text_by_table-requires-clause-alphabet c = c.requires ∙ ap automata_letters (sym c.in_ok-alphabet.ensures.same)
+
+pub text_by_table-requires-clause-letters : goal.text_by_table-requires-clause-letters
+text_by_table-requires-clause-letters c = c.as_slice-2.ensures.value ∙ c.in_ok-letters.ensures
+
+pub text_by_table-requires-clause-indices : goal.text_by_table-requires-clause-indices
+text_by_table-requires-clause-indices c =
+    let used = used_letters c.args.proof.now in
+    let letters = c.as_slice-2.result.now in
+    let indices = c.in_ok-indices.indices.items in
+    let known : AreIndicesOf used c.letters.result indices =
+    subst (λ found. AreIndicesOf found c.letters.result indices) (c.as_slice.ensures.value ∙ c.in_ok-letters.ensures) c.in_ok-indices.ensures in
+    subst (λ shown. AreIndicesOf letters c.args.proof.now.letters shown) (sym c.as_slice-3.ensures.value)
+    (subst (λ found. AreIndicesOf found c.args.proof.now.letters indices) (sym (c.as_slice-2.ensures.value ∙ c.in_ok-letters.ensures))
+    (subst (λ count. AreIndicesOf used count indices) c.letters.ensures known))
 
 pub returns : goal.returns
 returns c =
-    let s = c.args.system.now in
-    let m = c.args.proof.now in
-    let used = used_letters m in
-    let indices = c.in_ok-indices.indices.items in
-    let states = range_with_len 0 (length m.states) in
-    let known : AreIndicesOf used m.letters indices =
-    subst (λ count. AreIndicesOf used count indices) c.letters.ensures
-    (subst (λ letters. AreIndicesOf letters c.letters.result indices) (c.as_slice.ensures.value ∙ c.in_ok-letters.ensures) c.in_ok-indices.ensures) in
-    let named =
-    c.in_ok-push_letters.ensures
-    ∙ ap (λ t. c.in_ok-text.text.items ++ letters_text t c.as_slice-2.result.now) c.in_ok-alphabet.ensures.same
-    ∙ ap (λ letters. c.in_ok-text.text.items ++ letters_text s letters) (c.as_slice-2.ensures.value ∙ c.in_ok-letters.ensures)
-    ∙ ap (λ text. text ++ letters_text s used) c.in_ok-text.ensures.items in
-    let opened =
-    c.in_ok-push_states_line.ensures
-    ∙ ap (λ count. c.push_letters.new.text.items ++ (states_line count ++ 10 ∷ [])) c.states-count.ensures.count
-    ∙ ap (λ text. text ++ (states_line (length m.states) ++ 10 ∷ [])) named in
-    let finals = c.in_ok-push_final_states.ensures ∙ ap (λ text. text ++ flat_map final_text (final_states 0 m.states)) opened in
-    let edges =
-    c.in_ok-push_edges.ensures
-    ∙ ap (λ items. c.push_final_states.new.text.items ++ flat_map (text_from items m) states) c.as_slice-3.ensures.value
-    ∙ ap (λ text. text ++ flat_map (text_from indices m) states) finals in
-    c.in_ok-extend_from_slice.ensures.items
-    ∙ ap (λ text. text ++ (codes "end" ++ 10 ∷ [])) edges
-    ∙ indexed_text-is s m c.states-count.ensures.valid indices known
+    subst (λ (s : SystemData). IfOk c.text_by_table.result (λ text. text.items ≡ indexed_text s c.args.proof.now))
+    c.in_ok-alphabet.ensures.same c.text_by_table.ensures
