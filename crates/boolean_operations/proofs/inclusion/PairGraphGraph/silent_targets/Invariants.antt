@@ -6,4 +6,6 @@ use Rattle.boolean_operations.proofs.inclusion.PairGraphGraph.silent_targets.Giv
 
 abbrev pub invariant-edges : goal.invariant-edges
 invariant-edges g l =
-    Gathers (IsPair (g.A.FiniteAutomaton.automaton l.self.left.now) l.self.right.now) (IsSilentAmong l.self.dead.now l.right (edges_of (g.A.FiniteAutomaton.automaton l.self.left.now).states l.left) l.edge-index) [] l.targets.items
+    Gathers (IsPair (g.A.FiniteAutomaton.automaton l.self.left.now) l.self.right.now)
+    (IsSilentAmong l.self.dead.now l.right (edges_of (g.A.FiniteAutomaton.automaton l.self.left.now).states l.left) l.edge-index)
+    [] l.targets.items
