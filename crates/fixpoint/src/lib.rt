@@ -6,8 +6,10 @@
 mod index;
 mod known;
 mod laws;
+mod outcome;
 mod rounds;
 
 pub use known::no_round;
 pub use laws::rounds_are_bounded;
+pub use outcome::RoundOutcome;
 pub use rounds::round;

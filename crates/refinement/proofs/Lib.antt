@@ -1,5 +1,4 @@
 pub mod ForCallers
-pub mod LastLemmas
 pub mod RoundLemmas
 pub mod DecisionLemmas
 pub mod Uniqueness

@@ -1,3 +1,4 @@
 pub mod Levels
+pub mod Meetings
 pub mod Results
 pub mod Runs
