@@ -21,6 +21,16 @@ use Rattle.certificate_checker.specs.private.Parts.{AcceptsConfigurations, IsAcc
 use Rattle.configuration_words.proofs.ForCallers.{word_of-injective}
 use Rattle.certificate_checker.proofs.Least.{least-same, chosen-configurations, chosen-to, chosen-from, chosen-none}
 
+-- the words that the transducer relates to a word are those of the preimage of the automaton of this word alone
+pub relates-to : (t : Transducer) (word : List ℕ) (last sources : Automaton) (n : NondeterministicAutomaton)
+    → ((w : List ℕ) → IsTrue (accepts last w) ↔ (w ≡ word)) → ((w : List ℕ) → Accepts n w ↔ IsPreimage t last w)
+    → ((w : List ℕ) → IsTrue (accepts sources w) ↔ Accepts n w)
+    → (w : List ℕ) → IsTrue (accepts sources w) ↔ Relates t w word
+relates-to t word last sources n is_last preimage same w = (
+  λ h. let found = (preimage w).0 ((same w).0 h) in subst (λ x. Relates t w x) ((is_last found.0).0 found.1) found.2,
+  λ h. (same w).1 ((preimage w).1 (word, (is_last word).1 refl, h)),
+)
+
 module _ (s : SystemData) (m : Automaton) where
   module _ (initial missing : Automaton) (words : (w : List ℕ) → IsTrue (accepts initial w) ↔ IsInitialWord s w)
       (differs : (w : List ℕ) → accepts missing w ≡ (accepts initial w && not (accepts m w))) where
@@ -96,20 +106,16 @@ module _ (s : SystemData) (m : Automaton) where
           )
 
     -- the accepted words from which the rule leads to a word
-    module _ (word : List ℕ) (last subsets accepted : Automaton) (n : NondeterministicAutomaton)
-        (is_last : (w : List ℕ) → IsTrue (accepts last w) ↔ (w ≡ word)) (preimage : (w : List ℕ) → Accepts n w ↔ IsPreimage t last w)
-        (same : (w : List ℕ) → IsTrue (accepts subsets w) ↔ Accepts n w)
-        (meets : (w : List ℕ) → accepts accepted w ≡ (accepts subsets w && accepts m w)) where
+    module _ (word : List ℕ) (sources accepted : Automaton) (leads : (w : List ℕ) → IsTrue (accepts sources w) ↔ Relates t w word)
+        (meets : (w : List ℕ) → accepts accepted w ≡ (accepts sources w && accepts m w)) where
       step-of : (w : List ℕ) → IsTrue (accepts accepted w) → IsTrue (accepts m w) × IsRuleStep s r w word
       step-of w h =
-          let parts = and_parts (accepts subsets w) (accepts m w) (sym (meets w) ∙ h) in
-          let found = (preimage w).0 ((same w).0 parts.0) in
-          (parts.1, subst (λ (x : List ℕ). IsRuleStep s r w x) ((is_last found.0).0 found.1) ((compiled w found.0).0 found.2))
+          let parts = and_parts (accepts sources w) (accepts m w) (sym (meets w) ∙ h) in
+          (parts.1, (compiled w word).0 ((leads w).0 parts.0))
 
       of-step : (w : List ℕ) → IsTrue (accepts m w) → IsRuleStep s r w word → IsTrue (accepts accepted w)
       of-step w h step =
-          meets w ∙ and_from (accepts subsets w) (accepts m w)
-          ((same w).1 ((preimage w).1 (word, (is_last word).1 refl, (compiled w word).1 step))) h
+          meets w ∙ and_from (accepts sources w) (accepts m w) ((leads w).1 ((compiled w word).1 step)) h
 
       pub before-configurations : AcceptsConfigurations s accepted
       before-configurations w h =

@@ -3,7 +3,8 @@
 //! shown. The automaton is made canonical first. Each rule is compiled, judged and dropped before the next. A run is checked step by step,
 //! in one pass and without memory.
 
-ghost use Rattle.std.specs.Prelude.{◌≡◌, ◌↔◌, ◌<◌, ℕ, List, All, IfOk, IsOk, MatchOption, length};
+ghost use Rattle.std.specs.Prelude.{◌≡◌, ◌↔◌, ◌<◌, ℕ, List, All, IfOk, IsOk, IsTrue, MatchOption, length};
+ghost use Rattle.word_automata.specs.Automaton.{accepts};
 ghost use Rattle.transducers.specs.Transducer.{Relates};
 ghost use Rattle.protocol_model.specs.Words.{automata_letters};
 ghost use Rattle.step_compiler.specs.Rules.{IsRuleStep};
@@ -74,7 +75,7 @@ fn judge_language(alloc: Global, system: &System, automaton: &Dfa) -> Result<Ans
     ensures { IfOk result (IsAutomatonAnswer system.now automaton.now) }
 {
     let canon = canonical(alloc, automaton)?;
-    Ok(judge_automaton(alloc, system, canon.as_dfa())?)
+    judge_automaton(alloc, system, canon.as_dfa())
 }
 
 /// Judges an automaton: the parts of a proof in their order.
@@ -129,7 +130,7 @@ fn least_missing(
 {
     let initial = initial_words(alloc, system)?;
     let missing = difference(alloc, initial.as_dfa(), automaton)?;
-    Ok(least_configuration(alloc, system, &missing)?)
+    least_configuration(alloc, system, &missing)
 }
 
 /// The least bad configuration that the automaton accepts.
@@ -144,7 +145,7 @@ fn least_held(
 {
     let bad = bad_words(alloc, system)?;
     let held = intersect(alloc, bad.as_dfa(), automaton)?;
-    Ok(least_configuration(alloc, system, &held)?)
+    least_configuration(alloc, system, &held)
 }
 
 /// The least rule that leads from an accepted configuration to a refused one, with the least such configurations. One rule is
@@ -218,9 +219,24 @@ fn least_before(
         (IsLeastConfiguration system.now (IsBefore system.now automaton.now rule word.now))) }
 {
     let _rule = rule;
-    let last = single_word(alloc, automaton.letters(), word)?;
-    let sources = preimage_automaton(alloc, step, &last)?;
-    let sources = determinise(alloc, &sources)?;
+    let sources = words_before(alloc, automaton.letters(), step, word)?;
     let accepted = intersect(alloc, &sources, automaton)?;
-    Ok(least_configuration(alloc, system, &accepted)?)
+    least_configuration(alloc, system, &accepted)
+}
+
+/// The words that the transducer relates to the word.
+fn words_before(
+    alloc: Global,
+    letters: u32,
+    step: &Transducer,
+    word: &[u32],
+) -> Result<Dfa, AllocError>
+    requires step { step.now.letters ≡ letters }
+    requires in_range { All (λ a. a < letters) word.now }
+    ensures language { IfOk result (λ sources. (w : List ℕ) → IsTrue (accepts sources w) ↔ Relates step.now w word.now) }
+    ensures letters { IfOk result (λ sources. sources.letters ≡ letters) }
+{
+    let last = single_word(alloc, letters, word)?;
+    let sources = preimage_automaton(alloc, step, &last)?;
+    determinise(alloc, &sources)
 }
