@@ -66,7 +66,7 @@ impl<'a, A: FiniteAutomaton> Graph for CommonGraph<'a, A> {
     ghost equality = { same_left_pairs };
 }
 
-/// The least word that both accept, or `None` where there is none. Both have the same letters.
+/// The least word that both accept, or `None` where there is none. Both have the same letters. `AllocError` where memory runs out.
 pub fn least_common_word<A: FiniteAutomaton>(
     alloc: Global,
     a: &A,

@@ -9,7 +9,8 @@ use word_automata::{Dfa, Nfa};
 
 /// A finite automaton, deterministic or not.
 ///
-/// Contracts see it as a nondeterministic automaton, and each edge, as it is kept, as one that has a letter or none.
+/// Contracts see it as a nondeterministic `automaton`, and an edge as it is kept as its `move_of`: its letter, if it has one, and the
+/// state that it leads to.
 pub trait FiniteAutomaton {
     type Edge: Copy + Drop;
 

@@ -107,7 +107,7 @@ impl<'a, A: FiniteAutomaton> Graph for PairGraph<'a, A> {
 }
 
 /// `None` where `b` accepts every word that `a` accepts, and else the least word that `a` accepts and `b` refuses. Both have the
-/// same letters.
+/// same letters. `AllocError` where memory runs out.
 pub fn included<A: FiniteAutomaton>(
     alloc: Global,
     a: &A,

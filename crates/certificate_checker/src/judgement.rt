@@ -224,7 +224,7 @@ fn least_before(
     least_configuration(alloc, system, &accepted)
 }
 
-/// The words that the transducer relates to the word.
+/// The automaton of the words that the transducer relates to the word.
 fn words_before(
     alloc: Global,
     letters: u32,

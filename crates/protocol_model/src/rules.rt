@@ -119,7 +119,7 @@ fn resolve_rule(alloc: Global, sections: &Sections, rule: &RuleText) -> Result<R
     Ok(Rule { name, moves })
 }
 
-/// A rule whose name is added to those of the rules before it, or stands among them.
+/// The rule, whose name is added to those of the rules before it; or its first fault, which is at its name where one of these has it.
 fn resolve_next_rule<'a>(
     alloc: Global,
     sections: &Sections,
