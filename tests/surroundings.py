@@ -128,7 +128,8 @@ def launcher():
             with open(tree.out(name, "statements", f"{name}.rlib", "words")) as file:
                 words = file.read()
             wrong += [] if f" --jobs {jobs} --statements -o " in words else [f"words for {name}: {words}"]
-        wrong += differences(tree.call("x"), {"status": 3, "stdout": "words: x\n", "stderr": "", "asked": []})
+        for proved in ({}, {"ARMC_TRY": "0"}):
+            wrong += differences(tree.call("x", **proved), {"status": 3, "stdout": "words: x\n", "stderr": "", "asked": []})
         return wrong + launcher_faults(tree)
 
 

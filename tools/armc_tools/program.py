@@ -57,7 +57,7 @@ class Program:
         self.commands = {each.split()[0]: each for each in found[1].split("; ")}
         # The launcher has built the program by now, and a call of the program itself is quicker.
         built = os.path.join(here, "crates", "armc", "out", "armc")
-        if here and os.access(built, os.X_OK) and not os.environ.get("ARMC_TRY"):
+        if here and os.access(built, os.X_OK) and os.environ.get("ARMC_TRY", "") in ("", "0"):
             self.path = built
 
     def has(self, command, option=""):
