@@ -7,11 +7,11 @@
 
 ghost use Rattle.std.specs.Prelude.{◌≡◌, IfOk, length, if◌then◌else◌};
 ghost use Rattle.word_automata.specs.Automaton.{IsValid};
-ghost use Rattle.minimise.specs.private.Rounds.{AreToldApart, outgoing_in, hash_of, is_lone, AreHashes};
+ghost use Rattle.class_counter.specs.LoneTable.{is_lone};
+ghost use Rattle.minimise.specs.private.Rounds.{AreToldApart, outgoing_in, hash_of, AreHashes};
 
-use crate::growth::Growth;
-use crate::lone_classes::LoneClasses;
 use crate::rows::{Row, rows};
+use class_counter::{Growth, LoneClasses};
 use std::alloc::{AllocError, Global};
 use word_automata::Dfa;
 
@@ -53,7 +53,7 @@ fn hash_all(
     requires classes { length classes.now ≡ length rows.now }
     requires finer { length finer.old.items ≡ length rows.now }
     requires kept { length kept.old.items ≡ length rows.now }
-    ensures hashes { AreHashes (is_lone lone.now.table.items lone.now.mask) rows.now classes.now finer.new.items }
+    ensures hashes { AreHashes (is_lone lone.now) rows.now classes.now finer.new.items }
     ensures kept { length kept.new.items ≡ length rows.now }
 {
     'states: for state in 0..rows.len() {

@@ -1,5 +1,5 @@
 -- Rounds of refinement by hashes of signatures, and classes that are stable.
-use Rattle.std.specs.Prelude.{◌≡◌, ◌==◌, ◌+◌, ◌*◌, ◌%◌, ◌/◌, ◌^◌, ℕ, suc, Bool, false, List, None, Some, length, slice_index, slice_get, bit_and, if◌then◌else◌}
+use Rattle.std.specs.Prelude.{◌≡◌, ◌+◌, ◌*◌, ◌%◌, ◌/◌, ◌^◌, ℕ, suc, Bool, List, Some, length, slice_index, slice_get, if◌then◌else◌}
 use Rattle.std.specs.List.{filter_map, fold}
 use Rattle.word_automata.specs.Path.{Node, edges_of, is_accepting}
 use Rattle.word_automata.specs.Automaton.{Automaton, accepts_from}
@@ -43,10 +43,6 @@ mixed_in_edge value edge = mixed_in value (edge_number edge)
 -- the hash of a signature without its class, of which that of no word is 0
 abbrev pub hash_of : Signature → ℕ
 hash_of s = fold mixed_in_edge (if s.accepting then 1 else 0) s.edges
-
--- the class stands at its place in the table
-abbrev pub is_lone : List ℕ → ℕ → ℕ → Bool
-is_lone table mask class = elim (slice_get table (bit_and (class / 65536) mask)) [ None ↦ false | Some held ↦ held == class ]
 
 -- each state's class in the finer list is its class in the coarser where that is to be kept, and else the hash of its signature by the
 -- coarser

@@ -1,7 +1,7 @@
 //! Whether rounds still find new classes: how many there are is counted, up to a few thousand states exactly, and beyond about. It ends
 //! rounds alone: no contract rests on it. A call takes time linear in the states, as the table does memory.
 
-use crate::class_counter::ClassCounter;
+use crate::counter::ClassCounter;
 use crate::lone_classes::LoneClasses;
 use std::alloc::{AllocError, Global};
 

@@ -3,7 +3,7 @@
 //! places they fall. What is in the tables bears the number of its round, so that nothing is cleared. A count takes time linear in the
 //! states. Nothing is promised of it.
 
-use crate::lone_classes::LoneClasses;
+use crate::lone_classes::{LoneClasses, place_of};
 use std::alloc::{AllocError, Global};
 
 /// Classes of so many states, or fewer, are counted exactly.
@@ -14,7 +14,7 @@ const ROUNDS: usize = 64;
 
 /// A table of slots, or else one of places, the classes of one state, and the number of the last round.
 #[derive(Drop)]
-pub struct ClassCounter {
+pub(crate) struct ClassCounter {
     slots: Vec<usize>,
     places: Vec<u8>,
     lone: LoneClasses,
@@ -23,7 +23,7 @@ pub struct ClassCounter {
 
 impl ClassCounter {
     /// Nothing has been counted. There are at least two slots, or four places, for each state.
-    pub fn new(alloc: Global, states: usize) -> Result<ClassCounter, AllocError> {
+    pub(crate) fn new(alloc: Global, states: usize) -> Result<ClassCounter, AllocError> {
         let is_exact = states <= MOST_EXACT;
         let slots = if is_exact { size(states, 2) } else { 0 };
         let places = if is_exact { 0 } else { size(states, 4) };
@@ -36,17 +36,17 @@ impl ClassCounter {
     }
 
     /// Whether different classes are counted as such, but for those that agree in nearly all digits.
-    pub fn is_exact(&self) -> bool {
+    pub(crate) fn is_exact(&self) -> bool {
         self.places.is_empty()
     }
 
     /// The classes that are known to have one state.
-    pub fn lone(&self) -> &LoneClasses {
+    pub(crate) fn lone(&self) -> &LoneClasses {
         &self.lone
     }
 
     /// How many different classes but 0 there are, where the states that were kept have classes of their own.
-    pub fn count(&mut self, classes: &[usize], kept: &[bool]) -> usize {
+    pub(crate) fn count(&mut self, classes: &[usize], kept: &[bool]) -> usize {
         self.round = self.round.wrapping_add(1) % ROUNDS;
         if self.is_exact() {
             count_slots(&mut self.slots, &mut self.lone, classes, kept, self.round)
@@ -83,7 +83,7 @@ fn count_slots(
 /// Whether the class, marked by its round, is new and takes a slot.
 fn takes_slot(slots: &mut Vec<usize>, class: usize) -> bool {
     let mask = slots.len().wrapping_sub(1);
-    let mut place = (class / 65_536) & mask;
+    let mut place = place_of(class, mask);
     'slots: for _ in 0..slots.len() {
         let Some(slot) = slots.get_mut(place) else {
             return false;
@@ -105,7 +105,7 @@ fn count_places(places: &mut Vec<u8>, classes: &[usize], round: u8) -> usize {
     let mask = places.len().wrapping_sub(1);
     let mut count = 0usize;
     'classes: for class in classes {
-        if let Some(place) = places.get_mut((*class / 65_536) & mask) {
+        if let Some(place) = places.get_mut(place_of(*class, mask)) {
             if *place != round {
                 *place = round;
                 count = count.wrapping_add(1);
