@@ -26,32 +26,55 @@ impl Parts {
     /// Of the parts of each coarser class but 0 all wait but the largest one, and all but class 0 of those of class 0. Numbers are at
     /// most the number of states.
     pub fn new(alloc: Global, classes: &[usize], coarser: &[usize]) -> Result<Parts, AllocError> {
-        let count = classes.len().saturating_add(1);
-        let mut parts = Parts {
-            sizes: sizes(alloc, classes, count)?,
-            sources: vec![in alloc; 0usize; count]?,
-            targets: Vec::with_capacity(alloc, count)?,
-            waits: vec![in alloc; false; count]?,
+        let mut parts = Parts::without_room(alloc);
+        parts.make_room(alloc, classes)?;
+        parts.begin_all(alloc, coarser)?;
+        Ok(parts)
+    }
+
+    /// No class. It takes no memory.
+    fn without_room(alloc: Global) -> Parts {
+        Parts {
+            sizes: Vec::new(alloc),
+            sources: Vec::new(alloc),
+            targets: Vec::new(alloc),
+            waits: Vec::new(alloc),
             waiting: Vec::new(alloc),
             met: Vec::new(alloc),
             free: Vec::new(alloc),
-        };
-        let mut largest = vec![in alloc; 0usize; count]?;
-        'sizes: for class in 1..count {
-            parts.put_largest(
-                &mut largest,
-                number_at(coarser, class.wrapping_sub(1)),
-                class,
-            );
         }
-        'classes: for class in 0..count {
-            parts.targets.push(class)?;
+    }
+
+    /// Makes room for the classes, of which none waits and none has sources.
+    fn make_room(&mut self, alloc: Global, classes: &[usize]) -> Result<(), AllocError> {
+        let count = classes.len().saturating_add(1);
+        self.sizes = sizes(alloc, classes, count)?;
+        self.sources = vec![in alloc; 0usize; count]?;
+        self.targets = numbers_below(alloc, count)?;
+        self.waits = vec![in alloc; false; count]?;
+        Ok(())
+    }
+
+    /// Makes those of the classes wait that are to, where none does.
+    fn begin_all(&mut self, alloc: Global, coarser: &[usize]) -> Result<(), AllocError> {
+        let largest = self.largest_parts(alloc, coarser)?;
+        'classes: for class in 1..self.sizes.len() {
             let whole = number_at(coarser, class.wrapping_sub(1));
             if whole == 0 || number_at(&largest, whole) != class {
-                parts.begin(class)?;
+                self.begin(class)?;
             }
         }
-        Ok(parts)
+        Ok(())
+    }
+
+    /// For each coarser class the first of its largest parts.
+    fn largest_parts(&self, alloc: Global, coarser: &[usize]) -> Result<Vec<usize>, AllocError> {
+        let mut largest = vec![in alloc; 0usize; self.sizes.len()]?;
+        'classes: for class in 1..self.sizes.len() {
+            let whole = number_at(coarser, class.wrapping_sub(1));
+            self.put_largest(&mut largest, whole, class);
+        }
+        Ok(largest)
     }
 
     /// Notes the class, a part of the coarser one, where it is the largest so far.
@@ -65,9 +88,6 @@ impl Parts {
 
     /// The class waits where it has a state, and else its number is free.
     fn begin(&mut self, class: usize) -> Result<(), AllocError> {
-        if class == 0 {
-            return Ok(());
-        }
         if number_at(&self.sizes, class) == 0 {
             self.free.push(class)?;
             return Ok(());
@@ -184,6 +204,15 @@ fn put(numbers: &mut Vec<usize>, place: usize, number: usize) {
     if let Some(there) = numbers.get_mut(place) {
         *there = number;
     }
+}
+
+/// The numbers below the count, each at its place.
+fn numbers_below(alloc: Global, count: usize) -> Result<Vec<usize>, AllocError> {
+    let mut numbers = Vec::with_capacity(alloc, count)?;
+    'numbers: for number in 0..count {
+        numbers.push(number)?;
+    }
+    Ok(numbers)
 }
 
 /// How many states each class has.
