@@ -7,3 +7,4 @@ pub mod Bounds
 pub mod KeyBounds
 pub mod Exclusion
 pub mod RealRuns
+pub mod EndLemmas

@@ -7,7 +7,6 @@ use Rattle.safety_problem.specs.Task.{Task}
 use Rattle.abstraction.specs.Merging.{Key}
 use Rattle.search_history.specs.Replays.{IsInBoth, LeadsThrough, arrives, stays, steps, IsLeastRunThrough}
 use Rattle.search_history.specs.Histories.{RefinableAbstraction, SearchRound, log_of}
-use Rattle.search_history.specs.declared.log.LogEnd.TheVariants as log_end
 use Rattle.refinement.specs.declared.verdict.Verdict.{Verdict}
 use Rattle.refinement.specs.declared.verdict.Verdict.TheVariants.{Safe, Unsafe, Unknown}
 use Rattle.refinement.specs.Verdicts.{IsVerdict, IsVerdictOfRound, log_in}
