@@ -2,17 +2,12 @@
 use Rattle.std.proofs.Common.{◌≡◌, ◌<◌, ◌↔◌, ◌⊎◌, ℕ, Bool, true, false, not, List, [], ◌∷◌, ◌++◌, Option, None, Some, Contains, length, get_or, refl, sym, subst, ◌∙◌, inl, inr, arith, length-append}
 use Rattle.std.proofs.lemmas.Bool.{true≢false, cases_order}
 use Rattle.std.proofs.lemmas.List.{append-nil, get_or_push, get_or_append_left, get_or_past}
-use Rattle.std.proofs.lemmas.List.Elements.{All-contains}
 use Rattle.std.specs.Option.{is_some}
 use Rattle.word_automata.specs.Nondeterministic.{NondeterministicAutomaton}
 use Rattle.word_automata.specs.StateSets.{AreStates, IsClosure, AddsTargets}
-use Rattle.determinise.specs.private.Subsets.{IsPlain, ArePlainWhereFalse, IsSubsetFrom, LeadsTo}
-use Rattle.word_automata.proofs.ForCallers.{All-from_contains, Contains-cases, Contains-none}
-
--- members of a list of states are states
-pub AreStates-members : (n : NondeterministicAutomaton) (xs ys : List ℕ) → ((q : ℕ) → Contains ys q → Contains xs q) → AreStates n xs → AreStates n ys
-AreStates-members n xs ys from states =
-    All-from_contains (λ q. q < length n.states) ys (λ q there. All-contains (λ s. s < length n.states) xs q states (from q there))
+use Rattle.bit_subsets.specs.Subsets.{IsPlain}
+use Rattle.determinise.specs.private.Subsets.{ArePlainWhereFalse, IsSubsetFrom, LeadsTo}
+use Rattle.word_automata.proofs.ForCallers.{Contains-cases, Contains-none}
 
 -- lists with the same members have the same closures
 pub IsClosure-members : (n : NondeterministicAutomaton) (old other new more : List ℕ) → ((q : ℕ) → Contains old q ↔ Contains other q) → ((q : ℕ) → Contains new q ↔ Contains more q)

@@ -1,32 +1,20 @@
 -- The successors of a set of states, run by run of moves with one letter.
-use Rattle.std.proofs.Common.{◌≡◌, ◌+◌, ◌-◌, ◌<◌, ◌≤◌, ◌↔◌, ℕ, List, [], ◌∷◌, ◌++◌, Option, None, Some, Contains, All, IfSome, length, take, drop, get_or, map, sym, ap, subst, ◌∙◌, inl, inr, arith}
+use Rattle.std.proofs.Common.{◌≡◌, ◌+◌, ◌-◌, ◌<◌, ◌≤◌, ◌↔◌, ℕ, List, [], ◌∷◌, ◌++◌, None, Some, Contains, All, length, take, drop, get_or, map, sym, ap, subst, ◌∙◌, inl, inr, arith}
 use Rattle.std.proofs.lemmas.Bool.{cases_eq, cases_lt}
 use Rattle.std.proofs.lemmas.List.{get_or-take, get_or-drop, length-take, length-drop, get_or_default}
-use Rattle.std.proofs.lemmas.List.Elements.{All-nil, All-head, All-tail, All-push, All-contains, Contains-get_or}
+use Rattle.std.proofs.lemmas.List.Elements.{All-nil, All-push, Contains-get_or}
 use Rattle.word_automata.specs.Path.{edges_of}
-use Rattle.word_automata.specs.Nondeterministic.{NondeterministicAutomaton, AcceptsFromAny, IsInRange}
+use Rattle.word_automata.specs.Nondeterministic.{NondeterministicAutomaton, AcceptsFromAny}
 use Rattle.word_automata.specs.StateSets.{AreStates, IsStep}
-use Rattle.word_automata.proofs.ForCallers.{Contains-none, Contains-map, Contains-map_cases, All-from_contains, All-edges_of, step_accepts}
+use Rattle.word_automata.proofs.ForCallers.{Contains-none, Contains-map, Contains-map_cases, All-from_contains, step_accepts}
 use Rattle.word_automata.proofs.ForCallers.{closure_accepts, move_within}
 use Rattle.exploration.specs.DeterministicSystem.{look_up, HasIncreasingLetters}
 use Rattle.exploration.specs.Residuals.{AreResiduals}
 use Rattle.exploration.proofs.ForCallers.{look_up-above, look_up-below, look_up-push_same, look_up-push_other}
-use Rattle.determinise.specs.private.Subsets.{IsSubset, IsSubsetFrom, letter_of, AreOrderedMoves, IsRun}
+use Rattle.bit_subsets.specs.Subsets.{IsSubset}
+use Rattle.bit_subsets.proofs.ForCallers.{increasing-push, letter_within}
+use Rattle.determinise.specs.private.Subsets.{IsSubsetFrom, letter_of, AreOrderedMoves, IsRun}
 use Rattle.determinise.proofs.MoveLists.{moves_from-edge, edge-moves_from}
-
--- one more pair, with a greater letter
-pub increasing-push : {S : Type 0} (pairs : List (ℕ × S)) (pair : ℕ × S) → HasIncreasingLetters pairs → All (λ before. before.0 < pair.0) pairs → HasIncreasingLetters (pairs ++ pair ∷ [])
-increasing-push {S} [] pair h k = (All-nil (λ (later : ℕ × S). pair.0 < later.0), tt)
-increasing-push {S} (x ∷ pairs) pair h k = (
-  All-push (λ (later : ℕ × S). x.0 < later.0) pairs pair h.0 (All-head (λ (before : ℕ × S). before.0 < pair.0) x pairs k),
-  increasing-push pairs pair h.1 (All-tail (λ (before : ℕ × S). before.0 < pair.0) x pairs k),
-)
-
--- the letter of an edge is one of the automaton's
-pub letter_within : (n : NondeterministicAutomaton) → IsInRange n → (p a q : ℕ) → Contains (edges_of n.states p) (Some a, q) → a < n.letters
-letter_within n range p a q edge =
-    let within = All-edges_of (All (λ e. IfSome e.0 (λ a. a < n.letters))) n.states (All-nil (λ (e : Option ℕ × ℕ). IfSome e.0 (λ a. a < n.letters))) range.letters_in_range p in
-    All-contains (λ (e : Option ℕ × ℕ). IfSome e.0 (λ a. a < n.letters)) (edges_of n.states p) (Some a, q) within edge
 
 -- the moves of a run
 abbrev pub run_of : List (ℕ × ℕ) → ℕ → ℕ → List (ℕ × ℕ)

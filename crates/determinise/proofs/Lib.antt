@@ -1,8 +1,6 @@
-pub mod BitSuccessors
 pub mod Closures
 pub mod Digests
 pub mod ForCallers
 pub mod Grouping
-pub mod Members
 pub mod MoveLists
 pub mod Signatures

@@ -11,7 +11,8 @@ use Rattle.exploration.specs.DeterministicSystem.{look_up, HasIncreasingLetters}
 use Rattle.exploration.specs.Residuals.{AreResiduals}
 use Rattle.atoms.specs.Covers.{AreAtomsOf, IsSignature, IsWithin, AcceptsWithin}
 use Rattle.atoms.proofs.ForCallers.{signature_accepts}
-use Rattle.determinise.specs.private.Subsets.{IsSubset, IsPlain, ArePlainWhereFalse}
+use Rattle.bit_subsets.specs.Subsets.{IsSubset, IsPlain}
+use Rattle.determinise.specs.private.Subsets.{ArePlainWhereFalse}
 use Rattle.determinise.specs.private.Signatures.{AreSigned}
 
 -- where no flag is true, no state has an edge without a letter

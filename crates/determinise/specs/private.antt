@@ -1,4 +1,3 @@
 -- What only contracts of private functions cite.
-pub mod BitSubsets
 pub mod Signatures
 pub mod Subsets

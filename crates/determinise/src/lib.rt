@@ -6,8 +6,6 @@
 //! and sets for each state of the sets that were found.
 #![tactic(auto)]
 
-mod above;
-mod bit_subsets;
 mod maximal;
 mod moves;
 mod sampling;
@@ -21,14 +19,15 @@ mod turns;
 ghost use Rattle.std.specs.Prelude.{◌≡◌, ◌↔◌, List, ℕ, IsTrue, IfOk, length};
 ghost use Rattle.word_automata.specs.Automaton.{accepts, IsValid};
 ghost use Rattle.word_automata.specs.Nondeterministic.{Accepts};
-ghost use Rattle.determinise.specs.private.Subsets.{IsPlain, ArePlainWhereFalse};
+ghost use Rattle.bit_subsets.specs.Subsets.{IsPlain};
+ghost use Rattle.determinise.specs.private.Subsets.{ArePlainWhereFalse};
 ghost use Rattle.reduction.specs.Simulation.{AreIncluded, IsSimulation};
 
-use crate::bit_subsets::BitSubsets;
 use crate::sampling::sample_of;
 use crate::silent::{has_true, silent_flags};
 use crate::subsets::Subsets;
 use crate::turns::Turns;
+use bit_subsets::BitSubsets;
 use exploration::Exploration;
 use reduction::{StatePairs, live_part, pruned, simulation};
 pub use state_set::StateSet;

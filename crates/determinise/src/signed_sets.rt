@@ -13,7 +13,7 @@ ghost use Rattle.word_automata.specs.Nondeterministic.{NondeterministicAutomaton
 ghost use Rattle.exploration.specs.Residuals.{AreResiduals};
 ghost use Rattle.bit_set.specs.Digest.{digest};
 ghost use Rattle.atoms.specs.Covers.{AreAtomsOf, IsSignature, IsWithin, AcceptsWithin};
-ghost use Rattle.determinise.specs.private.Subsets.{IsSubset, IsPlain};
+ghost use Rattle.bit_subsets.specs.Subsets.{IsSubset, IsPlain};
 ghost use Rattle.determinise.specs.private.Signatures.{AreSigned};
 
 use crate::state_set::StateSet;
@@ -77,7 +77,7 @@ impl<'a> Model for SignedSets<'a> {
     ghost use Rattle.std.specs.Prelude.{◌≡◌, List, ℕ};
     ghost use Rattle.word_automata.specs.Nondeterministic.{NondeterministicAutomaton, IsInRange};
     ghost use Rattle.atoms.specs.Covers.{AreAtomsOf};
-    ghost use Rattle.determinise.specs.private.Subsets.{IsPlain};
+    ghost use Rattle.bit_subsets.specs.Subsets.{IsPlain};
 
     ghost Value = { NondeterministicAutomaton × List (List ℕ) };
 

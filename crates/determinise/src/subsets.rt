@@ -5,7 +5,8 @@ ghost use Rattle.std.specs.Prelude.{◌≡◌, ◌<◌, IfOk, length, map};
 ghost use Rattle.std.specs.Cmp.Lexicographic.{bytes_decides};
 ghost use Rattle.word_automata.specs.Nondeterministic.{Accepts, AcceptsFromAny};
 ghost use Rattle.word_automata.specs.StateSets.{AreStates};
-ghost use Rattle.determinise.specs.private.Subsets.{IsSubset, ArePlainWhereFalse, LeadsTo};
+ghost use Rattle.bit_subsets.specs.Subsets.{IsSubset};
+ghost use Rattle.determinise.specs.private.Subsets.{ArePlainWhereFalse, LeadsTo};
 ghost use Rattle.reduction.specs.Simulation.{AreIncluded};
 
 use crate::maximal::maximal_states;

@@ -6,7 +6,7 @@ ghost use Rattle.std.specs.Prelude.{◌≡◌, ◌↔◌, List, ℕ, IsTrue, IfO
 ghost use Rattle.word_automata.specs.Automaton.{accepts, IsValid};
 ghost use Rattle.word_automata.specs.Nondeterministic.{Accepts};
 ghost use Rattle.atoms.specs.Covers.{AreAtomsOf};
-ghost use Rattle.determinise.specs.private.Subsets.{IsPlain};
+ghost use Rattle.bit_subsets.specs.Subsets.{IsPlain};
 
 use crate::signed_sets::SignedSets;
 use crate::subsets::Subsets;

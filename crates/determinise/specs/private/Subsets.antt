@@ -2,14 +2,9 @@
 use Rattle.std.specs.Prelude.{◌≡◌, ◌↔◌, ◌+◌, ◌*◌, ◌%◌, ◌<◌, ◌≤◌, ℕ, Bool, true, false, List, Option, None, Some, Contains, length, slice_index_or}
 use Rattle.std.specs.List.{filter_map, flat_map}
 use Rattle.word_automata.specs.Path.{edges_of}
-use Rattle.word_automata.specs.Nondeterministic.{NondeterministicAutomaton, AcceptsFromAny, IsInRange}
-use Rattle.word_automata.specs.StateSets.{AreStates, IsClosed, IsClosure}
-
--- a set of states out of which no move without a letter leads
-pub record IsSubset (n : NondeterministicAutomaton) (subset : List ℕ) : Type 0 where
-  pub in_range : IsInRange n
-  pub states : AreStates n subset
-  pub closed : IsClosed n subset
+use Rattle.word_automata.specs.Nondeterministic.{NondeterministicAutomaton, AcceptsFromAny}
+use Rattle.word_automata.specs.StateSets.{AreStates, IsClosure}
+use Rattle.bit_subsets.specs.Subsets.{IsPlain}
 
 -- the set that moves without a letter reach from the states
 pub record IsSubsetFrom (n : NondeterministicAutomaton) (from subset : List ℕ) : Type 0 where
@@ -21,10 +16,6 @@ pub record LeadsTo (n : NondeterministicAutomaton) (targets subset : List ℕ) :
   pub kept : List ℕ
   pub same_words : (w : List ℕ) → AcceptsFromAny n targets w ↔ AcceptsFromAny n kept w
   pub from : IsSubsetFrom n kept subset
-
--- no edge without a letter leaves the state
-abbrev pub IsPlain : NondeterministicAutomaton → ℕ → Type 0
-IsPlain n p = (q : ℕ) → Contains (edges_of n.states p) (None, q) → ⊥
 
 -- a state whose flag is false has no edge without a letter
 abbrev pub ArePlainWhereFalse : NondeterministicAutomaton → List Bool → Type 0

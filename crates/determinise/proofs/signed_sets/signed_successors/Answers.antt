@@ -1,7 +1,7 @@
 use Rattle.std.proofs.Common.{◌<◌, ℕ, List, [], ◌∷◌, ◌++◌, All, refl, sym, subst}
 use Rattle.std.proofs.lemmas.List.Elements.{All-head, All-tail}
 use Rattle.std.specs.Vec.Iter.{into_iter_items}
-use Rattle.determinise.specs.private.Subsets.{IsSubset}
+use Rattle.bit_subsets.specs.Subsets.{IsSubset}
 use Rattle.determinise.specs.private.Signatures.{AreSigned}
 use Rattle.determinise.proofs.Signatures.{signed-push}
 use Rattle.determinise.proofs.signed_sets.signed_successors.Goals as goal

@@ -1,6 +1,6 @@
 use Rattle.std.proofs.Common.{All}
 use Rattle.std.specs.Vec.Iter.{into_iter_items}
-use Rattle.determinise.specs.private.Subsets.{IsSubset}
+use Rattle.bit_subsets.specs.Subsets.{IsSubset}
 use Rattle.determinise.specs.private.Signatures.{AreSigned}
 use Rattle.determinise.proofs.signed_sets.signed_successors.Given as goal
 

@@ -1,6 +1,7 @@
 use Rattle.std.proofs.Common.{get_or, ap, arith}
 use Rattle.word_automata.proofs.ForCallers.{partial_closure_none, partial_closure_more, partial_closure_all}
-use Rattle.determinise.proofs.Closures.{AreStates-members, IsClosure-members}
+use Rattle.bit_subsets.proofs.ForCallers.{AreStates-members}
+use Rattle.determinise.proofs.Closures.{IsClosure-members}
 use Rattle.determinise.proofs.subset.closure.Goals as goal
 
 pub states-init : goal.states-init

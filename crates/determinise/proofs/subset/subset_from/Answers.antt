@@ -1,7 +1,8 @@
 use Rattle.std.proofs.Common.{◌∙◌, sym, subst, IsPermutation}
 use Rattle.std.proofs.lemmas.List.Sorted.{Contains-permutation, IsPermutation-sym}
 use Rattle.determinise.specs.private.Subsets.{IsSubsetFrom}
-use Rattle.determinise.proofs.Closures.{AreStates-members, IsClosure-members}
+use Rattle.bit_subsets.proofs.ForCallers.{AreStates-members}
+use Rattle.determinise.proofs.Closures.{IsClosure-members}
 use Rattle.determinise.proofs.subset.subset_from.Goals as goal
 
 pub returns : goal.returns

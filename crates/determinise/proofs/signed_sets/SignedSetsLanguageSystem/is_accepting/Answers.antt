@@ -2,7 +2,7 @@ use Rattle.std.proofs.Common.{◌↔◌, List, ℕ, [], IsTrue, refl, sym, subst
 use Rattle.word_automata.specs.Nondeterministic.{AcceptsFromAny}
 use Rattle.atoms.specs.Covers.{IsSignature, AcceptsWithin}
 use Rattle.atoms.proofs.ForCallers.{signature_accepts}
-use Rattle.determinise.specs.private.Subsets.{IsSubset}
+use Rattle.bit_subsets.specs.Subsets.{IsSubset}
 use Rattle.determinise.proofs.Signatures.{signed_subset, within_ends}
 use Rattle.determinise.proofs.signed_sets.SignedSetsLanguageSystem.is_accepting.Goals as goal
 

@@ -2,7 +2,7 @@ use Rattle.std.proofs.Common.{List, ℕ, refl, sym, subst}
 use Rattle.exploration.specs.Residuals.{AreResiduals}
 use Rattle.atoms.specs.Covers.{IsSignature, AcceptsWithin}
 use Rattle.atoms.proofs.ForCallers.{signature_accepts}
-use Rattle.determinise.specs.private.Subsets.{IsSubset}
+use Rattle.bit_subsets.specs.Subsets.{IsSubset}
 use Rattle.determinise.proofs.Signatures.{HasSigned, plain_subset, signed_subset, signed_residuals, within_accepts, within_states}
 use Rattle.determinise.proofs.signed_sets.SignedSetsLanguageSystem.successors.Goals as goal
 

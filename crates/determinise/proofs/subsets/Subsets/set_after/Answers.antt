@@ -1,7 +1,8 @@
 use Rattle.std.proofs.Common.{ℕ, map, sym, subst}
 use Rattle.word_automata.proofs.ForCallers.{same_members_accept}
 use Rattle.determinise.specs.private.Subsets.{LeadsTo}
-use Rattle.determinise.proofs.Closures.{AreStates-members, leads_to_one}
+use Rattle.bit_subsets.proofs.ForCallers.{AreStates-members}
+use Rattle.determinise.proofs.Closures.{leads_to_one}
 use Rattle.reduction.proofs.ForCallers.{kept_accept}
 use Rattle.determinise.proofs.subsets.Subsets.set_after.Goals as goal
 

@@ -1,5 +1,6 @@
 use Rattle.std.proofs.Common.{◌-◌, length}
-use Rattle.determinise.specs.private.Subsets.{IsSubset, AreOrderedMoves}
+use Rattle.bit_subsets.specs.Subsets.{IsSubset}
+use Rattle.determinise.specs.private.Subsets.{AreOrderedMoves}
 use Rattle.determinise.proofs.Grouping.{IsGrouped}
 use Rattle.determinise.proofs.subsets.SubsetsLanguageSystem.successors.Given as goal
 

@@ -1,0 +1,4 @@
+pub mod ForCallers
+pub mod Lists
+pub mod Members
+pub mod Successors
