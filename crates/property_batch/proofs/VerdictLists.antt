@@ -1,5 +1,6 @@
 -- Lists of verdicts: put one after another, by number, and that there is one.
 use Rattle.std.proofs.Common.{◌≡◌, ◌<◌, ◌+◌, ℕ, zero, suc, List, [], ◌∷◌, ◌++◌, Some, get_or, length, take, refl, ap, ap₂, sym, subst, ◌∙◌, arith}
+use Rattle.std.proofs.Common.{Result, Ok, Err, IfOk, IsOkAnd, Vec, Global}
 use Rattle.std.proofs.lemmas.List.{take_more}
 use Rattle.std.proofs.lemmas.Option.{slice_get_within, same_Some}
 use Rattle.std.specs.List.{slice_get}
@@ -20,6 +21,16 @@ pub verdicts-of-both : (budget : ℕ) (all ps qs : List Property) (new vs ws : L
     → AreVerdicts budget ps vs → AreVerdicts budget qs ws → AreVerdicts budget all new
 verdicts-of-both budget all ps qs new vs ws is_all is_new left right =
     subst (λ xs. AreVerdicts budget xs new) (sym is_all) (subst (AreVerdicts budget (ps ++ qs)) (sym is_new) (verdicts-append budget ps qs vs ws left right))
+
+-- and so where the verdicts of both lists are made, and then those of all
+pub verdicts-of-results : {E : Type 0} (budget : ℕ) (all ps qs : List Property) (first second r : Result (Vec Verdict Global) E) → all ≡ ps ++ qs
+    → IfOk first (λ vs. AreVerdicts budget ps vs.items) → IfOk second (λ ws. AreVerdicts budget qs ws.items)
+    → IfOk r (λ new. IsOkAnd first (λ vs. IsOkAnd second (λ ws. new.items ≡ vs.items ++ ws.items))) → IfOk r (λ new. AreVerdicts budget all new.items)
+verdicts-of-results budget all ps qs first second (Err e) is_all left right joined = tt
+verdicts-of-results budget all ps qs (Err e) second (Ok new) is_all left right joined = absurd joined
+verdicts-of-results budget all ps qs (Ok vs) (Err e) (Ok new) is_all left right joined = absurd joined
+verdicts-of-results budget all ps qs (Ok vs) (Ok ws) (Ok new) is_all left right joined =
+    verdicts-of-both budget all ps qs new.items vs.items ws.items is_all joined left right
 
 -- one verdict more
 pub verdicts-and-one : (budget : ℕ) (all : List Property) (k : ℕ) (p : Property) (new vs : List Verdict) (v : Verdict) → k < length all → p ≡ get_or all k p

@@ -1,7 +1,7 @@
 //! The searches for a list of properties, in threads. The list is cut into halves, and the workers with it, until a share is one worker
 //! or one property; then its searches are made one after another. A search makes its problem and its predicates in its own thread.
 
-ghost use Rattle.std.specs.Prelude.{◌<◌, ◌≤◌, IfOk};
+ghost use Rattle.std.specs.Prelude.{◌≡◌, ◌<◌, ◌≤◌, ◌++◌, IfOk, IsOkAnd};
 ghost use Rattle.property_batch.specs.PropertyVerdicts.{AreVerdicts, IsPropertyVerdict};
 
 use armc_io::Gate;
@@ -43,6 +43,17 @@ pub fn search_all<G: Gate, R: Threads + Sync>(
             ensures { IfOk result (λ verdicts. AreVerdicts budget second.entry.now verdicts.items) }
         { search_all(alloc, runtime, second, budget, smaller_share, gate) },
     );
+    concatenate(first_verdicts, second_verdicts)
+}
+
+/// The verdicts on the first properties of a list and those on the others, one after another, or the first of their errors.
+fn concatenate(
+    first_verdicts: Result<Vec<Verdict>, AllocError>,
+    second_verdicts: Result<Vec<Verdict>, AllocError>,
+) -> Result<Vec<Verdict>, AllocError>
+    ensures { IfOk result (λ all. IsOkAnd first_verdicts (λ first. IsOkAnd second_verdicts (λ second.
+        all.items ≡ first.items ++ second.items))) }
+{
     let mut all = first_verdicts?;
     let mut rest = second_verdicts?;
     all.append(&mut rest)?;
