@@ -7,4 +7,4 @@ use Rattle.bit_subsets.proofs.targets_of.Given as goal
 abbrev pub invariant-states : goal.invariant-states
 invariant-states l =
     AddsFirst HasAt (IsInTable (length l.subsets.empty))
-        (λ m a q. Contains (edges_of l.subsets.automaton.now.states (get_or l.state-items m 0)) (Some a, q)) l.state-index l.initial.rows.items l.rows.items
+    (λ m a q. Contains (edges_of l.subsets.automaton.now.states (get_or l.state-items m 0)) (Some a, q)) l.state-index l.initial.rows.items l.rows.items
