@@ -424,8 +424,10 @@ def wrong_root(program, root):
     tools = [["armc-explain", f"{place}/open_door.armc"], ["armc-walk", "--random", "9", f"{place}/open_door.armc"], ["armc-portfolio", f"{place}/tickets.armc"],
              ["armc-coverage", f"{place}/tickets.armc"], ["armc-check-folder", f"{place}/tutorial", "--budget", "1000"]]
     hide = without_repository()
-    environment = {"PATH": f"{root}/bin:{os.path.dirname(sys.executable)}:/usr/bin:/bin", "HOME": root}
-    for words in tools:
+    # The tools find the program of the archive, which is not on the path.
+    environment = {"PATH": f"{os.path.dirname(sys.executable)}:/usr/bin:/bin", "HOME": root}
+    for tool, *words in tools:
+        words = [os.path.join(root, "bin", tool), *words]
         found = subprocess.run([*hide, *words], env=environment, capture_output=True, text=True, cwd=root, timeout=SECONDS)
         wrong += [] if found.returncode in (0, 1) and not found.stderr.count("Traceback") and found.stdout else [f"{words}: {found}"]
     for path in needed:
