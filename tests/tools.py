@@ -161,7 +161,10 @@ def portfolio_reordered(program):
         found = call(program, "armc-portfolio", "--jobs", "2", "--budget", "1000", path)
         if found.returncode or not judged(program, other, found.stdout) or f"{other} has the sections in the order K S" not in found.stderr:
             return [f"another order: {found}"]
-        return differs("the other order", Protocol(read(other)).rules, Protocol(read_canonical(program, path)).rules)
+        wrong = differs("the other order", Protocol(read(other)).rules, Protocol(read_canonical(program, path)).rules)
+        found = call(program, "armc-portfolio", "--jobs", "2", "--budget", "1000", "--reordered", os.path.join(folder, "no", "p"), path)
+        told = (found.returncode, judged(program, other, found.stdout), "in the order K S" in found.stderr)
+        return wrong + differs("an order that cannot be written", told, (8, True, True))
 
 
 def read_canonical(program, path):
@@ -193,9 +196,11 @@ def portfolio_interrupted(program):
     for number in (signal.SIGINT, signal.SIGTERM):
         status, out, err, left = interrupted(program, "armc-portfolio", words, number)
         wrong += differs("an interrupt", (status, out, "interrupted; tried" in err, left), (130, "", True, []))
-    tool = [sys.executable, os.path.join(TOOLS, "armc-portfolio"), "--program", program, "--seconds", "1", "--one-order"]
-    shown, _ = on_terminal([*tool, *words])
-    return wrong + ([] if re.search(r"check.*: \d+ states counted, budget 1000000, \d", shown) else [f"a terminal shows {shown[:300]!r}"])
+    tool = [sys.executable, os.path.join(TOOLS, "armc-portfolio"), "--program", program, "--one-order"]
+    for more, layout in ((words, r"check: budget 1000000, \d"), (words[-1:], r"check: budget 10+, 10\d+ states counted before, \d")):
+        shown, _ = on_terminal([*tool, "--seconds", "2", *more])
+        wrong += [] if re.search(layout, shown) else [f"a terminal shows {shown[:300]!r}"]
+    return wrong
 
 
 def coverage(program):
