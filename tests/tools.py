@@ -387,7 +387,26 @@ def release(program):
             wrong += [] if same.returncode == 0 else [f"the package differs from the archive: {same.stdout[:200]}"]
         if shutil.which("dpkg") and os.geteuid() == 0:
             wrong += wrong_package(names["deb", "one"], root)
-        return wrong + wrong_root(program, root)
+        return wrong + wrong_strays(program) + wrong_root(program, root)
+
+
+def wrong_strays(program):
+    """Whether a file that git does not keep is packed."""
+    if not shutil.which("git"):
+        return []
+    with tempfile.TemporaryDirectory() as folder:
+        for name in ("tools", "man", "completions", "docs", "examples", "editors"):
+            shutil.copytree(os.path.join(TOP, name), os.path.join(folder, name))
+        for name in ("README.md", "LICENSE"):
+            shutil.copy(os.path.join(TOP, name), folder)
+        for words in (["init", "-q"], ["add", "."]):
+            subprocess.run(["git", "-C", folder, *words], check=True)
+        packed, words = [], [os.path.join(folder, "tools", "make-release"), "dist", "--program", program, "--folder", folder]
+        for _ in range(2):
+            with tarfile.open(subprocess.run([sys.executable, *words], capture_output=True, text=True, check=True).stdout.strip()) as archive:
+                packed.append(archive.getnames())
+            open(os.path.join(folder, "examples", "stray.cert"), "w").close()
+        return [] if packed[0] == packed[1] and any(name.endswith("examples/first.cert") for name in packed[0]) else ["a file that git does not keep is packed"]
 
 
 def wrong_package(package, unpacked):
