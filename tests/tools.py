@@ -282,6 +282,10 @@ def explain(program):
     wrong += differs("a refused proof", (found.returncode, found.stderr), (7, "armc-explain: not valid: initial missing: P: i\n"))
     found = call(program, "armc-explain", example("tickets.armc"), "-", text="armc 1 unknown\ncounted 9\nbudget 9\nend\n")
     wrong += differs("a reached budget", found.returncode, 2)
+    stuck = "deadlock\nstart P: i\nstep enter P: c\nend\n"
+    found = call(program, "armc-explain", example("open_door.armc"), "-", text=stuck)
+    told = (found.returncode, "not judged" in found.stdout, found.stdout.endswith("No rule can fire at its end.\n"))
+    wrong += differs("a deadlock", told, (0, True, True))
     with tempfile.TemporaryDirectory() as folder:
         for name, part in (("tutorial/lock", "L.held"), ("open_door", "enter")):
             files = [os.path.join(folder, file) for file in ("p.svg", "p.html")]
