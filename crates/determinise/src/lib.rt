@@ -74,18 +74,18 @@ pub fn determinise(alloc: Global, automaton: &Nfa) -> Result<Dfa, AllocError>
 {
     match live_part(alloc, automaton)? {
         Some(live) => {
-            let dfa = subsets_of_pruned(alloc, &live)?;
+            let dfa = subsets_of_live(alloc, &live)?;
             Ok(dfa)
         }
         None => {
-            let dfa = subsets_of_pruned(alloc, automaton)?;
+            let dfa = subsets_of_live(alloc, automaton)?;
             Ok(dfa)
         }
     }
 }
 
 /// The deterministic automaton of the sets of states that words lead to where these are few, and else without edges that others match.
-fn subsets_of_pruned(alloc: Global, automaton: &Nfa) -> Result<Dfa, AllocError>
+fn subsets_of_live(alloc: Global, automaton: &Nfa) -> Result<Dfa, AllocError>
     ensures language { IfOk result (λ dfa. (w : List ℕ) → IsTrue (accepts dfa w) ↔ Accepts automaton.now w) }
     ensures letters { IfOk result (λ dfa. dfa.letters ≡ automaton.now.letters) }
     ensures valid { IfOk result IsValid }
