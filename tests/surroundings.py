@@ -498,6 +498,12 @@ def pages_for_newcomers():
     return wrong + [f"there is no pattern {name}" for name in sorted(named - patterns)]
 
 
+def edits():
+    """Each edit that the prover has to refuse can still be applied, also those that the gate does not try."""
+    told = run([os.path.join(TOP, "tests", "edits"), "--look"])
+    return [] if told.returncode == 0 else [*told.stdout.splitlines(), *told.stderr.splitlines()[-1:]]
+
+
 def checks(program):
     """Each check with its name."""
     yield "launcher", launcher()
@@ -512,6 +518,7 @@ def checks(program):
     yield "syntax file of Vim", syntax_of_vim()
     yield "syntax file of TextMate", syntax_of_textmate()
     yield "pages for newcomers", pages_for_newcomers()
+    yield "edits can be applied", edits()
     if program:
         yield "check of folders", check_of_folders(program)
 
