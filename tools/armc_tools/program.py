@@ -8,10 +8,14 @@ import functools
 import os
 import re
 import resource
+import shlex
 import signal
 import subprocess
 import sys
 import tempfile
+
+from .expansion import Unknown, expand, pairs
+from .templates import Fault, value_of
 
 HERE = os.path.dirname(os.path.abspath(__file__))
 # The folder of the tools: `tools` of the repository, or `share/armc/tools` where they are installed.
@@ -125,15 +129,19 @@ class Kept:
         self.folder.cleanup()
 
 
-def read_text(name):
-    """The text of a file, or of standard input where the name is -."""
+def read_bytes(name):
+    """The bytes of a file, or of standard input where the name is -."""
     try:
         if name == "-":
-            return sys.stdin.buffer.read().decode("utf-8", "replace")
+            return sys.stdin.buffer.read()
         with open(name, "rb") as file:
-            return file.read().decode("utf-8", "replace")
+            return file.read()
     except OSError:
         raise Refused(READ, f"read fault: {name}") from None
+
+
+def read_text(name):
+    return read_bytes(name).decode("utf-8", "replace")
 
 
 def canonical(program, name):
@@ -142,6 +150,52 @@ def canonical(program, name):
         return program.asked("show", name)
     with Kept({"protocol.armc": read_text("-")}) as kept:
         return program.asked("show", kept.path("protocol.armc"))
+
+
+def written_by(name, values):
+    """The protocol that the template in a file writes with these values; a refused template ends the tool."""
+    try:
+        return expand(name, read_bytes(name), values)
+    except Fault as fault:
+        raise Refused(PROTOCOL, f"template: {fault}") from None
+    except Unknown as unknown:
+        raise Refused(USAGE, str(unknown)) from None
+
+
+def shown_by(program, written):
+    """The canonical text of what a template wrote; where the program refuses that, it is told of the place in the template."""
+    with Kept({"protocol.armc": written.text}) as kept:
+        ended = program.call("show", kept.path("protocol.armc"))
+    if ended.status:
+        raise Refused(ended.status if ended.status > 0 else NOT_RUN, written.told((ended.err or ended.out).strip()) or f"armc ended with {ended.status}")
+    return ended.out
+
+
+class Source:
+    """The protocol that a tool is given: a file that has it, or a template (docs/TEMPLATES.md) that writes it with the values of --set."""
+
+    def __init__(self, name, values=()):
+        self.name, self.values, self.written = name, dict(values), None
+        if name.endswith(".armct"):
+            self.written = written_by(name, self.values)
+        elif values:
+            raise Refused(USAGE, f"--set is for a template, and {name} is none: its name does not end in .armct")
+
+    def canonical(self, program):
+        return shown_by(program, self.written) if self.written else canonical(program, self.name)
+
+    def text(self):
+        return self.written.text if self.written else read_text(self.name)
+
+    def title(self):
+        """The name of the file, and the values of a template."""
+        return self.written.title() if self.written else os.path.basename(self.name)
+
+    def command(self, words):
+        """The command line of armc with these words, of which the second is the file: what a template writes comes by a pipe."""
+        if not self.written:
+            return f"armc {shlex.join([words[0], self.name, *words[2:]])}"
+        return f"{shlex.join(['armc-expand', self.name, *pairs(self.values)])} | armc {shlex.join([words[0], '-', *words[2:]])}"
 
 
 class Words(argparse.ArgumentParser):
@@ -158,6 +212,11 @@ class Words(argparse.ArgumentParser):
             given.file = os.path.join(os.curdir, given.file)
         return given
 
+    def add_values(self):
+        """The option --set, for tools that take a template where they take a protocol."""
+        self.add_argument("--set", type=value, action="append", default=[], metavar="NAME=VALUE",
+                          help="of a template: a number, or names in braces, for a variable at its top; may be given more than once")
+
     def error(self, message):
         self.exit(USAGE, f"{self.prog}: {message}; {' '.join(self.format_usage().split())}\n")
 
@@ -169,6 +228,14 @@ def number(least, most=10**9):
             raise argparse.ArgumentTypeError(f"'{word}' is no number from {least} to {most}")
         return int(word)
     return read
+
+
+def value(word):
+    """The type of a value for a template: its variable and a number or names."""
+    found = value_of(word)
+    if not found:
+        raise argparse.ArgumentTypeError(f"'{word}' is no value: NAME=NUMBER or NAME={{NAME ..}}")
+    return found
 
 
 def write_file(path, text):
