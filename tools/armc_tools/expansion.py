@@ -7,7 +7,7 @@ import itertools
 import os
 import re
 
-from .templates import MOST, RESERVED, Any, Chain, Fault, For, If, Let, Number, Place, Range, Row, Rule, Same, Section, Set, head_of, read_template
+from .templates import MOST, RESERVED, Any, Chain, Fault, For, If, Let, Name, Number, Place, Range, Row, Rule, Same, Section, Set, head_of, read_template
 
 # The limits of docs/LANGUAGE.md.
 BYTES, NAME_BYTES, SECTIONS, LETTERS, RULES, ROWS, ATOMS, GUARDS, PUSHED = 1 << 20, 32, 16, 256, 256, 32, 32, 4, 4
@@ -34,7 +34,7 @@ def is_list(value):
 
 
 class Written:
-    """The protocol that a template writes: its text, the values of the variables at the top, and where each of its words comes from."""
+    """The protocol that a template writes: its text, the values by which it is told, and where each of its words comes from."""
 
     def __init__(self, name, lines, values, comments):
         self.name, self.values = name, values
@@ -281,7 +281,7 @@ class Expander:
         for item in tree.lets:
             self.let_at_top(item)
         name = self.name(tree.name)
-        self.line([Word(text, name.place) for text in ("protocol", name.text, *(("language", "2") if tree.language else ()))])
+        self.line([Word("protocol", tree.place), name, *(Word(text, name.place) for text in (("language", "2") if tree.language else ()))])
         for item in tree.items:
             if isinstance(item, Let):
                 self.let_at_top(item)
@@ -470,6 +470,22 @@ def first_at(place):
     return f", first at line {place.line} column {place.column}"
 
 
+def is_plain(tree, names):
+    """Whether what a variable at the top is said to be depends on no other variable and on no loop."""
+    if isinstance(tree, Set):
+        return all(isinstance(item, Name) and len(item.pieces) == 1 and item.pieces[0] not in names for item in tree.names)
+    if isinstance(tree, Chain):
+        return all(is_plain(term, names) for term in [tree.first, *(term for _, term in tree.rest)])
+    return isinstance(tree, Number)
+
+
+def told_values(tree, given, values):
+    """The values that decide what is written: the given ones, and those that depend on no other."""
+    lets = [item for item in [*tree.lets, *tree.items] if isinstance(item, Let)]
+    names = names_at_top(tree)
+    return {item.name: values[item.name] for item in lets if item.name in given or is_plain(item.value, names)}
+
+
 def names_at_top(tree):
     """The names of the variables at the top, whose values can be given."""
     return [item.name for item in [*tree.lets, *tree.items] if isinstance(item, Let)]
@@ -496,7 +512,10 @@ def expand(name, data, given=()):
     expander.template(tree)
     own = cases[known.index(expander.top)].lines if expander.top in known else []
     keys = {keyed(line) for line in own}
-    return Written(name, expander.lines, expander.top, [line for line in general if keyed(line) not in keys] + own)
+    written = Written(name, expander.lines, told_values(tree, expander.given, expander.top), [line for line in general if keyed(line) not in keys] + own)
+    if len(written.text.encode()) > BYTES:
+        raise Fault(Place(1, 1), f"too many bytes with the comments: a protocol has at most {BYTES}")
+    return written
 
 
 def chosen_cases(data, given):

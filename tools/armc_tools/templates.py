@@ -48,7 +48,7 @@ Set = collections.namedtuple("Set", "place names")
 Any = collections.namedtuple("Any", "place")
 Same = collections.namedtuple("Same", "place")
 
-Template = collections.namedtuple("Template", "lets name language items")
+Template = collections.namedtuple("Template", "place lets name language items")
 
 
 class Fault(Exception):
@@ -227,11 +227,11 @@ class Reader:
         lets = []
         while self.next.text == "let":
             lets.append(self.let(self.take("let").place))
-        self.take("protocol")
+        place = self.take("protocol").place
         name, language = self.name(), self.met("language")
         if language:
             self.take("2")
-        return Template(lets, name, bool(language), self.items(self.item, ends=()))
+        return Template(place, lets, name, bool(language), self.items(self.item, ends=()))
 
     def item(self):
         begun = self.next
