@@ -42,6 +42,11 @@ end
 for option in 'budget:the budget of each search' 'seconds:the time of each search' 'jobs:searches at once' 'junit:write a report of JUnit'
     complete -c armc-check-folder -l (string split -m1 : $option)[1] -r -d (string split -m1 : $option)[2]
 end
+complete -c armc-expand -l check -d 'let the program read what is written'
+complete -c armc-expand -l output -r -d 'write into a file'
 for tool in armc-portfolio armc-coverage armc-explain armc-walk armc-check-folder
+    complete -c $tool -l set -x -d 'of a template: a value'
+end
+for tool in armc-portfolio armc-coverage armc-explain armc-walk armc-expand armc-check-folder
     complete -c $tool -l program -r -d 'the program armc'
 end

@@ -232,7 +232,7 @@ def lint_pages(folder):
     found = run(["mandoc", "-Tlint", *pages])
     told = ("referenced manual not found: Xr armc", "operating system explicitly specified: Os armc")
     lines = [line for line in (found.stdout + found.stderr).splitlines() if not any(each in line for each in told)]
-    return lines + ([] if len(pages) == 3 else [f"the pages are {pages}"])
+    return lines + ([] if len(pages) == 4 else [f"the pages are {pages}"])
 
 
 def manual_pages():
@@ -281,8 +281,8 @@ def offered_for(tool):
 
 def completions_of_tools():
     """The options that the shells offer for each tool are those of its help, and the manual page names them all."""
-    wrong, page = [], read("man", "armc-tools.1").replace("Fl -", "--")
-    for tool in ("armc-portfolio", "armc-coverage", "armc-explain", "armc-walk", "armc-second-opinion", "armc-check-folder"):
+    wrong, page = [], (read("man", "armc-tools.1") + read("man", "armc-expand.1")).replace("Fl -", "--")
+    for tool in ("armc-portfolio", "armc-coverage", "armc-explain", "armc-walk", "armc-expand", "armc-second-opinion", "armc-check-folder"):
         told = run([sys.executable, os.path.join(TOP, "tools", tool.replace("armc-check", "check")), "--help"]).stdout
         options = set(re.findall(r"(?<![\w-])--[\w-]+", told))
         for shell, offered in offered_for(tool):
@@ -338,17 +338,21 @@ SCOPES = {
     "Arrow": "keyword.operator.arrow.armc",
     "Repeat": "keyword.operator.repeat.armc",
     "Sign": "punctuation.separator.armc",
+    "Template": "keyword.control.template.armc",
+    "Operator": "keyword.operator.template.armc",
     "Comment": "comment.line.number-sign.armc",
 }
 
 
-def kinds_of(line):
-    """The tokens of a line of a protocol or of a text of properties, each with its column and its kind."""
+def kinds_of(line, template=False):
+    """The tokens of a line of a protocol or of a text of properties, or of a template, each with its column and its kind."""
     found, before, named = [], None, False
-    for token in re.finditer(r"#.*|\w+|->|[*+]|[{}:;]", line):
+    for token in re.finditer(r"#.*|\w+|->|\.\.|[=!<>]=|[*+]|[{}:;]" + ("|[()%=<>-]" if template else ""), line):
         text = token[0]
         if text.startswith("#"):
             kind = "Comment"
+        elif template and (text in ("let", "for", "if", "same") or not re.match(r"\w|->|[*+{}:;]", text)):
+            kind = "Template" if re.match(r"\w", text) else "Operator"
         elif text in KIND_OF:
             kind = KIND_OF[text]
         elif re.match(r"\w", text):
@@ -356,28 +360,30 @@ def kinds_of(line):
         else:
             kind = "Arrow" if text == "->" else "Repeat" if text in "*+" else "Sign"
         found.append((token.start(), text, kind))
-        before, named = kind, text == "bad"
+        before, named = kind, text in ("bad", "let", "for")
     return found
 
 
 def protocols():
-    """The protocols and the texts of properties below examples."""
-    return sorted(path for ending in ("armc", "props") for path in glob.glob(os.path.join(TOP, "examples", "**", f"*.{ending}"), recursive=True))
+    """The protocols, the texts of properties and the templates below examples."""
+    return sorted(path for ending in ("armc", "props", "armct") for path in glob.glob(os.path.join(TOP, "examples", "**", f"*.{ending}"), recursive=True))
 
 
-def scopes_of(grammar, line):
-    """The scope of each column of the line by a TextMate grammar of match rules alone: the earliest match wins, then the first rule."""
+def scopes_of(grammar, line, other=None):
+    """The scope of each column of the line by a TextMate grammar of match rules alone: the earliest match wins, then the first rule. Rules of
+    the other grammar may be included."""
     rules, scopes, at = [], [None] * len(line), 0
 
-    def add(patterns):
+    def add(patterns, of):
         for rule in patterns:
             if "include" in rule:
-                inner = grammar["repository"][rule["include"][1:]]
-                add(inner.get("patterns", [inner]))
+                of_rule = of if rule["include"].startswith("#") else other
+                inner = of_rule["repository"][rule["include"].partition("#")[2]]
+                add(inner.get("patterns", [inner]), of_rule)
             else:
                 rules.append((re.compile(rule["match"], re.A), rule))
 
-    add(grammar["patterns"])
+    add(grammar["patterns"], grammar)
     while at < len(line):
         found = [(match.start(), number) for number, (regex, _) in enumerate(rules) for match in [regex.search(line, at)] if match and match[0]]
         if not found:
@@ -392,14 +398,15 @@ def scopes_of(grammar, line):
 
 
 def syntax_of_textmate():
-    wrong, grammar = [], json.loads(read("editors", "textmate", "armc.tmLanguage.json"))
+    wrong, (grammar, templates) = [], (json.loads(read("editors", "textmate", f"{name}.tmLanguage.json")) for name in ("armc", "armct"))
     for name in ("package.json", "language-configuration.json"):
         json.loads(read("editors", "textmate", name))
     for path in protocols():
         with open(path, encoding="ascii") as file:
             for number, line in enumerate(file.read().splitlines(), 1):
-                scopes = scopes_of(grammar, line)
-                for column, text, kind in kinds_of(line):
+                template = path.endswith(".armct")
+                scopes = scopes_of(templates, line, grammar) if template else scopes_of(grammar, line)
+                for column, text, kind in kinds_of(line, template):
                     if set(scopes[column:column + len(text)]) != {SCOPES[kind]}:
                         wrong.append(f"{os.path.basename(path)} line {number}: {text} is {set(scopes[column:column + len(text)])}, and must be {SCOPES[kind]}")
     bad = scopes_of(grammar, "@ -")
@@ -412,7 +419,7 @@ syntax on
 let out = []
 for path in {paths}
   execute 'edit ' . path
-  set filetype=armc
+  execute 'set filetype=' . (path =~# 'armct$' ? 'armct' : 'armc')
   call add(out, 'file ' . path)
   for number in range(1, line('$'))
     call add(out, join(map(range(1, max([len(getline(number)), 1])), 'synIDattr(synID(number, v:val, 1), "name")'), ' '))
@@ -449,7 +456,7 @@ def syntax_of_vim():
         for number, line in enumerate(lines, 1):
             groups = told[at].split(" ")
             at += 1
-            for column, text, kind in kinds_of(line):
+            for column, text, kind in kinds_of(line, path.endswith(".armct")):
                 group = groups[column] if column < len(groups) else ""
                 if group not in (f"armc{kind}", "armcExpect" if kind == "Comment" else ""):
                     wrong.append(f"{os.path.basename(path)} line {number}: {text} is {group or 'nothing'}, and must be armc{kind}")

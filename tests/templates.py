@@ -148,9 +148,11 @@ def refusals():
         wrong += [f"{cell} takes {time.monotonic() - began:.1f} s"] if time.monotonic() - began > LONGEST else []
     # (the words of each message before its first value)
     messages = re.findall(r'(?:self\.fault|Fault)\([\w.\[\]]+, f?"((?:[^"{]|\{what\})+)', read(os.path.join(TOOLS, "armc_tools", "expansion.py")) + read(os.path.join(TOOLS, "armc_tools", "templates.py")))
-    for message in set(messages) - {"'", "too many bytes with the comments: a protocol has at most "}:
+    shown = [told for _, told in table] + [message for message in messages if message.startswith(("too many bytes", "there is no section", "the template has more"))]
+    for message in set(messages):
         pattern = re.escape(message.strip()).replace(r"\{what\}", r"[a-z ]+")
-        wrong += [] if any(re.search(pattern, told) for _, told in table) or message.startswith("too many bytes") else [f"the page has no refusal {message!r}"]
+        wrong += [] if any(re.search(pattern, told) for told in shown) else [f"the page has no refusal {message!r}"]
+    wrong += differs("no section", answer("# nothing\nlet n = 0\nprotocol p\nfor i in 0 .. n { cell S { x } }\ninit { }\n"), "template: line 3 column 1: there is no section, and a protocol has at least one")
     long = "let L = { " + "n" * 32 + " } let R = { " + "L " * 256 + "}\ninit { P: { " + "R " * 130 + "}; }\n"
     wrong += differs("a text that is too long", answer(HEAD + long), "template: line 4 column 1: too many bytes: a protocol has at most 1048576")
     wrong += differs("a template that is too long", answer(" " * (1 << 20) + "x"), "template: line 1 column 1: the template has more than 1048576 bytes")
@@ -173,6 +175,8 @@ def page():
     language = re.search(r"The reserved words are (.*?)\.(?: |$)", read(os.path.join(TOP, "docs", "LANGUAGE.md")), re.M)[1]
     more = re.search(r"The words (.*?) are reserved too", text)[1]
     wrong += differs("the reserved words", RESERVED, frozenset(re.findall(r"`(\w+)`", language + more)))
+    listed = re.findall(r"\(\?!\(\?:([\w|]+)\)", read(os.path.join(TOP, "editors", "textmate", "armct.tmLanguage.json")))[0].split("|")
+    wrong += differs("the words of the TextMate file", frozenset(listed), RESERVED)
     grammar = re.search(r"^## Grammar$.*?^```\n(.*?)^```$", text, re.M | re.S)[1]
     unused = [word for word in re.findall(r'"([a-z]+)"', grammar) if word not in RESERVED]
     unmet = [word for word in sorted(RESERVED) if f'"{word}"' not in grammar]

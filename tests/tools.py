@@ -612,16 +612,6 @@ def second_opinion(program):
     return wrong
 
 
-def windows():
-    """What examples/make_window prints for the sizes that are kept."""
-    wrong = []
-    for words, kept in (("2", "patterns/sliding_window"), ("--lossy 2", "window_lossy"), ("--lossy 2 2", "window_lossy_two_numbers")):
-        made = subprocess.run([sys.executable, example("make_window"), *words.split()], capture_output=True, text=True).stdout
-        text = "".join(line for line in read(example(f"{kept}.armc")).splitlines(True) if not line.startswith("#"))
-        wrong += differs(f"examples/make_window {words}", made, text)
-    return wrong
-
-
 def checks(program):
     """Each check with its name."""
     yield "tools, with faults", faults(program)
@@ -635,7 +625,6 @@ def checks(program):
     yield "pictures", pictures(program)
     yield "pages of the tools", told_pages(program)
     yield "page of hard protocols", wrong_numbers(program)
-    yield "windows of any size", windows()
     yield "other searches", other_searches(program)
     yield "release", release(program)
 

@@ -287,6 +287,8 @@ class Expander:
                 self.let_at_top(item)
             else:
                 self.each([item], self.item)
+        if not self.sections:
+            raise Fault(tree.place, "there is no section, and a protocol has at least one")
         self.captured()
 
     def given_at_top(self, tree):
