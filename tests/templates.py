@@ -101,6 +101,10 @@ PRODUCTIONS = (
      "stack K { m n }\nrule r_m { K: pop m push m m m; }\nrule r_n { K: pop n push n m n; }\nrule s { K: pop m; }\nrule t { K: push n n; }"),
     ("stack K { m } rule r { K: pop m push if 1 == 2 { m }; }", "stack K { m }\nrule r { K: pop m; }"),
     ("cell S{1}{2} { x{1}y{2}z } rule r{1} { P: at a -> b; }", "cell S12 { x1y2z }\nrule r1 { P: at a -> b; }"),
+    ("cell {1}S { {1} {2}x {3}{4}y for i in 5 .. 6 { {i} } }\nrule {0}{1} { {1}S: set {2}x -> {3}{4}y; P: at a -> b map { {9 - 9}a -> {1 - 1}a; {9 - 9}b -> {0}; }; }",
+     "cell 1S { 1 2x 34y 5 }\nrule 01 { 1S: set 2x -> 34y; P: at a -> b map { 0a -> 0a; 0b -> 0; }; }"),
+    ("for x in { P } { init { {x}: a { {1}x {2} }* {1}{2}+ {1}; } rule r { {x}: pair {0} {1}a -> {2}b {3}; } }",
+     "init { P: a { 1x 2 }* 12+ { 1 }; }\nrule r_0_3 { P: pair 0 1a -> 2b 3; }"),
     ("cell S { x } init{P:a;S:x;} rule r { P:at a->b when all left in{a}map{a->b;}; } # a comment", "cell S { x }\ninit { P: a; S: x; }\nrule r { P: at a -> b when all left in { a } map { a -> b; }; }"),
 )
 # The same with a head of language 2.
@@ -249,7 +253,13 @@ def expression_end(tokens, at):
         at += 1
 
 
-def flattened(tokens, values, given=None):
+def begins_name(tokens, at, listed):
+    """Whether a name begins with the brace at this token: inside of a list, or where a word or a hole follows its end without a space."""
+    end = closing(tokens, at + 1) + 1
+    return listed or (end < len(tokens) and tokens[end][1] and (tokens[end][0] == "{" or re.match(r"\w", tokens[end][0])))
+
+
+def flattened(tokens, values, given=None, listed=False):
     """The words of a template without variables, loops, conditions and holes: each pass of a loop goes over its tokens again."""
     found, at, outer = [], 0, []
     while at < len(tokens):
@@ -258,7 +268,7 @@ def flattened(tokens, values, given=None):
             name, at = tokens[at + 1][0], at + 3
             if tokens[at][0] == "{":
                 end = closing(tokens, at + 1) + 1
-                value = tuple(flattened(tokens[at + 1:end - 1], values))
+                value = tuple(flattened(tokens[at + 1:end - 1], values, None, True))
             else:
                 end = expression_end(tokens, at)
                 value = computed(tokens[at:end], values)
@@ -267,7 +277,7 @@ def flattened(tokens, values, given=None):
             name, body, at = tokens[at + 1][0], None, at + 3
             if tokens[at][0] == "{":
                 end = closing(tokens, at + 1) + 1
-                source = flattened(tokens[at + 1:end - 1], values)
+                source = flattened(tokens[at + 1:end - 1], values, None, True)
             else:
                 end = expression_end(tokens, at)
                 source = computed(tokens[at:end], values)
@@ -277,7 +287,7 @@ def flattened(tokens, values, given=None):
             at = closing(tokens, end + 1)
             body, at = tokens[end + 1:at], at + 1
             for value in source:
-                found += flattened(body, {**values, name: value})
+                found += flattened(body, {**values, name: value}, None, outer[-1][2] if outer else listed)
         elif word == "if":
             left = expression_end(tokens, at + 1)
             right = expression_end(tokens, left + 1)
@@ -286,12 +296,13 @@ def flattened(tokens, values, given=None):
             # (names have the signs == and != alone)
             if (sides[0] == sides[1] if sign == "==" else sides[0] != sides[1] if sign == "!=" else
                     sides[0] < sides[1] if sign == "<" else sides[0] <= sides[1] if sign == "<=" else sides[0] > sides[1] if sign == ">" else sides[0] >= sides[1]):
-                found += flattened(tokens[right + 1:at], values)
+                found += flattened(tokens[right + 1:at], values, None, outer[-1][2] if outer else listed)
             at += 1
-        elif re.match(r"\w", word) and word not in RESERVED:
-            pieces, at = [word], at + 1
-            while at < len(tokens) and tokens[at][1] and (tokens[at][0] == "{" or len(pieces) > 1 and re.match(r"\w", tokens[at][0])):
-                if tokens[at][0] == "{":
+        elif (re.match(r"\w", word) and word not in RESERVED) or (word == "{" and begins_name(tokens, at, outer[-1][2] if outer else listed)):
+            pieces, hole = [], False
+            while not pieces or (at < len(tokens) and tokens[at][1] and (tokens[at][0] == "{" or hole and re.match(r"\w", tokens[at][0]))):
+                hole = tokens[at][0] == "{"
+                if hole:
                     end = closing(tokens, at + 1)
                     pieces.append(str(computed(tokens[at + 1:end], values)))
                     at = end + 1
@@ -299,11 +310,13 @@ def flattened(tokens, values, given=None):
                     pieces.append(tokens[at][0])
                     at += 1
             value = values.get(word, word) if len(pieces) == 1 else "".join(pieces)
+            value = pieces[0] if word == "{" and len(pieces) == 1 else value
             found += value if isinstance(value, tuple) else [str(value)]
         else:
             # A variable is known to the end of the list that it stands in.
             if word in ("{", ":"):
-                outer.append((word, values))
+                block = word == ":" or found[-1:] in (["init"], ["bad"], ["map"]) or found[-2:-1] == ["rule"]
+                outer.append((word, values, not block))
             elif word == "}" or (word == ";" and outer and outer[-1][0] == ":"):
                 values = outer.pop()[1]
             elif word == "map":
@@ -458,7 +471,7 @@ class Maker:
         return found
 
     def letter(self, section=None):
-        return self.one(*self.sections[section or self.section], f"y{self.hole()}") if self.chance.random() < 0.98 else self.one("z", *self.names, *self.numbers, *self.lists)
+        return self.one(*self.sections[section or self.section], f"y{self.hole()}", self.one(f"{self.hole()}y", f"{self.hole()}{self.hole()}")) if self.chance.random() < 0.98 else self.one("z", *self.names, *self.numbers, *self.lists)
 
     def base(self, same=False):
         kind = self.chance.random()
@@ -469,7 +482,7 @@ class Maker:
         stems = self.chance.sample("abcd", 2)
         self.sections[name] = stems
         self.kinds[name] = self.one(*MOVES)
-        return f"{self.kinds[name]} {name} {{ {' '.join(stems)} {self.one('for i in 0 .. 3 { y{i} }', 'y0 y1 y2')} }}"
+        return f"{self.kinds[name]} {name} {{ {' '.join(stems)} {self.one('for i in 0 .. 3 { y{i} }', 'y0 y1 y2')} 0y 1y 2y {{{self.number(0)}}}{{1}} {self.one('', 'for i in 0 .. 3 { {i}0 }')} }}"
 
     def touching(self, make):
         """Items that each name a section of their own, some of them under a condition or in a loop of one pass."""

@@ -38,12 +38,11 @@ class Written:
 
     def __init__(self, name, lines, values, comments):
         self.name, self.values = name, values
-        head = [*comments, f"# from {self.title()}"]
-        self.text, self.places = "".join(f"{line}\n" for line in head), [[] for _ in head]
+        told = [(line, []) for line in (*comments, f"# from {self.title()}")]
         for comment, words in lines:
-            for line, places in ([(comment, [])] if comment else []) + [laid_out(words)]:
-                self.text += f"{line}\n"
-                self.places.append(places)
+            told += [(comment, [])] if comment else []
+            told.append(laid_out(words))
+        self.text, self.places = "".join(f"{line}\n" for line, _ in told), [places for _, places in told]
 
     def title(self):
         return titled(self.name, self.values)
@@ -76,12 +75,13 @@ def titled(name, values):
 
 def laid_out(words):
     """A line in the canonical layout, and the column of each word with its place."""
-    line, places = "", []
+    pieces, places, column = [], [], 1
     for word in words:
-        line += " " if line and word.text not in (":", ";", "*", "+") else ""
-        places.append((len(line) + 1, word.place))
-        line += word.text
-    return line, places
+        space = " " if pieces and word.text not in (":", ";", "*", "+") else ""
+        places.append((column + len(space), word.place))
+        pieces.append(space + word.text)
+        column += len(pieces[-1])
+    return "".join(pieces), places
 
 
 class Expander:
@@ -223,7 +223,7 @@ class Expander:
 
     def name_or_list(self, tree):
         """The name of a tree as a word, or the list that its variable is."""
-        if len(tree.pieces) == 1:
+        if len(tree.pieces) == 1 and isinstance(tree.pieces[0], str):
             found = self.values.get(tree.pieces[0], tree.pieces[0])
             if is_list(found):
                 return found
@@ -426,8 +426,8 @@ class Expander:
         def guard(tree):
             if next(count) > GUARDS:
                 raise self.fault(tree.place, f"too many guards: a move has at most {GUARDS}")
-            words.extend([Word("when", tree.place), *(Word(token.text, token.place) for token in (tree.quantifier, tree.region)), Word("in", tree.place)])
-            words.extend(self.set(tree.place, tree.names))
+            said = [Word(token.text, token.place) for token in (tree.quantifier, tree.region)]
+            words.extend([Word("when", tree.place), *said, Word("in", tree.place), *self.set(tree.place, tree.names)])
         self.each(move.guards, guard)
         return words
 
@@ -465,7 +465,8 @@ class Expander:
         self.each(move.pushed, letter)
         if not words and not lefts:
             raise self.fault(move.place, "the move pushes no letter")
-        return [Word("push", move.place)] * (len(words) > 0 and len(lefts) > 0) + words
+        # (after `push` alone its word stands already)
+        return [Word("push", move.place), *words] if words and lefts else words
 
 
 def first_at(place):
@@ -475,7 +476,8 @@ def first_at(place):
 def is_plain(tree, names):
     """Whether what a variable at the top is said to be depends on no other variable and on no loop."""
     if isinstance(tree, Set):
-        return all(isinstance(item, Name) and len(item.pieces) == 1 and item.pieces[0] not in names for item in tree.names)
+        return all(isinstance(item, Name) and len(item.pieces) == 1 and isinstance(item.pieces[0], str) and item.pieces[0] not in names
+                   for item in tree.names)
     if isinstance(tree, Chain):
         return all(is_plain(term, names) for term in [tree.first, *(term for _, term in tree.rest)])
     return isinstance(tree, Number)
@@ -514,7 +516,8 @@ def expand(name, data, given=()):
     expander.template(tree)
     own = cases[known.index(expander.top)].lines if expander.top in known else []
     keys = {keyed(line) for line in own}
-    written = Written(name, expander.lines, told_values(tree, expander.given, expander.top), [line for line in general if keyed(line) not in keys] + own)
+    comments = [line for line in general if keyed(line) not in keys] + own
+    written = Written(name, expander.lines, told_values(tree, expander.given, expander.top), comments)
     if len(written.text.encode()) > BYTES:
         raise Fault(Place(1, 1), f"too many bytes with the comments: a protocol has at most {BYTES}")
     return written
@@ -529,11 +532,12 @@ def chosen_cases(data, given):
 
 def expanded_cases(name, data, given):
     """What a template writes for each case: pairs of its values, as they are given, and the protocol, or the text of its refusal."""
-    found = []
+    def written(values):
+        try:
+            return expand(name, data, values)
+        except (Fault, Unknown) as fault:
+            return f"template: {fault}"
     try:
-        for values in chosen_cases(data, given):
-            found.append((pairs(values), None))
-            found[-1] = (pairs(values), expand(name, data, values))
-    except (Fault, Unknown) as fault:
-        found = [*found[:-1], (found[-1][0] if found else [], f"template: {fault}")]
-    return found
+        return [(pairs(values), written(values)) for values in chosen_cases(data, given)]
+    except Fault as fault:
+        return [([], f"template: {fault}")]

@@ -123,17 +123,33 @@ class Reader:
     # Names and numbers.
 
     def name(self, wanted="a name"):
-        """A word, and the holes and words that follow without a space."""
-        first = self.word(wanted)
-        pieces = [first.text]
-        while self.next.glued and (self.next.text == "{" or (len(pieces) > 1 and self.next.kind == "word")):
-            if self.met("{"):
-                pieces.append(self.deeper(self.expression))
-                self.take("}")
+        """Words and holes without a space between them."""
+        place, pieces = self.next.place, [self.hole() if self.next.text == "{" else self.word(wanted).text]
+        while self.next.glued and (self.next.text == "{" or (self.next.kind == "word" and not isinstance(pieces[-1], str))):
+            if self.next.text == "{":
+                pieces.append(self.hole())
             else:
                 pieces.append(self.next.text)
                 self.at += 1
-        return Name(first.place, pieces)
+        return Name(place, pieces)
+
+    def hole(self):
+        self.take("{")
+        found = self.deeper(self.expression)
+        self.take("}")
+        return found
+
+    def begins_set(self):
+        """Whether a set begins here, and not a name with a hole: that has a word or a hole right behind its first brace."""
+        if self.next.text != "{":
+            return False
+        at, depth = self.at, 0
+        while self.tokens[at].kind != "end":
+            depth += {"{": 1, "}": -1}.get(self.tokens[at].text, 0)
+            at += 1
+            if depth == 0:
+                break
+        return not (self.tokens[at].glued and (self.tokens[at].kind == "word" or self.tokens[at].text == "{"))
 
     def variable(self):
         """A word that a `let` or a loop may name."""
@@ -217,8 +233,8 @@ class Reader:
         return Set(place, self.block(self.name_in_list))
 
     def name_in_list(self):
-        if self.next.text == "{":
-            raise Fault(self.next.place, "a name cannot begin with a hole; 'let v = ..' before it gives the value a name of its own")
+        if self.next.text in ("(", "+", "-", "*", "%"):
+            raise self.wrong("a name or '}' (a hole in a name, or 'let v = ..' before, for a computed number)")
         return self.name("a name or '}'")
 
     # The template and its parts.
@@ -261,7 +277,7 @@ class Reader:
 
     def base(self, wanted, *more):
         """A letter, a set of letters, or `any`; or `same` where that may stand there."""
-        if self.next.text == "{":
+        if self.begins_set():
             return self.set()
         if found := self.met("any", *more):
             return Any(found.place) if found.text == "any" else Same(found.place)
