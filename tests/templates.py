@@ -644,6 +644,8 @@ def runs(program):
             wrong += differs(f"armc-expand {words}", told, (status, stdout, True, False))
         wrong += differs("--output", read(out), written)
         wrong += differs("what is refused by armc alone", call("armc-expand", unknown).returncode, 0)
+    found = call("armc-expand", "/dev/zero")
+    wrong += differs("an endless file", (found.returncode, found.stdout, "more than 1048576 bytes" in found.stderr), (5, "", True))
     found = call("armc-expand", "-", "n=1", input=read(path))
     wrong += differs("standard input", (found.returncode, found.stdout), (0, written.replace("permits.armct", "-")))
     with open("/dev/full", "w") as full:

@@ -15,7 +15,7 @@ import sys
 import tempfile
 
 from .expansion import Unknown, expand, pairs
-from .templates import Fault, value_of
+from .templates import BYTES, Fault, value_of
 
 HERE = os.path.dirname(os.path.abspath(__file__))
 # The folder of the tools: `tools` of the repository, or `share/armc/tools` where they are installed.
@@ -23,6 +23,8 @@ TOOLS = os.path.dirname(HERE)
 ANSWERS = ("safe", "unsafe", "unknown")
 SAFE, UNSAFE, UNKNOWN, USAGE, READ, PROTOCOL, CERTIFICATE, NOT_VALID, WRITE, MEMORY = range(10)
 NOT_RUN, INTERRUPTED = 126, 130
+# Of a template one byte more is read than it may have.
+MOST_READ = BYTES + 1
 
 Ended = collections.namedtuple("Ended", "status out err")
 
@@ -129,13 +131,13 @@ class Kept:
         self.folder.cleanup()
 
 
-def read_bytes(name):
-    """The bytes of a file, or of standard input where the name is -."""
+def read_bytes(name, most=-1):
+    """The bytes of a file, or of standard input where the name is -; no more than so many."""
     try:
         if name == "-":
-            return sys.stdin.buffer.read()
+            return sys.stdin.buffer.read(most)
         with open(name, "rb") as file:
-            return file.read()
+            return file.read(most)
     except OSError:
         raise Refused(READ, f"read fault: {name}") from None
 
@@ -155,7 +157,7 @@ def canonical(program, name):
 def written_by(name, values):
     """The protocol that the template in a file writes with these values; a refused template ends the tool."""
     try:
-        return expand(name, read_bytes(name), values)
+        return expand(name, read_bytes(name, MOST_READ), values)
     except Fault as fault:
         raise Refused(PROTOCOL, f"template: {fault}") from None
     except Unknown as unknown:
