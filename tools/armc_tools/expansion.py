@@ -187,6 +187,7 @@ class Expander:
 
     def let_at_top(self, item):
         """A variable at the top, whose value may be given."""
+        self.step(item.place)
         self.let(item)
         if item.name in self.given:
             given = self.given[item.name]
@@ -501,12 +502,16 @@ def keyed(line):
 
 
 def values_of_cases(tree, cases):
-    """The values that all variables at the top have in each case of the head."""
+    """The values that all variables at the top have in each case of the head; the steps of all cases are counted together."""
+    steps = 0
     for case in cases:
+        expander = Expander("", case.values)
+        expander.steps = steps
         try:
-            yield Expander("", case.values).values_at_top(tree)
+            yield expander.values_at_top(tree)
         except Unknown as fault:
             raise Fault(case.place, str(fault)) from None
+        steps = expander.steps
 
 
 def expand(name, data, given=()):
