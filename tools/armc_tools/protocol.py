@@ -22,12 +22,12 @@ class Protocol:
     def lines_of(self, *words):
         return [line for line in self.lines[1:] if line.split()[0] in words]
 
-    def text(self, inits=None, bads=None, order=None):
-        """The text with these rows in the place of its own, or with its sections in this order, a list of their numbers."""
+    def text(self, inits=None, bads=None, order=None, rules=None):
+        """The text with these rows or rules in the place of its own, or with its sections in this order, a list of their numbers."""
         lines = self.lines_of("cell", "array", "channel", "stack", "lossy")
         sections = [lines[k] for k in order] if order else lines
         inits, bads = self.inits if inits is None else inits, self.bads if bads is None else bads
-        return "\n".join([self.head, *sections, *inits, *self.lines_of("rule"), *bads, ""])
+        return "\n".join([self.head, *sections, *inits, *(self.lines_of("rule") if rules is None else rules), *bads, ""])
 
     def cells(self):
         """The numbers of the sections that are cells."""
