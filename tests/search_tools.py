@@ -8,6 +8,7 @@ import re
 import subprocess
 import sys
 import tempfile
+import time
 
 sys.dont_write_bytecode = True
 import definitions  # noqa: E402, beside this file
@@ -138,10 +139,54 @@ def wrong_stuck_protocol(program, path, bare):
     return wrong + differs("--stuck that is not said", (found.returncode, found.stdout, "what is stuck is not said" in found.stderr), (2, "", True))
 
 
+# A protocol with a row of each kind that leaves out a section, and a letter that a proof of it shows not to come.
+OPEN = """protocol open
+cell L { free held }
+array P { i c x }
+init { P: i i*; }
+rule enter { L: set free -> held; P: at i -> c; }
+rule leave { L: set held -> free; P: at c -> i; }
+bad { P: any* x any*; }
+"""
+
+
+def coverage(program):
+    """Limits of time and memory, rows as they come and a table at the end, proofs of the protocol that show what never comes, and open rows."""
+    with tempfile.TemporaryDirectory() as folder:
+        path = os.path.join(folder, "open.armc")
+        with open(path, "w") as file:
+            file.write(OPEN)
+        found = call(program, "armc-coverage", "--jobs", "2", path)
+        table = re.search(r"^letter  P.x +never +proof with \d states?  <-- dead$", found.stdout, re.M)
+        rows = found.stdout.partition("\nAnything may stand where a row leaves out a section:\n")[2].splitlines()
+        wrong = differs("open rows", (found.returncode, bool(table), rows), (1, True, ["  init { P: i i*; }        L", "  bad { P: any* x any*; }  L"]))
+        wrong += differs("rows as they come", sorted(re.findall(r"^  (\w+ [\w.]+): ", found.stderr, re.M)), sorted(f"{row[0]} {row[1]}" for row in rows_of_table(found.stdout)))
+        shown = call(program, "armc-coverage", "--show", "P.x", path)
+        wrong += differs("--show of a proof", (shown.returncode, judged(program, path, shown.stdout), shown.stderr), (1, True, ""))
+    hard = example("hard", "lamport_fast.armc")
+    began = time.monotonic()
+    found = call(program, "armc-coverage", "--jobs", "2", "--seconds", "2", hard)
+    late = time.monotonic() - began > 30
+    wrong += differs("a limit of time", (late, "Traceback" in found.stderr, len(rows_of_table(found.stdout))), (False, False, asked_names(program, hard)))
+    found = call(program, "armc-coverage", "--jobs", "2", "--seconds", "30", "--memory", "16", "--show", "P.cxy", hard)
+    return wrong + differs("a limit of memory", ("Traceback" in found.stderr, found.returncode in (0, 1, 2)), (False, True))
+
+
+def rows_of_table(text):
+    """The rows of a table of letters and rules, as words."""
+    return [line.split() for line in text.partition("\n\n")[0].splitlines()[1:]]
+
+
+def asked_names(program, path):
+    protocol = Protocol(read_canonical(program, path))
+    return sum(len(section.letters) for section in protocol.sections) + len(protocol.rules)
+
+
 def checks(program):
     """Each check with its name."""
     yield "rows of what is stuck", stuck_rows()
     yield "deadlocks by every method", deadlocks(program)
+    yield "coverage with limits", coverage(program)
 
 
 if __name__ == "__main__":

@@ -112,7 +112,8 @@ def terminals(program):
         words = [sys.executable, os.path.join(TOOLS, tool), *asked, *words]
         piped = subprocess.run(words, capture_output=True, text=True, timeout=SECONDS)
         shown, status = on_terminal(words)
-        texts = [re.sub(r"\d+\.\d s", "time", text.replace("\r\n", "\n")) for text in (shown, piped.stdout + piped.stderr)]
+        # (rows that are told as they come have no order of their own)
+        texts = [sorted(re.sub(r"\d+\.\d s", "time", text.replace("\r\n", "\n")).splitlines()) for text in (shown, piped.stdout + piped.stderr)]
         wrong += differs(f"{tool} on a terminal", (status, texts[0]), (piped.returncode, texts[1]))
     return wrong
 
@@ -225,7 +226,8 @@ def coverage(program):
         wrong += differs("an unknown name", found.returncode, 3)
     words = ["--budget", "20000", example("hard", "lamport_fast.armc")]
     status, out, err, left = interrupted(program, "armc-coverage", words, signal.SIGINT)
-    wrong += differs("an interrupt", (status, out, err, left), (130, "", "\narmc-coverage: interrupted\n", []))
+    told = (status, out.split()[:3], err.endswith("armc-coverage: interrupted\n"), "Traceback" in err, left)
+    wrong += differs("an interrupt", told, (130, ["name", "answer", "shown"], True, False, []))
     return wrong + wrong_rows_of_rules()
 
 
