@@ -43,12 +43,13 @@ _armc_tools() {
     *:--start) words='bad none' ;;
     *)
       case ${1##*/}:$word in
-        armc-portfolio:-*) words='--seconds --memory --jobs --budget --one-order --reordered --set --program --help' ;;
-        armc-coverage:-*) words='--budget --jobs --method --show --set --program --help' ;;
+        armc-portfolio:-*) words='--seconds --memory --jobs --budget --deadlock --but --stuck --one-order --reordered --set --program --help' ;;
+        armc-coverage:-*) words='--budget --seconds --memory --jobs --method --show --set --program --help' ;;
         armc-explain:-*) words='--method --start --budget --width --svg --html --plain --configurations --set --program --help' ;;
         armc-walk:-*) words='--random --seed --letters --set --program --help' ;;
+        armc-properties:-*) words='--seconds --memory --jobs --budget --certificates --set --program --help' ;;
         armc-expand:-*) words='--check --output --program --help' ;;
-        armc-second-opinion:-*) words='--help' ;;
+        armc-second-opinion:-*) words='--but --help' ;;
         armc-check-folder:-*) words='--program --budget --seconds --jobs --junit --set --help' ;;
         *)
           mapfile -t COMPREPLY < <(compgen -f -- "$word")
@@ -60,4 +61,4 @@ _armc_tools() {
   esac
   mapfile -t COMPREPLY < <(compgen -W "$words" -- "$word")
 }
-complete -F _armc_tools armc-portfolio armc-coverage armc-explain armc-walk armc-expand armc-second-opinion armc-check-folder
+complete -F _armc_tools armc-portfolio armc-coverage armc-explain armc-walk armc-properties armc-expand armc-second-opinion armc-check-folder

@@ -23,8 +23,13 @@ complete -c armc -n "__fish_seen_subcommand_from check gen back deadlock past ch
 for option in 'seconds:the time for all of it' 'memory:megabytes for each search' 'jobs:searches at once' 'budget:one budget for all' 'reordered:where a protocol in another order is written'
     complete -c armc-portfolio -l (string split -m1 : $option)[1] -r -d (string split -m1 : $option)[2]
 end
+complete -c armc-portfolio -l deadlock -d 'search for a configuration from which no rule leads'
+complete -c armc-portfolio -l stuck -d 'print what is stuck as bad rows'
+for tool in armc-portfolio armc-second-opinion
+    complete -c $tool -l but -x -d 'a row of ends that are meant'
+end
 complete -c armc-portfolio -l one-order -d 'leave the sections in their order'
-for option in 'budget:the budget of each search' 'jobs:searches at once' 'show:print the certificate of a letter or a rule'
+for option in 'budget:the largest budget of a search' 'seconds:the time for all of it' 'memory:megabytes for each search' 'jobs:searches at once' 'show:print the certificate of a letter or a rule'
     complete -c armc-coverage -l (string split -m1 : $option)[1] -r -d (string split -m1 : $option)[2]
 end
 for option in 'budget:of the search' 'width:the longest expression' 'svg:draw into a file' 'html:write a page'
@@ -42,11 +47,14 @@ end
 for option in 'budget:the budget of each search' 'seconds:the time of each search' 'jobs:searches at once' 'junit:write a report of JUnit'
     complete -c armc-check-folder -l (string split -m1 : $option)[1] -r -d (string split -m1 : $option)[2]
 end
+for option in 'seconds:the time for all of it' 'memory:megabytes for each search' 'jobs:searches at once' 'budget:the largest budget before the portfolio' 'certificates:write the certificates into a folder'
+    complete -c armc-properties -l (string split -m1 : $option)[1] -r -d (string split -m1 : $option)[2]
+end
 complete -c armc-expand -l check -d 'let the program read what is written'
 complete -c armc-expand -l output -r -d 'write into a file'
-for tool in armc-portfolio armc-coverage armc-explain armc-walk armc-check-folder
+for tool in armc-portfolio armc-coverage armc-explain armc-walk armc-properties armc-check-folder
     complete -c $tool -l set -x -d 'of a template: a value'
 end
-for tool in armc-portfolio armc-coverage armc-explain armc-walk armc-expand armc-check-folder
+for tool in armc-portfolio armc-coverage armc-explain armc-walk armc-properties armc-expand armc-check-folder
     complete -c $tool -l program -r -d 'the program armc'
 end

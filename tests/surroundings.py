@@ -273,7 +273,7 @@ def offered_for(tool):
     yield "bash", run(["bash", "-c", ask], cwd=TOP).stdout
     if shutil.which("zsh"):
         ask = f'_arguments() {{ print -l -- "$@" }}; words=({tool} --); CURRENT=2; service={tool}; source completions/_armc_tools'
-        yield "zsh", " ".join(["--help", *re.findall(r"^--[\w-]+", run(["zsh", "-fc", ask], cwd=TOP).stdout, re.M)])
+        yield "zsh", " ".join(["--help", *re.findall(r"^\*?(--[\w-]+)", run(["zsh", "-fc", ask], cwd=TOP).stdout, re.M)])
     if shutil.which("fish"):
         told = run(["fish", "--no-config", "-c", f"source completions/armc.fish; complete -C '{tool} --'"], cwd=TOP).stdout
         yield "fish", " ".join(["--help", *(line.split("\t")[0] for line in told.splitlines())])
@@ -282,7 +282,7 @@ def offered_for(tool):
 def completions_of_tools():
     """The options that the shells offer for each tool are those of its help, and the manual page names them all."""
     wrong, page = [], (read("man", "armc-tools.1") + read("man", "armc-expand.1")).replace("Fl -", "--")
-    for tool in ("armc-portfolio", "armc-coverage", "armc-explain", "armc-walk", "armc-expand", "armc-second-opinion", "armc-check-folder"):
+    for tool in ("armc-portfolio", "armc-coverage", "armc-explain", "armc-walk", "armc-properties", "armc-expand", "armc-second-opinion", "armc-check-folder"):
         told = run([sys.executable, os.path.join(TOP, "tools", tool.replace("armc-check", "check")), "--help"]).stdout
         options = set(re.findall(r"(?<![\w-])--[\w-]+", told))
         for shell, offered in offered_for(tool):

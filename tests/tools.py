@@ -113,7 +113,7 @@ def terminals(program):
         piped = subprocess.run(words, capture_output=True, text=True, timeout=SECONDS)
         shown, status = on_terminal(words)
         # (rows that are told as they come have no order of their own)
-        texts = [sorted(re.sub(r"\d+\.\d s", "time", text.replace("\r\n", "\n")).splitlines()) for text in (shown, piped.stdout + piped.stderr)]
+        texts = [sorted(re.sub(r"\d+(\.\d s| steps a second)", "time", text.replace("\r\n", "\n")).splitlines()) for text in (shown, piped.stdout + piped.stderr)]
         wrong += differs(f"{tool} on a terminal", (status, texts[0]), (piped.returncode, texts[1]))
     return wrong
 
@@ -134,7 +134,8 @@ def walk(program):
     wrong += differs("a random walk taken again", runs[0].stdout, runs[1].stdout)
     wrong += [] if runs[0].returncode == 1 and judged(program, example("open_door.armc"), runs[0].stdout) else [f"a random walk: {runs[0]}"]
     found = call(program, "armc-walk", "--random", "3", example("tickets.armc"))
-    wrong += differs("a walk that is no run", (found.returncode, found.stderr), (0, "armc-walk: this walk is no run into a bad configuration: not bad\n"))
+    told = re.fullmatch(r"armc-walk: 3 steps in 1 walk through \d configurations, \d+ steps a second; no walk ended in a bad configuration\n", found.stderr)
+    wrong += differs("a walk that is no run", (found.returncode, found.stdout[:27], bool(told)), (0, "# a walk, not judged\nstart ", True))
     shown, status = on_terminal([sys.executable, os.path.join(TOOLS, "armc-walk"), "--program", program, example("first.armc")], b"q\n")
     return wrong + differs("a walk on a terminal", ("step, u, r, s, p, w, ? or q: " in shown, status), (True, 0))
 
