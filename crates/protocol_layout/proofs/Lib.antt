@@ -1,5 +1,6 @@
 pub mod ForCallers
 pub mod Lexing
-pub mod PartsWritten
 pub mod MovesWritten
+pub mod PartsWritten
 pub mod ReadBack
+pub mod WordsWritten

@@ -47,8 +47,23 @@ fn write_word(out: &mut Vec<u8>, word: &[u8]) -> Result<(), AllocError>
 fn write_name(out: &mut Vec<u8>, name: &Name) -> Result<(), AllocError>
     ensures { OnOk result (out.new.items ≡ out.old.items ++ spaced name.now.text) }
 {
-    write_word(out, name.text.as_str().as_bytes())?;
+    write_word(out, name.text.as_str().as_bytes())
+}
+
+/// Writes the words one after the other.
+fn write_words(out: &mut Vec<u8>, words: &[&[u8]]) -> Result<(), AllocError>
+    ensures { OnOk result (Adds out.old.items out.new.items (map (λ w. w.now) words.now)) }
+{
+    'words: for word in words {
+        write_word(out, word)?;
+    }
     Ok(())
+}
+
+fn bytes(name: &Name) -> &[u8]
+    ensures { result.now ≡ name.now.text }
+{
+    name.text.as_str().as_bytes()
 }
 
 fn write_names(out: &mut Vec<u8>, names: &[Name]) -> Result<(), AllocError>
@@ -65,8 +80,7 @@ fn write_set(out: &mut Vec<u8>, letters: &[Name]) -> Result<(), AllocError>
 {
     write_word(out, b"{")?;
     write_names(out, letters)?;
-    write_word(out, b"}")?;
-    Ok(())
+    write_word(out, b"}")
 }
 
 fn kind_word(kind: Kind) -> &'static [u8]
@@ -125,8 +139,7 @@ fn write_atom(out: &mut Vec<u8>, atom: &AtomText) -> Result<(), AllocError>
     ensures { OnOk result (Adds out.old.items out.new.items (atom_words atom.now)) }
 {
     write_base(out, &atom.base)?;
-    write_count(out, atom.many)?;
-    Ok(())
+    write_count(out, atom.many)
 }
 
 fn write_atoms(out: &mut Vec<u8>, atoms: &[AtomText]) -> Result<(), AllocError>
@@ -150,8 +163,7 @@ fn write_pattern(out: &mut Vec<u8>, pattern: &[AtomText]) -> Result<(), AllocErr
 fn write_part(out: &mut Vec<u8>, part: &PartText) -> Result<(), AllocError>
     ensures { OnOk result (Adds out.old.items out.new.items (part_words part.now)) }
 {
-    write_name(out, &part.section)?;
-    write_word(out, b":")?;
+    write_words(out, &[bytes(&part.section), b":"])?;
     write_pattern(out, part.atoms.as_slice())?;
     write_word(out, b";")?;
     Ok(())
@@ -196,12 +208,16 @@ fn region_word(region: Region) -> &'static [u8]
 fn write_guard(out: &mut Vec<u8>, guard: &GuardText) -> Result<(), AllocError>
     ensures { OnOk result (Adds out.old.items out.new.items (guard_words guard.now)) }
 {
-    write_word(out, b"when")?;
-    write_word(out, quantifier_word(guard.all))?;
-    write_word(out, region_word(guard.region))?;
-    write_word(out, b"in")?;
-    write_set(out, guard.letters.as_slice())?;
-    Ok(())
+    write_words(
+        out,
+        &[
+            b"when",
+            quantifier_word(guard.all),
+            region_word(guard.region),
+            b"in",
+        ],
+    )?;
+    write_set(out, guard.letters.as_slice())
 }
 
 fn write_guards(out: &mut Vec<u8>, guards: &[GuardText]) -> Result<(), AllocError>
@@ -216,11 +232,7 @@ fn write_guards(out: &mut Vec<u8>, guards: &[GuardText]) -> Result<(), AllocErro
 fn write_entry(out: &mut Vec<u8>, entry: &(Name, Name)) -> Result<(), AllocError>
     ensures { OnOk result (Adds out.old.items out.new.items (entry_words entry.now)) }
 {
-    write_name(out, &entry.0)?;
-    write_word(out, b"->")?;
-    write_name(out, &entry.1)?;
-    write_word(out, b";")?;
-    Ok(())
+    write_words(out, &[bytes(&entry.0), b"->", bytes(&entry.1), b";"])
 }
 
 fn write_entries(out: &mut Vec<u8>, entries: &[(Name, Name)]) -> Result<(), AllocError>
@@ -238,11 +250,9 @@ fn write_table(out: &mut Vec<u8>, table: &[(Name, Name)]) -> Result<(), AllocErr
     match table {
         [] => Ok(()),
         [_, ..] => {
-            write_word(out, b"map")?;
-            write_word(out, b"{")?;
+            write_words(out, &[b"map", b"{"])?;
             write_entries(out, table)?;
-            write_word(out, b"}")?;
-            Ok(())
+            write_word(out, b"}")
         }
     }
 }
@@ -254,8 +264,7 @@ fn write_pushed(out: &mut Vec<u8>, letters: &[Name]) -> Result<(), AllocError>
         [] => Ok(()),
         [_, ..] => {
             write_word(out, b"push")?;
-            write_names(out, letters)?;
-            Ok(())
+            write_names(out, letters)
         }
     }
 }
@@ -267,8 +276,7 @@ fn write_popped(out: &mut Vec<u8>, letter: &Option<Name>) -> Result<(), AllocErr
         None => Ok(()),
         Some(letter) => {
             write_word(out, b"pop")?;
-            write_name(out, letter)?;
-            Ok(())
+            write_name(out, letter)
         }
     }
 }
@@ -284,13 +292,7 @@ fn write_four(
 ) -> Result<(), AllocError>
     ensures { OnOk result (Adds out.old.items out.new.items (four_words head.now a.now b.now c.now d.now)) }
 {
-    write_word(out, head)?;
-    write_name(out, a)?;
-    write_name(out, b)?;
-    write_word(out, b"->")?;
-    write_name(out, c)?;
-    write_name(out, d)?;
-    Ok(())
+    write_words(out, &[head, bytes(a), bytes(b), b"->", bytes(c), bytes(d)])
 }
 
 fn write_at_move(
@@ -303,48 +305,36 @@ fn write_at_move(
     ensures { OnOk result (Adds out.old.items out.new.items
         (codes "at" ∷ from.now.text ∷ codes "->" ∷ to.now.text ∷ (flat_map guard_words when.now ++ table_words map.now))) }
 {
-    write_word(out, b"at")?;
-    write_name(out, from)?;
-    write_word(out, b"->")?;
-    write_name(out, to)?;
+    write_words(out, &[b"at", bytes(from), b"->", bytes(to)])?;
     write_guards(out, when)?;
-    write_table(out, map)?;
-    Ok(())
+    write_table(out, map)
 }
 
 fn write_set_move(out: &mut Vec<u8>, from: &Name, to: &Name) -> Result<(), AllocError>
     ensures { OnOk result (Adds out.old.items out.new.items
         (codes "set" ∷ from.now.text ∷ codes "->" ∷ to.now.text ∷ [])) }
 {
-    write_word(out, b"set")?;
-    write_name(out, from)?;
-    write_word(out, b"->")?;
-    write_name(out, to)?;
-    Ok(())
+    write_words(out, &[b"set", bytes(from), b"->", bytes(to)])
 }
 
 fn write_letter_move(out: &mut Vec<u8>, head: &[u8], letter: &Name) -> Result<(), AllocError>
     ensures { OnOk result (Adds out.old.items out.new.items (head.now ∷ letter.now.text ∷ [])) }
 {
-    write_word(out, head)?;
-    write_name(out, letter)?;
-    Ok(())
+    write_words(out, &[head, bytes(letter)])
 }
 
 fn write_stack_move(out: &mut Vec<u8>, pop: &Option<Name>, push: &[Name]) -> Result<(), AllocError>
     ensures { OnOk result (Adds out.old.items out.new.items (popped_words pop.now ++ pushed_words push.now)) }
 {
     write_popped(out, pop)?;
-    write_pushed(out, push)?;
-    Ok(())
+    write_pushed(out, push)
 }
 
 fn write_lose_move(out: &mut Vec<u8>, base: &BaseText) -> Result<(), AllocError>
     ensures { OnOk result (Adds out.old.items out.new.items (codes "lose" ∷ base_words base.now)) }
 {
     write_word(out, b"lose")?;
-    write_base(out, base)?;
-    Ok(())
+    write_base(out, base)
 }
 
 fn write_body(out: &mut Vec<u8>, body: &MoveBody) -> Result<(), AllocError>
@@ -356,10 +346,7 @@ fn write_body(out: &mut Vec<u8>, body: &MoveBody) -> Result<(), AllocError>
             to,
             guards,
             map,
-        } => {
-            write_at_move(out, from, to, guards.as_slice(), map.as_slice())?;
-            Ok(())
-        }
+        } => { write_at_move(out, from, to, guards.as_slice(), map.as_slice()) }
         MoveBody::Pair { a, b, c, d } => write_four(out, b"pair", a, b, c, d),
         MoveBody::Ring { a, b, c, d } => write_four(out, b"ring", a, b, c, d),
         MoveBody::Two { a, b, c, d } => write_four(out, b"two", a, b, c, d),
@@ -376,8 +363,7 @@ fn write_body(out: &mut Vec<u8>, body: &MoveBody) -> Result<(), AllocError>
 fn write_step(out: &mut Vec<u8>, step: &MoveText) -> Result<(), AllocError>
     ensures { OnOk result (Adds out.old.items out.new.items (step_words step.now)) }
 {
-    write_name(out, &step.section)?;
-    write_word(out, b":")?;
+    write_words(out, &[bytes(&step.section), b":"])?;
     write_body(out, &step.body)?;
     write_word(out, b";")?;
     Ok(())
@@ -396,8 +382,7 @@ fn write_rule(out: &mut Vec<u8>, rule: &RuleText) -> Result<(), AllocError>
     ensures { OnOk result (AddsLine out.old.items out.new.items (rule_words rule.now)) }
 {
     out.extend_from_slice(b"rule")?;
-    write_name(out, &rule.name)?;
-    write_word(out, b"{")?;
+    write_words(out, &[bytes(&rule.name), b"{"])?;
     write_steps(out, rule.moves.as_slice())?;
     write_word(out, b"}")?;
     out.push(b'\n')?;
@@ -435,8 +420,7 @@ fn write_language(out: &mut Vec<u8>, language: u32) -> Result<(), AllocError>
     ensures { OnOk result (Adds out.old.items out.new.items (language_words language)) }
 {
     if 2 <= language {
-        write_word(out, b"language")?;
-        write_word(out, b"2")?;
+        write_words(out, &[b"language", b"2"])?;
     }
     Ok(())
 }
@@ -459,8 +443,7 @@ fn write_items(out: &mut Vec<u8>, protocol: &Protocol) -> Result<(), AllocError>
     write_sections(out, protocol.sections.as_slice())?;
     write_rows(out, b"init", protocol.init.as_slice())?;
     write_rules(out, protocol.rules.as_slice())?;
-    write_rows(out, b"bad", protocol.bad.as_slice())?;
-    Ok(())
+    write_rows(out, b"bad", protocol.bad.as_slice())
 }
 
 /// The text of the protocol in its canonical layout. A table without an entry is left out.
