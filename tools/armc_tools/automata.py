@@ -25,28 +25,55 @@ def language(start, step, accepts):
 
 
 def minimal(moves, finals):
-    """The smallest automaton: states that reach no end are left out, and classes are refined until no letter tells two states of one apart."""
-    live = set(finals)
-    while more := {k for k, edges in enumerate(moves) if k not in live and live.intersection(edges.values())}:
+    """The smallest automaton: states that reach no end are left out, and those of one class are made one."""
+    into = {}
+    for k, edges in enumerate(moves):
+        for target in edges.values():
+            into.setdefault(target, []).append(k)
+    live, waiting = set(finals), list(finals)
+    while waiting:
+        more = set(into.get(waiting.pop(), ())) - live
         live |= more
+        waiting += more
     if 0 not in live:
         return NONE
-    classes, count = {k: int(k in finals) for k in live}, 0
-    while count != len(set(classes.values())):
-        count = len(set(classes.values()))
-        keys = {k: (classes[k], tuple(sorted((letter, classes[t]) for letter, t in moves[k].items() if t in live))) for k in live}
-        numbers = {key: number for number, key in enumerate(sorted(set(keys.values())))}
-        classes = {k: numbers[keys[k]] for k in live}
-    edges = {classes[k]: {letter: classes[t] for letter, t in moves[k].items() if t in live} for k in live}
-    return renumbered(edges, classes[0], {classes[k] for k in finals if k in live})
+    moves = {k: {letter: t for letter, t in moves[k].items() if t in live} for k in live}
+    classes = classes_of_states(moves, set(finals))
+    return renumbered({classes[k]: {letter: classes[t] for letter, t in edges.items()} for k, edges in moves.items()}, classes[0], {classes[k] for k in finals})
+
+
+def classes_of_states(moves, finals):
+    """The class of each state: two are of one class where the same words lead from them to an end. A class is split by the states that a letter
+    leads into another class, and the smaller part is waited for (Hopcroft 1971)."""
+    into = {}
+    for k, edges in moves.items():
+        for letter, target in edges.items():
+            into.setdefault(letter, {}).setdefault(target, []).append(k)
+    blocks = [block for block in (finals, moves.keys() - finals) if block]
+    class_of = {k: number for number, block in enumerate(blocks) for k in block}
+    waiting = set(range(len(blocks)))
+    while waiting:
+        splitter = list(blocks[waiting.pop()])
+        for sources in into.values():
+            parts = {}
+            for k in (k for target in splitter for k in sources.get(target, ())):
+                parts.setdefault(class_of[k], set()).add(k)
+            for number, part in parts.items():
+                if len(part) < len(blocks[number]):
+                    new, blocks[number] = sorted((part, blocks[number] - part), key=len)
+                    class_of.update(dict.fromkeys(new, len(blocks)))
+                    waiting.add(len(blocks))
+                    blocks.append(new)
+    return class_of
 
 
 def renumbered(edges, start, finals):
-    order, at = [start], 0
-    while at < len(order):
-        order += [t for _, t in sorted(edges[order[at]].items()) if t not in order]
-        order, at = list(dict.fromkeys(order)), at + 1
-    place = {state: k for k, state in enumerate(order)}
+    place, order = {start: 0}, [start]
+    for state in order:
+        for _, target in sorted(edges[state].items()):
+            if target not in place:
+                place[target] = len(order)
+                order.append(target)
     return tuple((state in finals, tuple((letter, place[t]) for letter, t in sorted(edges[state].items()))) for state in order)
 
 
