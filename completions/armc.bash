@@ -45,12 +45,12 @@ _armc_tools() {
       case ${1##*/}:$word in
         armc-portfolio:-*) words='--seconds --memory --jobs --budget --deadlock --but --stuck --one-order --reordered --set --program --help' ;;
         armc-coverage:-*) words='--budget --seconds --memory --jobs --method --show --set --program --help' ;;
-        armc-explain:-*) words='--method --start --budget --width --svg --html --plain --configurations --set --program --help' ;;
+        armc-explain:-*) words='--method --start --budget --width --svg --html --why --plain --configurations --set --program --help' ;;
         armc-walk:-*) words='--random --seed --letters --set --program --help' ;;
         armc-properties:-*) words='--seconds --memory --jobs --budget --certificates --set --program --help' ;;
         armc-expand:-*) words='--check --output --program --help' ;;
         armc-second-opinion:-*) words='--but --help' ;;
-        armc-check-folder:-*) words='--program --budget --seconds --jobs --junit --set --help' ;;
+        armc-check-folder:-*) words='--program --budget --seconds --jobs --junit --html --set --help' ;;
         *)
           mapfile -t COMPREPLY < <(compgen -f -- "$word")
           compopt -o filenames 2>/dev/null

@@ -32,10 +32,11 @@ complete -c armc-portfolio -l one-order -d 'leave the sections in their order'
 for option in 'budget:the largest budget of a search' 'seconds:the time for all of it' 'memory:megabytes for each search' 'jobs:searches at once' 'show:print the certificate of a letter or a rule'
     complete -c armc-coverage -l (string split -m1 : $option)[1] -r -d (string split -m1 : $option)[2]
 end
-for option in 'budget:of the search' 'width:the longest expression' 'svg:draw into a file' 'html:write a page'
+for option in 'budget:of the search' 'width:the longest expression' 'svg:draw into a file' 'html:write a page to look at and step through'
     complete -c armc-explain -l (string split -m1 : $option)[1] -r -d (string split -m1 : $option)[2]
 end
 complete -c armc-explain -l start -x -a 'bad none' -d 'of the search'
+complete -c armc-explain -l why -d 'say from where each rule can fire'
 complete -c armc-explain -l plain -d 'draw without Graphviz'
 complete -c armc-explain -l configurations -d 'draw the automaton of the configurations alone'
 for tool in armc-coverage armc-explain
@@ -44,7 +45,7 @@ end
 for option in 'random:so many random steps' 'seed:of the random steps' 'letters:begin with so many letters'
     complete -c armc-walk -l (string split -m1 : $option)[1] -r -d (string split -m1 : $option)[2]
 end
-for option in 'budget:the budget of each search' 'seconds:the time of each search' 'jobs:searches at once' 'junit:write a report of JUnit'
+for option in 'budget:the budget of each search' 'seconds:the time of each search' 'jobs:searches at once' 'junit:write a report of JUnit' 'html:write a report as a page'
     complete -c armc-check-folder -l (string split -m1 : $option)[1] -r -d (string split -m1 : $option)[2]
 end
 for option in 'seconds:the time for all of it' 'memory:megabytes for each search' 'jobs:searches at once' 'budget:the largest budget before the portfolio' 'certificates:write the certificates into a folder'

@@ -1,4 +1,4 @@
-"""Pictures as SVG: automata, by Graphviz or by a plain layout in layers, and runs as charts; and pages of HTML around them."""
+"""Pictures as SVG: automata, by Graphviz or by a plain layout in layers, and runs as charts."""
 import html
 import shutil
 import subprocess
@@ -144,11 +144,3 @@ def list_box(x, y, wide, before, after):
     box = f'<rect class="box" x="{x - wide / 2 + 4:.0f}" y="{y - 12}" width="{wide - 8:.0f}" height="24" rx="4"/>'
     return [box, f'<text x="{x:.0f}" y="{y + 4}" text-anchor="middle">{" ".join(spans)}</text>']
 
-
-def page(name, source, told, picture):
-    """A page of HTML: what was told, the picture, and the protocol beside them."""
-    picture = picture[picture.index("<svg"):]
-    style = "body { font-family: sans-serif; display: flex; gap: 2em; flex-wrap: wrap } pre { font: 13px monospace }"
-    return (f'<!doctype html>\n<html lang="en"><head><meta charset="utf-8"><title>{html.escape(name)}</title><style>{style}</style></head>\n'
-            f"<body><section><h1>{html.escape(name)}</h1><pre>{html.escape(source)}</pre></section>\n"
-            f"<section><pre>{html.escape(told)}</pre>\n{picture}</section></body></html>\n")
