@@ -39,6 +39,11 @@ def asked(program, *words):
     return subprocess.run([program, *words], capture_output=True, text=True, timeout=SECONDS, stdin=subprocess.DEVNULL).stdout
 
 
+def read(path):
+    with open(path, encoding="utf-8") as file:
+        return file.read()
+
+
 def differs(what, found, wanted):
     return [] if found == wanted else [f"{what}: {str(found)[:300]!r}, and must be {str(wanted)[:300]!r}"]
 
@@ -72,8 +77,7 @@ def wrong_sets_of_moves():
     """Where the sets that a rule reads and writes among all configurations are not those of the definitions: each kind of move, in the systems of the tests."""
     wrong = []
     for path in sorted(glob.glob(os.path.join(TOP, "tests", "systems", "*.armc"))):
-        with open(path, encoding="utf-8") as file:
-            text = file.read()
+        text = read(path)
         steps, protocol = definitions.Steps(text), Protocol("\n".join(line for line in text.splitlines() if line and not line.startswith("#")))
         sections = protocol.sections
         told = closure.closure_of(protocol, proofs.trimmed(everything(sections), sections))
@@ -238,9 +242,7 @@ def written(program, path, *words):
         found = call(program, "armc-explain", "--plain", "--html", page, path, *words)
         if found.returncode:
             return f"{found.stderr}", None
-        with open(page, encoding="utf-8") as file:
-            text = file.read()
-        return text, Elements(text)
+        return read(page), Elements(read(page))
 
 
 def hostile_pages(program):
@@ -357,13 +359,12 @@ def folder_page(program):
         report, below = os.path.join(folder, "report.html"), os.path.join(folder, "of <all>", "it's below")
         os.makedirs(below)
         for name, head, text in (("lock", "safe", "tutorial/lock"), ("door", "safe", "open_door")):
-            with open(example(text), encoding="utf-8") as file, open(os.path.join(below, f"{name}.armc"), "w", encoding="utf-8") as to:
-                to.write(f"# expect: {head}\n{file.read()}")
+            with open(os.path.join(below, f"{name}.armc"), "w", encoding="utf-8") as file:
+                file.write(f"# expect: {head}\n{read(example(text))}")
         with open(os.path.join(below, "x<i>.armc"), "w") as file:
             file.write("# expect: safe\nprotocol p\narray P { a a }\n")
         found = call(program, "check-folder", "--html", report, os.path.dirname(below))
-        with open(report, encoding="utf-8") as file:
-            text = file.read()
+        text = read(report)
         page = Elements(text)
         links = [html.unescape(attributes["href"]) for tag, attributes in page.found if tag == "a"]
         wrong = differs("the report", (found.returncode, text.count('class=wrong'), len(links)), (1, 2, 4))

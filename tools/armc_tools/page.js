@@ -46,7 +46,7 @@ function boxes(section, list, marked, matters) {
     ghosts(place);
     const was = marked.was.get(place), changed = was !== undefined || marked.fresh.has(place);
     const below = [numbered ? String(place + 1) : "", was === undefined ? "" : element("span", "was", "was ", element("s", "", section.letters[was]))];
-    put(box(section, letter, matters.has(place) ? "matters" : changed ? "changed" : ""), below.filter(Boolean));
+    put(box(section, letter, (changed ? "changed" : "") + (matters.has(place) ? " matters" : "")), below.filter(Boolean));
   });
   ghosts(list.length);
   if (list.length > MOST_BOXES) made.push(element("span", "empty", `${list.length - MOST_BOXES} more are left out here`));
@@ -114,8 +114,9 @@ function player() {
     const row = at && one(document, `.source [data-row="rule-${data.steps[at - 1][0]}"]`);
     caption.replaceChildren(element("b", "", at ? `Step ${at} of ${last}: ${rule}` : `The start, before ${last} step${last === 1 ? "" : "s"}`));
     if (atEnd) caption.append(element("span", "bad", data.stuck ? ". Here no rule can fire." : ". This configuration is bad."));
-    if (row) caption.append(element("code", "", row.textContent.replace(/\s+/g, " ")));
-    else if (!at) caption.append(element("code", "", data.inits.length ? "an initial configuration" : ""));
+    if (row) caption.append(element("code", "", ...row.cloneNode(true).childNodes));
+    else if (!at) caption.append(element("code", "", "an initial configuration"));
+    if (atEnd) data.met.forEach((each) => caption.append(element("code", "", each[1])));
   }
 
   function show(fresh) {

@@ -7,7 +7,7 @@ function sortBy(head, column) {
   const down = head.getAttribute("aria-sort") === "ascending";
   const rows = [...table.tBodies[0].rows].sort((one, two) => {
     const [a, b] = [valueOf(one, column), valueOf(two, column)];
-    return typeof a === "number" ? a - b : a.localeCompare(b, "en", { numeric: true });
+    return a < b ? -1 : Number(a > b);
   });
   table.tBodies[0].append(...(down ? rows.reverse() : rows));
   table.querySelectorAll("th").forEach((each) => each.removeAttribute("aria-sort"));

@@ -13,6 +13,8 @@ ROWS = ("init", "rule", "bad")
 def token_html(token):
     if token.startswith("#"):
         return f'<i class="comment">{html.escape(token)}</i>'
+    if token == "->":
+        return '<span class="to">-&gt;</span>'
     return f"<b>{token}</b>" if token in KEYWORDS else html.escape(token)
 
 
