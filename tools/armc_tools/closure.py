@@ -18,7 +18,7 @@ CASES, STATES, TOLD = 200, 200_000, 30
 
 # A case: for each cell, by the number of its section, the places of its letters; and the language of its words.
 Case = collections.namedtuple("Case", "box words")
-# What a rule does from one case into another: the sets that it reads and writes, and a least step. `into` is None where it leads out.
+# What a rule does from one case into another, or out of the proof (None): the sets that it reads and writes, and the words of a least step.
 Way = collections.namedtuple("Way", "rule source into reads writes before after")
 
 
@@ -184,15 +184,16 @@ class Told:
     """The ways of rules in words."""
 
     def __init__(self, protocol, width):
-        self.protocol, self.sections, self.width = protocol, protocol.sections, width
+        self.cells, self.sections, self.width = protocol.cells(), protocol.sections, width
+        self.moved = {rule.name: {name for name, _ in rule.moves} for rule in protocol.rules}
         self.known = {}
 
     def values(self, way, words):
         """The values of the cells in a set: 'L free', of those cells that the rule moves or that do not have every letter in the case."""
-        moved, said = {name for name, _ in dict((rule.name, rule) for rule in self.protocol.rules)[way.rule].moves}, []
-        for k in self.protocol.cells():
+        said = []
+        for k in self.cells:
             section = self.sections[k]
-            if section.name in moved or len(way.source.box[k]) < len(section.letters):
+            if section.name in self.moved[way.rule] or len(way.source.box[k]) < len(section.letters):
                 letters = sorted(letter for letter, _ in list_of(words, k)[0][1])
                 said.append(f"{section.name} {alternatives([section.letters[letter] for letter in letters])}")
         return "; ".join(said)
@@ -208,11 +209,11 @@ class Told:
 
     def lists(self, way):
         """Triples of a section, its list before, and its list after, of the sections that the rule moves or that it does not leave as they are in the case."""
-        moved, found = {name for name, _ in next(rule for rule in self.protocol.rules if rule.name == way.rule).moves}, []
+        found = []
         for k, section in enumerate(self.sections):
             if section.kind != "cell":
                 before, after = list_of(way.reads, k), list_of(way.writes, k)
-                if section.name in moved or before != list_of(way.source.words, k):
+                if section.name in self.moved[way.rule] or before != list_of(way.source.words, k):
                     found.append((section.name, self.expression(before, section), self.expression(after, section)))
         return found
 

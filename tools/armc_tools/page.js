@@ -215,7 +215,7 @@ function example() {
 
 function member() {
   const place = one(document, ".member"), field = one(place, "input"), answer = one(place, ".answer"), moves = new Map();
-  const finals = new Set(data.finals), leftOut = new Set(data.leftOut);
+  const picked = one(document, ".picked"), finals = new Set(data.finals), leftOut = new Set(data.leftOut);
   data.edges.forEach(([p, k, letter, q]) => {
     if (!moves.has(p)) moves.set(p, new Map());
     moves.get(p).set(`${k}.${letter}`, q);
@@ -280,6 +280,7 @@ function member() {
 
   function pick(state) {
     const least = data.least[state];
+    if (picked) picked.replaceChildren(...(least ? [`The least configuration through state ${state}: `, element("code", "", least[0])] : [`No configuration through state ${state}.`]));
     if (!least) {
       field.value = "";
       answer.replaceChildren(element("p", "note", leftOut.has(state) ? `The least configuration through state ${state} is left out here, since the page would be too long.`
@@ -299,7 +300,14 @@ function member() {
     node.addEventListener("click", () => pick(state));
     node.addEventListener("keydown", (event) => { if (event.key === "Enter" || event.key === " ") { event.preventDefault(); pick(state); } });
   });
-  all(document, ".states tr[data-state]").forEach((row) => row.addEventListener("click", () => { pick(Number(row.dataset.state)); field.scrollIntoView({ block: "nearest" }); }));
+  if (picked) picked.hidden = false;
+  all(document, ".states tr[data-state]").forEach((row) => {
+    const go = () => { pick(Number(row.dataset.state)); field.scrollIntoView({ block: "nearest" }); };
+    row.addEventListener("click", go);
+    if (pictured.size) return;
+    row.setAttribute("tabindex", "0");
+    row.addEventListener("keydown", (event) => { if (event.key === "Enter") go(); });
+  });
   one(place, ".example").textContent = example();
   one(place, "form").addEventListener("submit", (event) => { event.preventDefault(); look(); });
   if (data.examples.length) one(place, ".examples").append("Try ", ...data.examples.map(([name, text]) => {

@@ -18,12 +18,12 @@ from .protocol import configuration_of
 from .ways import least_words
 
 HERE = os.path.dirname(os.path.abspath(__file__))
-# What is shown at most: rows of the table of a run, its bytes for the script, states in the picture and in their table, edges for the script, and lines of a proof.
-STEPS, LAST, RUN_BYTES, DRAWN, STATES, EDGES, LINES, WAYS = 300, 50, 20_000_000, 40, 200, 200_000, 400, 200
-# Of the words through the states so many letters.
-LETTERS = 200_000
-# An example has at most so many letters, where there is such a one.
-SHORT = 12
+# Of a run so many rows are in the table, the last of them at its end, and the script gets steps of at most so many bytes.
+STEPS, LAST, RUN_BYTES = 300, 50, 20_000_000
+# Of a proof so many lines are told, states drawn and listed, and edges given to the script; of a rule so many ways.
+LINES, DRAWN, STATES, EDGES, WAYS = 400, 40, 200, 200_000, 200
+# The least words through its states have at most so many letters together, and the one to begin with so many, where there is such a one.
+LETTERS, SHORT = 200_000, 12
 
 # What is told: the name of the file, its text, the protocol, the certificate and what `verify` says of it, the lines that tell it, the bad rows that
 # the end of a run meets, the ways of the rules of a proof (or a line that says why they are not told), and the words of the tool: the longest expression,
@@ -62,7 +62,7 @@ VERDICTS = {"safe": ("good", "Safe, for every number of processes"), "deadlock f
 
 def head(told):
     mark, verdict = VERDICTS[told.certificate.kind]
-    what = f"a proof by an automaton of {size_of(told.certificate)}" if isinstance(told.certificate, Automaton) else f"a run of {size_of(told.certificate)}"
+    what = f"a proof, an automaton of {size_of(told.certificate)}" if isinstance(told.certificate, Automaton) else f"a run of {size_of(told.certificate)}"
     judged = "judged valid by <code>armc verify</code>" if told.judged == "valid" else html.escape(told.judged)
     return ["<header>", f"<h1>{html.escape(told.name)}</h1>", f'<p class="verdict {mark}">{verdict}</p>', f'<p class="soft">Shown by {what}, {judged}.</p>', "</header>"]
 
@@ -306,6 +306,7 @@ def automaton_html(told, least, left_out):
     yield "<p>It reads the letters of a configuration from left to right, with <code>|</code> between two sections, from state 0. It accepts in the states with two circles.</p>"
     if automaton.states <= DRAWN:
         yield f'<div class="picture">{bare(drawing.automaton(told.protocol, automaton, told.given.plain))}</div>'
+        yield '<p class="picked soft" hidden>Click on a state to see the least configuration through it.</p>'
     else:
         yield f'<p class="note">The picture of {size_of(automaton)} is left out here; <code>armc-explain --svg</code> draws it.</p>'
     yield from states_table(automaton, told.protocol.sections, least, left_out)
