@@ -116,7 +116,7 @@ function player() {
     if (atEnd) caption.append(element("span", "bad", data.stuck ? ". Here no rule can fire." : ". This configuration is bad."));
     if (row) caption.append(element("code", "", ...row.cloneNode(true).childNodes));
     else if (!at) caption.append(element("code", "", "an initial configuration"));
-    if (atEnd) data.met.forEach((each) => caption.append(element("code", "", each[1])));
+    if (atEnd) data.met.forEach((each) => caption.append(element("code", "bad", each[1])));
   }
 
   function show(fresh) {
@@ -174,7 +174,11 @@ function player() {
     event.preventDefault();
     act(what);
   });
-  all(document, "tr[data-step]").forEach((row) => row.addEventListener("click", () => { pause(); go(Number(row.dataset.step)); }));
+  all(document, "tr[data-step]").forEach((row) => row.addEventListener("click", () => {
+    pause();
+    go(Number(row.dataset.step));
+    place.scrollIntoView({ block: "nearest" });
+  }));
   place.hidden = false;
   show(false);
 }
@@ -237,10 +241,10 @@ function member() {
     const end = states[states.length - 1];
     if (!states.length) return [false, "It is not in the proof: the automaton accepts nothing."];
     if (states.length <= word.length) {
-      const [k, letter] = word[states.length - 1];
-      const nth = word.slice(0, states.length).filter((each) => each[0] === k).length;
-      return [false, k < 0 ? `It is not in the proof: in state ${end} nothing may follow, and no further section.`
-        : `It is not in the proof: it leaves it at letter ${nth} of ${sections[k].name}, ${sections[k].letters[letter]}, for which state ${end} has no edge.`];
+      const read = word.slice(0, states.length), [k, letter] = read[states.length - 1];
+      const nth = read.filter((each) => each[0] === k).length;
+      const where = k < 0 ? `where ${sections[nth - 1].name} ends` : `at letter ${nth} of ${sections[k].name}, ${sections[k].letters[letter]}`;
+      return [false, `It is not in the proof: it leaves the automaton ${where}, in state ${end}.`];
     }
     return finals.has(end) ? [true, "It is in the proof."] : [false, `It is not in the proof: it ends in state ${end}, which does not accept.`];
   }

@@ -230,11 +230,15 @@ def proof_lines(told):
     yield '<div class="cards">'
     yield from cards(lines[:LINES])
     yield "</div>"
+    yield NOTATION
     if len(lines) > LINES:
         yield f'<p class="note">{len(lines) - LINES} lines more are left out here; <code>armc-explain</code> prints them.</p>'
 
 
-TRY = """<form class="try"><label for="configuration">A configuration, as <code class="example"></code></label>
+NOTATION = """<p class="soft hint"><code>a*</code> is any number of <code>a</code>, <code>a+</code> at least one, <code>a?</code> one or none,
+<code>{ a b }</code> one of these, <code>any</code> one of all letters of the section.</p>"""
+TRY = """<p>What is outside of the proof is never reached by a run; what is inside may be.</p>
+<form class="try"><label for="configuration">A configuration, as <code class="example"></code></label>
 <div class="line"><input id="configuration" type="text" autocomplete="off" autocapitalize="off" spellcheck="false"><button type="submit">Look it up</button></div></form>
 <div class="examples"></div>
 <div class="answer" aria-live="polite"></div>"""
@@ -303,7 +307,8 @@ def proof_main(told):
 
 def automaton_html(told, least, left_out):
     automaton = told.certificate
-    yield "<p>It reads the letters of a configuration from left to right, with <code>|</code> between two sections, from state 0. It accepts in the states with two circles.</p>"
+    between = ", with <code>|</code> between two sections" if len(told.protocol.sections) > 1 else ""
+    yield f"<p>It reads the letters of a configuration from left to right{between}, from state 0. It accepts in the states with two circles.</p>"
     if automaton.states <= DRAWN:
         yield f'<div class="picture">{bare(drawing.automaton(told.protocol, automaton, told.given.plain))}</div>'
         yield '<p class="picked soft" hidden>Click on a state to see the least configuration through it.</p>'
