@@ -25,10 +25,10 @@ class Browser:
     """A browser with one page."""
 
     def __init__(self, width=1280, height=900):
-        self.folder, self.number, self.left, self.told = tempfile.TemporaryDirectory(), 0, b"", []
+        self.folder, self.number, self.left, self.told = tempfile.mkdtemp(), 0, b"", []
         to_browser, self.write = os.pipe()
         self.read, from_browser = os.pipe()
-        words = [browser(), "--headless=new", "--remote-debugging-pipe", f"--user-data-dir={self.folder.name}", "--no-first-run", "--hide-scrollbars", "--disable-gpu"]
+        words = [browser(), "--headless=new", "--remote-debugging-pipe", f"--user-data-dir={self.folder}", "--no-first-run", "--hide-scrollbars", "--disable-gpu"]
         words += ["--no-sandbox"] if os.geteuid() == 0 else []
         self.process = subprocess.Popen([*words, "about:blank"], stdin=subprocess.DEVNULL, stdout=subprocess.DEVNULL, stderr=subprocess.DEVNULL, pass_fds=(3, 4),
                                         preexec_fn=lambda: (os.dup2(to_browser, 3), os.dup2(from_browser, 4)))
@@ -42,10 +42,15 @@ class Browser:
         self.window(width, height)
 
     def close(self):
+        self.session = None
+        try:
+            self.ask("Browser.close")
+            self.process.wait(SECONDS)
+        except (Fault, OSError, subprocess.TimeoutExpired):
+            self.process.kill()
+            self.process.wait()
         os.close(self.write)
-        self.process.kill()
-        self.process.wait()
-        self.folder.cleanup()
+        shutil.rmtree(self.folder, ignore_errors=True)
 
     def message(self):
         end = time.monotonic() + SECONDS

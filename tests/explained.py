@@ -7,6 +7,7 @@ import html.parser
 import json
 import os
 import re
+import shutil
 import subprocess
 import sys
 import tempfile
@@ -370,6 +371,12 @@ def folder_page(program):
         wrong = differs("the report", (found.returncode, text.count('class=wrong'), len(links)), (1, 2, 4))
         wrong += [f"no page {link}" for link in links if not os.path.exists(os.path.join(folder, urllib.parse.unquote(link)))]
         wrong += [f"the report has {tag}" for tag, _ in page.found if tag not in TAGS] + ([] if "<i>" not in text else ["a name is markup in the report"])
+        # (of a template each of its cases has a page)
+        os.makedirs(os.path.join(folder, "templates"))
+        shutil.copy(os.path.join(TOP, "examples", "templates", "filter.armct"), os.path.join(folder, "templates"))
+        call(program, "check-folder", "--html", report, "--set", "n=2", os.path.join(folder, "templates"))
+        title = read(os.path.join(folder, "report-pages", "filter.armct n=2.html"))
+        wrong += [] if "<h1>filter.armct n=2</h1>" in title else [f"the page of a template: {title[:300]}"]
         found = call(program, "check-folder", "--html", "/dev/null/report.html", below)
         return wrong + differs("a report that cannot be written", (found.returncode, "Traceback" in found.stderr), (126, False))
 
