@@ -100,6 +100,8 @@ PRODUCTIONS = (
     ("stack K { m n } rule r { K: pop any push same m same; } rule s { K: pop m; } rule t { K: push for i in 0 .. 2 { n }; }",
      "stack K { m n }\nrule r_m { K: pop m push m m m; }\nrule r_n { K: pop n push n m n; }\nrule s { K: pop m; }\nrule t { K: push n n; }"),
     ("stack K { m } rule r { K: pop m push if 1 == 2 { m }; }", "stack K { m }\nrule r { K: pop m; }"),
+    ("for x in { a b } { rule r_{x} { P: at { x }-> { a }when all left in{x}map{a->x;}; } }",
+     "rule r_a_a_a { P: at a -> a when all left in { a } map { a -> a; }; }\nrule r_b_b_a { P: at b -> a when all left in { b } map { a -> b; }; }"),
     ("cell S{1}{2} { x{1}y{2}z } rule r{1} { P: at a -> b; }", "cell S12 { x1y2z }\nrule r1 { P: at a -> b; }"),
     ("cell {1}S { {1} {2}x {3}{4}y for i in 5 .. 6 { {i} } }\nrule {0}{1} { {1}S: set {2}x -> {3}{4}y; P: at a -> b map { {9 - 9}a -> {1 - 1}a; {9 - 9}b -> {0}; }; }",
      "cell 1S { 1 2x 34y 5 }\nrule 01 { 1S: set 2x -> 34y; P: at a -> b map { 0a -> 0a; 0b -> 0; }; }"),
@@ -254,9 +256,12 @@ def expression_end(tokens, at):
 
 
 def begins_name(tokens, at, listed):
-    """Whether a name begins with the brace at this token: inside of a list, or where a word or a hole follows its end without a space."""
+    """Whether a name begins with the brace at this token: inside of a list, where a name is declared, before a colon, or where a word or a hole
+    follows its end without a space."""
     end = closing(tokens, at + 1) + 1
-    return listed or (end < len(tokens) and tokens[end][1] and (tokens[end][0] == "{" or re.match(r"\w", tokens[end][0])))
+    if listed or end == len(tokens) or (at and tokens[at - 1][0] in ("protocol", "cell", "array", "channel", "stack", "rule")):
+        return listed or end < len(tokens)
+    return tokens[end][0] == ":" or (tokens[end][1] and (tokens[end][0] == "{" or (re.match(r"\w", tokens[end][0]) and tokens[end][0] not in RESERVED)))
 
 
 def flattened(tokens, values, given=None, listed=False):
@@ -300,7 +305,7 @@ def flattened(tokens, values, given=None, listed=False):
             at += 1
         elif (re.match(r"\w", word) and word not in RESERVED) or (word == "{" and begins_name(tokens, at, outer[-1][2] if outer else listed)):
             pieces, hole = [], False
-            while not pieces or (at < len(tokens) and tokens[at][1] and (tokens[at][0] == "{" or hole and re.match(r"\w", tokens[at][0]))):
+            while not pieces or (at < len(tokens) and tokens[at][1] and (tokens[at][0] == "{" or hole and re.match(r"\w", tokens[at][0]) and tokens[at][0] not in RESERVED)):
                 hole = tokens[at][0] == "{"
                 if hole:
                     end = closing(tokens, at + 1)

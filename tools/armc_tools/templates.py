@@ -74,6 +74,11 @@ def tokens_of(text):
     return [*found, Token("end", "the end of the text", Place(line, len(text) - begin + 1), False)]
 
 
+def continues_name(token):
+    """Whether a name goes on with this token: a hole, or a word that is not reserved, right behind the one before."""
+    return token.glued and (token.text == "{" or (token.kind == "word" and token.text not in RESERVED))
+
+
 class Reader:
     """The tokens of a template, and how many of them are read."""
 
@@ -125,12 +130,8 @@ class Reader:
     def name(self, wanted="a name"):
         """Words and holes without a space between them."""
         place, pieces = self.next.place, [self.hole() if self.next.text == "{" else self.word(wanted).text]
-        while self.next.glued and (self.next.text == "{" or (self.next.kind == "word" and not isinstance(pieces[-1], str))):
-            if self.next.text == "{":
-                pieces.append(self.hole())
-            else:
-                pieces.append(self.next.text)
-                self.at += 1
+        while continues_name(self.next) and (self.next.text == "{" or not isinstance(pieces[-1], str)):
+            pieces.append(self.hole() if self.next.text == "{" else self.word(wanted).text)
         return Name(place, pieces)
 
     def hole(self):
@@ -149,7 +150,7 @@ class Reader:
             at += 1
             if depth == 0:
                 break
-        return not (self.tokens[at].glued and (self.tokens[at].kind == "word" or self.tokens[at].text == "{"))
+        return not continues_name(self.tokens[at])
 
     def variable(self):
         """A word that a `let` or a loop may name."""
