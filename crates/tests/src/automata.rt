@@ -1,64 +1,128 @@
 //! Automata that are built by hand, and their languages: what builders refuse, what automata accept, and the operations that the
-//! program does not call. Each takes a few states.
-
-ghost use Rattle.std.specs.Prelude.{◌≡◌, IfOk};
+//! program does not call. Each takes a few states. An automaton stands in a box, which each end of a function lets go by one call.
 
 use boolean_operations::{complement, difference, is_empty, union};
 use std::alloc::Global;
 use std::test::Fail;
-use word_automata::{Dfa, DfaBuilder};
+use word_automata::{Dfa, DfaBuilder, Nfa};
+
+/// Adds these states and edges.
+fn add(
+    builder: &mut DfaBuilder,
+    accepting: &[bool],
+    edges: &[(usize, u32, usize)],
+) -> Result<(), Fail> {
+    'states: for accepts in accepting {
+        builder.state(*accepts)?;
+    }
+    'edges: for &(from, letter, to) in edges {
+        builder.edge(from, letter, to)?;
+    }
+    Ok(())
+}
+
+/// The automaton over so many letters with these states and edges.
+pub(crate) fn automaton(
+    alloc: Global,
+    letters: u32,
+    accepting: &[bool],
+    edges: &[(usize, u32, usize)],
+) -> Result<Box<Dfa>, Fail> {
+    let mut builder = DfaBuilder::new(alloc, letters);
+    add(&mut builder, accepting, edges)?;
+    Ok(Box::new(alloc, builder.finish())?)
+}
+
+/// The words that the automaton refuses.
+fn refused(alloc: Global, a: &Dfa) -> Result<Box<Dfa>, Fail> {
+    Ok(Box::new(alloc, complement(alloc, a)?)?)
+}
+
+/// The words of both.
+fn united(alloc: Global, a: &Dfa, b: &Dfa) -> Result<Box<Dfa>, Fail> {
+    if a.letters() != b.letters() {
+        return Err("other letters".into());
+    }
+    Ok(Box::new(alloc, union(alloc, a, b)?)?)
+}
+
+/// The words of the first one that are not of the second.
+fn without(alloc: Global, a: &Dfa, b: &Dfa) -> Result<Box<Dfa>, Fail> {
+    if a.letters() != b.letters() {
+        return Err("other letters".into());
+    }
+    Ok(Box::new(alloc, difference(alloc, a, b)?)?)
+}
 
 /// The words over the letters 0 and 1 in which 1 stands once.
-fn one_token(alloc: Global) -> Result<Dfa, Fail>
-    ensures { IfOk result (λ m. m.letters ≡ 2) }
-{
-    let mut builder = DfaBuilder::new(alloc, 2);
-    let before = builder.state(false)?;
-    let after = builder.state(false)?;
-    builder.accept(after)?;
-    builder.edge(before, 1, after)?;
-    builder.edge(before, 0, before)?;
-    builder.edge(after, 0, after)?;
-    Ok(builder.finish())
+fn one_token(alloc: Global) -> Result<Box<Dfa>, Fail> {
+    automaton(alloc, 2, &[false, true], &[(0, 1, 1), (0, 0, 0), (1, 0, 1)])
+}
+
+/// Words, and whether 1 stands in them once and nothing but 0 beside it.
+const WORDS: [(&[u32], bool); 5] = [
+    (&[0, 1, 0], true),
+    (&[0, 1], true),
+    (&[0, 0], false),
+    (&[1, 1], false),
+    (&[1, 2], false),
+];
+
+/// Whether both automata accept each of the words, or refuse it, as told.
+fn accept_as_told(alloc: Global, dfa: &Dfa, nfa: &Nfa) -> Result<bool, Fail> {
+    'words: for (word, told) in &WORDS {
+        if dfa.accepts(word) != *told || nfa.accepts(alloc, word)? != *told {
+            return Ok(false);
+        }
+    }
+    Ok(true)
 }
 
 #[test]
 fn words_are_read(rt: HostRuntime) -> Result<(), Fail> {
     let token = one_token(rt.alloc())?;
-    assert_eq!(rt; token.edges(), 3);
-    assert!(rt; token.accepts(&[0, 1, 0]));
-    assert!(rt; !token.accepts(&[0, 0]));
-    assert!(rt; !token.accepts(&[1, 1]));
-    assert!(rt; !token.accepts(&[1, 2]));
-    let nondeterministic = token.as_nfa(rt.alloc())?;
-    assert!(rt; nondeterministic.accepts(rt.alloc(), &[0, 1])?);
-    assert!(rt; !nondeterministic.accepts(rt.alloc(), &[0, 0])?);
+    let nondeterministic = Box::new(rt.alloc(), token.as_nfa(rt.alloc())?)?;
+    assert!(rt; token.edges() == 3 && accept_as_told(rt.alloc(), &token, &nondeterministic)?);
     Ok(())
+}
+
+/// Whether each word over both letters is accepted, and no other.
+fn accepts_all(alloc: Global, all: &Dfa) -> Result<bool, Fail> {
+    let none = refused(alloc, all)?;
+    Ok(all.accepts(&[0, 1]) && !all.accepts(&[2]) && is_empty(alloc, &none)?)
+}
+
+/// Whether the first one accepts a word that the second one does not.
+fn accepts_more(alloc: Global, a: &Dfa, b: &Dfa) -> Result<bool, Fail> {
+    let rest = without(alloc, a, b)?;
+    Ok(!is_empty(alloc, &rest)?)
 }
 
 #[test]
 fn languages_are_combined(rt: HostRuntime) -> Result<(), Fail> {
-    let alloc = rt.alloc();
-    let one = one_token(alloc)?;
-    let others = complement(alloc, &one)?;
-    assert!(rt; others.accepts(&[]));
-    assert!(rt; !others.accepts(&[0, 1]));
-    let all = union(alloc, &one, &others)?;
-    assert!(rt; all.accepts(&[0, 1]));
-    assert!(rt; !all.accepts(&[2]));
-    assert!(rt; is_empty(alloc, &complement(alloc, &all)?)?);
-    assert!(rt; !is_empty(alloc, &difference(alloc, &all, &one)?)?);
+    let one = one_token(rt.alloc())?;
+    let others = refused(rt.alloc(), &one)?;
+    let all = united(rt.alloc(), &one, &others)?;
+    assert!(rt; others.accepts(&[]) && !others.accepts(&[0, 1]));
+    assert!(rt; accepts_all(rt.alloc(), &all)?);
+    assert!(rt; accepts_more(rt.alloc(), &all, &one)?);
     Ok(())
 }
 
-/// Without a state no word is accepted, and without a letter no word but the empty one.
+/// Without a state no word is accepted.
 #[test]
-fn few_letters_and_states(rt: HostRuntime) -> Result<(), Fail> {
-    let no_state = DfaBuilder::new(rt.alloc(), 1).finish();
-    assert!(rt; !no_state.accepts(&[]));
-    assert!(rt; complement(rt.alloc(), &no_state)?.accepts(&[0, 0]));
-    let no_letter = complement(rt.alloc(), &DfaBuilder::new(rt.alloc(), 0).finish())?;
-    assert!(rt; no_letter.accepts(&[]));
-    assert!(rt; !no_letter.accepts(&[0]));
+fn no_state(rt: HostRuntime) -> Result<(), Fail> {
+    let none = automaton(rt.alloc(), 1, &[], &[])?;
+    let all = refused(rt.alloc(), &none)?;
+    assert!(rt; !none.accepts(&[]) && all.accepts(&[0, 0]));
+    Ok(())
+}
+
+/// Without a letter there is no word but the empty one.
+#[test]
+fn no_letter(rt: HostRuntime) -> Result<(), Fail> {
+    let none = automaton(rt.alloc(), 0, &[], &[])?;
+    let empty = refused(rt.alloc(), &none)?;
+    assert!(rt; empty.accepts(&[]) && !empty.accepts(&[0]));
     Ok(())
 }

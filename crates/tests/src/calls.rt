@@ -10,7 +10,15 @@ use std::thread::Threads;
 pub(crate) const FIRST: &[u8] =
     b"protocol first array P { a b c } init { P: a*; } rule go { P: at a -> b; } bad { P: any* c any*; }";
 
-/// A proof of it.
+/// A token that goes around a line: it is never lost, and there are never two.
+pub(crate) const TOKEN: &[u8] =
+    b"protocol token array P { n t } init { P: t n*; } rule pass { P: pair t n -> n t; }
+bad { P: n*; } bad { P: any* t any* t any*; }";
+
+/// The same as two properties.
+const PROPERTIES: &[u8] = b"bad none { P: n*; } bad pairs { P: any* t any* t any*; }";
+
+/// A proof of the first protocol.
 const PROOF: &[u8] = b"armc 1 safe\nstates 1\nfinal 0\nedge 0 P.a 0\nedge 0 P.b 0\nend\n";
 
 /// A sink in memory: the most bytes that it takes in all, and the numbers of its calls that fail, each with the bytes that it takes.
@@ -27,7 +35,8 @@ pub(crate) const AMPLE: Room = Room {
     failing: &[],
 };
 
-/// The words, the text of `f`, and the calls of the library and of the sinks that fail. The text of `c` is `PROOF`.
+/// The words, the text of `f`, and the calls of the library and of the sinks that fail. The text of `c` is `PROOF`, and that of `p`
+/// `PROPERTIES`.
 pub(crate) struct Call {
     /// The words after the program's name.
     pub words: &'static [&'static str],
@@ -52,6 +61,13 @@ pub(crate) struct Answer {
     pub err: Vec<u8>,
 }
 
+impl Answer {
+    /// Whether the answer is this status with these bytes.
+    pub(crate) fn is(&self, status: Status, out: &[u8], err: &[u8]) -> bool {
+        self.status == status && self.out.as_slice() == out && self.err.as_slice() == err
+    }
+}
+
 /// The words as texts of their own.
 fn owned(alloc: Global, words: &[&str]) -> Result<Vec<String>, AllocError> {
     let mut texts = Vec::new(alloc);
@@ -61,11 +77,28 @@ fn owned(alloc: Global, words: &[&str]) -> Result<Vec<String>, AllocError> {
     Ok(texts)
 }
 
+/// The text with its name.
+fn named(alloc: Global, name: &str, text: &[u8]) -> Result<(String, Vec<u8>), AllocError> {
+    let name = String::from_str(alloc, name)?;
+    Ok((name, text.to_vec(alloc)?))
+}
+
+/// The texts with their names.
+pub(crate) fn texts(
+    alloc: Global,
+    all: &[(&str, &[u8])],
+) -> Result<Vec<(String, Vec<u8>)>, AllocError> {
+    let mut texts = Vec::new(alloc);
+    'texts: for (name, text) in all {
+        texts.push(named(alloc, name, text)?)?;
+    }
+    Ok(texts)
+}
+
 /// The library of the call.
 fn library(alloc: Global, call: &Call) -> Result<MemoryLibrary, AllocError> {
-    let mut texts = Vec::new(alloc);
-    texts.push((String::from_str(alloc, "f")?, call.protocol.to_vec(alloc)?))?;
-    texts.push((String::from_str(alloc, "c")?, PROOF.to_vec(alloc)?))?;
+    let named = [("f", call.protocol), ("c", PROOF), ("p", PROPERTIES)];
+    let texts = texts(alloc, &named)?;
     Ok(MemoryLibrary::new(alloc, texts, call.failing.to_vec(alloc)?))
 }
 
@@ -88,6 +121,17 @@ fn status<L: Library, O: Sink, E: Sink, G: Gate, R: Threads + Sync>(
     run(alloc, rt, words, library, out, err, gate)
 }
 
+/// The status, with what both sinks took.
+fn answer_with(
+    alloc: Global,
+    status: Status,
+    out: &MemorySink,
+    err: &MemorySink,
+) -> Result<Answer, AllocError> {
+    let (out, err) = (out.bytes().to_vec(alloc)?, err.bytes().to_vec(alloc)?);
+    Ok(Answer { status, out, err })
+}
+
 /// The answer of the call.
 pub(crate) fn answer_of<G: Gate, R: Threads + Sync>(
     alloc: Global,
@@ -99,6 +143,5 @@ pub(crate) fn answer_of<G: Gate, R: Threads + Sync>(
     let mut library = library(alloc, call)?;
     let (mut out, mut err) = (sink(alloc, &call.out)?, sink(alloc, &call.err)?);
     let status = status(alloc, rt, &words, &mut library, &mut out, &mut err, gate);
-    let (out, err) = (out.bytes().to_vec(alloc)?, err.bytes().to_vec(alloc)?);
-    Ok(Answer { status, out, err })
+    answer_with(alloc, status, &out, &err)
 }

@@ -1,16 +1,12 @@
 //! Calls whose reads or writes fail: the status, and what both sinks took. The calls that fail are numbered, and each number in turn is
 //! one row of a table.
 
-use crate::calls::{AMPLE, Call, FIRST, Room, answer_of};
+use crate::calls::{AMPLE, Call, FIRST, Room, TOKEN, answer_of};
 use armc_commands::Status;
 use armc_io::NoGate;
 use std::alloc::{AllocError, Global};
 use std::test::Fail;
 use std::thread::Threads;
-
-const TOKEN: &[u8] =
-    b"protocol token array P { n t } init { P: t n*; } rule pass { P: pair t n -> n t; }
-bad { P: n*; } bad { P: any* t any* t any*; }";
 
 const TOKEN_PROOF: &[u8] =
     b"armc 1 safe\nstates 2\nfinal 1\nedge 0 P.n 0\nedge 0 P.t 1\nedge 1 P.n 1\nend\n";
@@ -388,11 +384,7 @@ fn is_answered<R: Threads + Sync>(
     told: &FailingCall,
 ) -> Result<bool, AllocError> {
     let answer = answer_of(alloc, rt, &told.call, &NoGate)?;
-    Ok(
-        answer.status == told.status
-            && answer.out.as_slice() == told.out
-            && answer.err.as_slice() == told.err,
-    )
+    Ok(answer.is(told.status, told.out, told.err))
 }
 
 #[test]

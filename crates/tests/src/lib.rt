@@ -13,8 +13,6 @@ mod canonical_automata;
 #[cfg(test)]
 mod configurations;
 #[cfg(test)]
-mod copies;
-#[cfg(test)]
 mod failing_calls;
 #[cfg(test)]
 mod images;
@@ -24,8 +22,6 @@ mod large_automata;
 mod moves;
 #[cfg(test)]
 mod outside;
-#[cfg(test)]
-mod patterns;
 #[cfg(test)]
 mod properties;
 mod systems;

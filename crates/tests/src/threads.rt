@@ -74,47 +74,52 @@ impl Gate for Counting {
     }
 }
 
-/// How many states the image of the initial words has, for the protocol with a cell and a channel.
-fn image_size<G: Gate, R: Threads + Sync>(
-    alloc: Global,
-    rt: &R,
-    gate: &G,
-    workers: u32,
-) -> Result<usize, Fail>
-    requires { (1 ≤ workers) × (workers ≤ 16) }
-{
-    let system = system(alloc, HANDOFF)?;
-    let problem = Compiled::new(alloc, rt, gate, &system, workers)?;
-    Ok(problem.post(problem.initial())?.size())
+/// How many states the image of the initial words has, or else the preimage of the bad ones.
+fn size_of<P: Problem>(problem: &P, backward: bool) -> Result<usize, Fail> {
+    let reached = if backward {
+        problem.pre(problem.bad())?
+    } else {
+        problem.post(problem.initial())?
+    };
+    Ok(reached.size())
 }
 
-/// How many states the preimage of the bad words has, for the same protocol.
-fn preimage_size<G: Gate, R: Threads + Sync>(
+/// The same of the protocol with a cell and a channel, by so many workers.
+fn size<G: Gate, R: Threads + Sync>(
     alloc: Global,
     rt: &R,
     gate: &G,
     workers: u32,
+    backward: bool,
 ) -> Result<usize, Fail>
     requires { (1 ≤ workers) × (workers ≤ 16) }
 {
     let system = system(alloc, HANDOFF)?;
     let problem = Compiled::new(alloc, rt, gate, &system, workers)?;
-    Ok(problem.pre(problem.bad())?.size())
+    size_of(&problem, backward)
+}
+
+/// Whether both rules are in work at once, by two workers, and what is reached has so many states.
+fn meet<R: Threads + Sync>(
+    alloc: Global,
+    rt: &R,
+    backward: bool,
+    states: usize,
+) -> Result<bool, Fail> {
+    let gate = Meeting::new();
+    let size = size(alloc, rt, &gate, 2, backward)?;
+    Ok(size == states && !gate.given_up.load(Ordering::SeqCst))
 }
 
 #[test]
 fn images_of_two_rules_are_in_work_at_once(rt: HostRuntime) -> Result<(), Fail> {
-    let gate = Meeting::new();
-    assert_eq!(rt; image_size(rt.alloc(), &rt, &gate, 2)?, 4);
-    assert!(rt; !gate.given_up.load(Ordering::SeqCst));
+    assert!(rt; meet(rt.alloc(), &rt, false, 4)?);
     Ok(())
 }
 
 #[test]
 fn preimages_of_two_rules_are_in_work_at_once(rt: HostRuntime) -> Result<(), Fail> {
-    let gate = Meeting::new();
-    assert_eq!(rt; preimage_size(rt.alloc(), &rt, &gate, 2)?, 7);
-    assert!(rt; !gate.given_up.load(Ordering::SeqCst));
+    assert!(rt; meet(rt.alloc(), &rt, true, 7)?);
     Ok(())
 }
 
@@ -133,27 +138,38 @@ const HANDOFF_PROOF: &[u8] =
 fn rules_of_a_whole_search_are_in_work_at_once(rt: HostRuntime) -> Result<(), Fail> {
     let gate = Meeting::new();
     let answer = answer_of(rt.alloc(), &rt, &CHECK, &gate)?;
-    assert_eq!(rt; answer.status, Status::Done);
-    assert_eq!(rt; answer.out.as_slice(), HANDOFF_PROOF);
+    assert!(rt; answer.is(Status::Done, HANDOFF_PROOF, b""));
     assert!(rt; !gate.given_up.load(Ordering::SeqCst));
     Ok(())
 }
 
-/// How often each of the two rules is asked for its image and for its preimage, by so many workers.
-fn calls<R: Threads + Sync>(alloc: Global, rt: &R, workers: u32) -> Result<[u64; 4], Fail>
+/// Whether each of the two rules is asked once for its image, or else for its preimage, by so many workers.
+fn are_asked_once<R: Threads + Sync>(
+    alloc: Global,
+    rt: &R,
+    workers: u32,
+    backward: bool,
+) -> Result<bool, Fail>
     requires { (1 ≤ workers) × (workers ≤ 16) }
 {
-    let (post, pre) = (Counting::new(), Counting::new());
-    let _image = image_size(alloc, rt, &post, workers)?;
-    let _preimage = preimage_size(alloc, rt, &pre, workers)?;
-    let ([a, b], [c, d]) = (post.entered, pre.entered);
-    Ok([a, b, c, d].map(|calls| calls.load(Ordering::SeqCst)))
+    let gate = Counting::new();
+    let _size = size(alloc, rt, &gate, workers, backward)?;
+    let [first, second] = &gate.entered;
+    Ok(first.load(Ordering::SeqCst) == 1 && second.load(Ordering::SeqCst) == 1)
 }
 
 #[test]
-fn each_rule_is_asked_once(rt: HostRuntime) -> Result<(), Fail> {
-    assert!(rt; calls(rt.alloc(), &rt, 1)? == [1, 1, 1, 1]);
-    assert!(rt; calls(rt.alloc(), &rt, 2)? == [1, 1, 1, 1]);
-    assert!(rt; calls(rt.alloc(), &rt, 16)? == [1, 1, 1, 1]);
+fn each_rule_is_asked_once_for_its_image(rt: HostRuntime) -> Result<(), Fail> {
+    assert!(rt; are_asked_once(rt.alloc(), &rt, 1, false)?);
+    assert!(rt; are_asked_once(rt.alloc(), &rt, 2, false)?);
+    assert!(rt; are_asked_once(rt.alloc(), &rt, 16, false)?);
+    Ok(())
+}
+
+#[test]
+fn each_rule_is_asked_once_for_its_preimage(rt: HostRuntime) -> Result<(), Fail> {
+    assert!(rt; are_asked_once(rt.alloc(), &rt, 1, true)?);
+    assert!(rt; are_asked_once(rt.alloc(), &rt, 2, true)?);
+    assert!(rt; are_asked_once(rt.alloc(), &rt, 16, true)?);
     Ok(())
 }
