@@ -9,7 +9,7 @@ use Rattle.protocol_model.specs.System.{SystemData, IsValid, IsValidRow, data_of
 use Rattle.protocol_model.specs.Patterns.{fits, lists_fit, is_initial, row_matches}
 use Rattle.protocol_model.specs.Words.{IsInitialWord, word_of, joined, raised_lists}
 use Rattle.deadlock_query.specs.StuckConfigurations.{IsConfigurationWord}
-use Rattle.deadlock_query.specs.FreeRows.{free_row}
+use Rattle.deadlock_query.specs.private.FreeRows.{free_row}
 
 module _ (s free : SystemData) (same : free.sections ≡ s.sections) (rows : free.init ≡ free_row ∷ []) where
   same_word : (c : Configuration) → word_of free c ≡ word_of s c

@@ -1,4 +1,2 @@
-mod RuleSources
-mod Remainders
 mod FreeConfigurations
 mod StuckWords

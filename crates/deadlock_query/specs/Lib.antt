@@ -1,4 +1,3 @@
 pub mod StuckConfigurations
 pub mod DeadlockTask
-pub mod FreeRows
 pub mod private

@@ -6,7 +6,7 @@ ghost use Rattle.word_automata.specs.Automaton.{accepts};
 ghost use Rattle.minimise.specs.Canonical.{IsCanonical};
 ghost use Rattle.protocol_model.specs.Words.{automata_letters};
 ghost use Rattle.deadlock_query.specs.StuckConfigurations.{IsConfigurationWord};
-ghost use Rattle.deadlock_query.specs.FreeRows.{free_row};
+ghost use Rattle.deadlock_query.specs.private.FreeRows.{free_row};
 
 use minimise::Canon;
 use protocol_model::{Row, System};

@@ -1,4 +1,4 @@
--- The row that names no section; only a private contract speaks of it.
+-- The row that names no section.
 use Rattle.std.specs.Prelude.{[]}
 use Rattle.protocol_model.specs.declared.system.Row.{Row}
 
