@@ -4,13 +4,13 @@ use Rattle.std.specs.Prelude.{◌↔◌}
 use Rattle.std.proofs.lemmas.Bool.{cases_order}
 use Rattle.protocol_lexer.specs.declared.Place.{Place}
 use Rattle.protocol_lexer.specs.declared.Token.{Token}
-use Rattle.protocol_lexer.specs.Tokens.{AreTokens, IsBadByte, TokensAreDetermined, TokensExcludeBadByte, BadByteIsDetermined}
+use Rattle.protocol_lexer.specs.Tokens.{AreTokens, IsBadByte, TokensAreDetermined, TokensExcludeBadByte, TokensOrBadByte, BadByteIsDetermined}
 use Rattle.forms.specs.declared.fault.SyntaxFault.{SyntaxFault}
 use Rattle.forms.specs.declared.fault.SyntaxFault.TheVariants as Faults
 use Rattle.forms.specs.Symbol.{source_of, place_at}
 use Rattle.forms.specs.Grammar.{Grammar, IsWithin}
 use Rattle.forms.specs.Shape.{IsUniform, shape, is_told}
-use Rattle.forms.specs.FirstFault.{IsMeaning, IsFault}
+use Rattle.forms.specs.FirstFault.{IsMeaning, IsFault, MeaningOrFault}
 use Rattle.forms.specs.Reading.{Answer, read}
 use Rattle.forms.proofs.Faults.{FaultOf, ok_says, ok_no_fault, short_fault, short_says, failed_fault, failed_says}
 
@@ -111,6 +111,22 @@ module _ {A : Type 0} (x : Grammar A) (u : IsUniform x) (t : is_told (shape x) �
     apart_by : (o : Answer A) → read (source_of text ts) x 0 ≡ o → (f : SyntaxFault) (b : A) → IsFault x text f → IsMeaning x text b → ⊥
     apart_by (Ok a) e f b h k = apart_at a.0 a.1 e (same_or_not a.1 (length ts)) f b h k
     apart_by (Err fault) e f b h k = failed_text_meaning fault e b k
+
+    -- and it answers one of both
+    some_at : (a : A) (at : ℕ) → read (source_of text ts) x 0 ≡ Ok (a, at) → (at ≡ length ts) ⊎ (at ≡ length ts → ⊥) → MeaningOrFault x text
+    some_at a at e (inl whole) = inl (a, (text_meaning a at e whole a).1 refl)
+    some_at a at e (inr short) =
+        let fault = Faults.Unexpected (place_at (source_of text ts) at) in inr (fault, (short_text_fault a at e short fault).1 refl)
+
+    some_by : (o : Answer A) → read (source_of text ts) x 0 ≡ o → MeaningOrFault x text
+    some_by (Ok a) e = some_at a.0 a.1 e (same_or_not a.1 (length ts))
+    some_by (Err fault) e = inr (fault, (failed_text_fault fault e fault).1 refl)
+
+  pub meaning_or_fault : TokensOrBadByte → (text : List ℕ) → MeaningOrFault x text
+  meaning_or_fault every text = elim (every text) [
+    | inl some ↦ some_by text some.0 some.1 _ refl
+    | inr bad ↦ inr (Faults.BadByte bad.0, bad.1)
+  ]
 
   pub meaning_once : (text : List ℕ) (b c : A) → IsMeaning x text b → IsMeaning x text c → b ≡ c
   meaning_once text b c h k = meanings_by text h.0 h.1 _ refl b c h k

@@ -40,3 +40,7 @@ IsFault g text (Faults.Unexpected place) =
 IsFault g text (Faults.TooMany what place) =
     (tokens : List Token) × AreTokens text tokens × ((j : ℕ) × IsTooMany g (source_of text tokens) j what place)
 IsFault g text Faults.Memory = ⊥
+
+-- the text has a meaning or a first fault
+abbrev pub MeaningOrFault : {A : Type 0} → Grammar A → List ℕ → Type 0
+MeaningOrFault {A} g text = ((a : A) × IsMeaning g text a) ⊎ ((fault : SyntaxFault) × IsFault g text fault)

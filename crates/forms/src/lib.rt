@@ -5,6 +5,7 @@
 mod each;
 mod fault;
 mod form;
+mod law;
 mod name;
 mod one;
 mod repeated;
@@ -16,6 +17,7 @@ mod whole;
 pub use each::{FormOf, read_each};
 pub use fault::{SyntaxFault, What};
 pub use form::Form;
+pub use law::one_reading;
 pub use name::{MAX_NAME_BYTES, Name};
 pub use one::{ARROW, AnyName, BRACE_LEFT, BRACE_RIGHT, COLON, Means, OneOf, SEMICOLON, Sign};
 pub use repeated::{Item, Items, Many, UpTo, read_many};

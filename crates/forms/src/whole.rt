@@ -7,6 +7,7 @@ ghost use Rattle.forms.specs.FirstFault.{IsFault, IsMeaning};
 
 use crate::fault::SyntaxFault;
 use crate::form::Form;
+use crate::law::one_reading as one_meaning_or_fault;
 use crate::source::Source;
 use protocol_lexer::{LexFault, one_reading, tokens};
 use std::alloc::Global;
@@ -27,6 +28,7 @@ pub fn parse<X: Form>(alloc: Global, form: &X, text: &[u8]) -> Result<X::Meaning
         → (other : SyntaxFault) → IsFault (X.grammar form.now) text.now other ↔ (fault ≡ other)) }
 {
     one_reading();
+    one_meaning_or_fault(form);
     let tokens = match tokens(alloc, text) {
         Ok(tokens) => tokens,
         Err(LexFault::BadByte { place }) => return Err(SyntaxFault::BadByte { place }),

@@ -1,6 +1,6 @@
 -- Taking the pieces of a text one after the other.
-use Rattle.std.proofs.Common.{◌≡◌, ◌≢◌, ℕ, ◌+◌, ◌≤◌, ◌<◌, List, [], ◌∷◌, ◌++◌, Option, Some, None, take, drop, length, refl, sym, ap, subst, ◌∙◌, append_assoc, arith, cond, Bool, true, false, eqb}
-use Rattle.std.proofs.lemmas.List.{append-nil}
+use Rattle.std.proofs.Common.{◌≡◌, ◌≢◌, ◌⊎◌, inl, inr, ℕ, zero, suc, ◌+◌, ◌≤◌, ◌<◌, List, [], ◌∷◌, ◌++◌, Option, Some, None, take, drop, length, refl, sym, ap, subst, ◌∙◌, append_assoc, arith, cond, Bool, true, false, eqb}
+use Rattle.std.proofs.lemmas.List.{append-nil, length-drop}
 use Rattle.std.proofs.lemmas.List.Sums.{prefix_len-le-length}
 use Rattle.std.proofs.lemmas.Bool.{eqb-true}
 use Rattle.std.specs.Prelude.{IfSome}
@@ -12,7 +12,7 @@ use Rattle.protocol_lexer.specs.declared.TokenKind.TheVariants.{Arrow}
 use Rattle.protocol_lexer.specs.declared.Piece.{Piece}
 use Rattle.protocol_lexer.specs.Place.{start_place, place_after}
 use Rattle.protocol_lexer.specs.Piece.{piece, is_word_byte, is_comment_byte, is_white_space, kind_of_byte, arrow, byte_token, token_of}
-use Rattle.protocol_lexer.specs.Tokens.{Takes, AreTokens, IsBadByte}
+use Rattle.protocol_lexer.specs.Tokens.{Takes, AreTokens, IsBadByte, TokensOrBadByte}
 use Rattle.protocol_lexer.specs.private.Found.{tokens_of_piece}
 use Rattle.protocol_lexer.specs.Tokens.Takes.{nothing, after_gap, after_token}
 
@@ -168,3 +168,39 @@ not_empty (x ∷ xs) h e = cc
 pub is_empty : (xs : List ℕ) → length xs ≡ 0 → xs ≡ []
 is_empty [] h = refl
 is_empty (x ∷ xs) h = absurd (omega arith)
+
+-- each text is taken to its end, or to a byte that begins nothing
+abbrev Stops : List ℕ → ℕ → Place → Type 0
+Stops bytes offset place =
+    (tokens : List Token) × (rest : List ℕ) × (end : Place) × Takes bytes offset place tokens rest end × ((rest ≡ []) ⊎ ((rest ≢ []) × (piece rest ≡ None)))
+
+stops_after : (bytes : List ℕ) (offset : ℕ) (place : Place) (kind : Option TokenKind) (n : ℕ) → piece bytes ≡ Some (record { kind = kind; length = n })
+    → Stops (drop n bytes) (offset + n) (place_after place (take n bytes)) → Stops bytes offset place
+stops_after bytes offset place None n e (tokens, rest, end, taken, how) =
+    (tokens, rest, end, Takes.after_gap bytes offset place tokens rest end n e taken, how)
+stops_after bytes offset place (Some kind) n e (tokens, rest, end, taken, how) =
+    let token : Token = record { kind = kind; start = offset; end = offset + n; place = place } in
+    (token ∷ tokens, rest, end, Takes.after_token bytes offset place token tokens rest end n kind e refl taken, how)
+
+stops_at : (bytes : List ℕ) (offset : ℕ) (place : Place) → (bytes ≡ [] → ⊥) → (o : Option Piece) → piece bytes ≡ o
+    → ((p : Piece) → piece bytes ≡ Some p → Stops (drop p.length bytes) (offset + p.length) (place_after place (take p.length bytes)))
+    → Stops bytes offset place
+stops_at bytes offset place some None e later = ([], bytes, place, Takes.nothing bytes offset place, inr (some, e))
+stops_at bytes offset place some (Some p) e later = stops_after bytes offset place p.kind p.length e (later p e)
+
+stops : (most : ℕ) (bytes : List ℕ) (offset : ℕ) (place : Place) → length bytes ≤ most → Stops bytes offset place
+stops most [] offset place few = ([], [], place, Takes.nothing [] offset place, inl refl)
+stops zero (b ∷ bytes) offset place few = absurd (omega (arith, few))
+stops (suc most) (b ∷ bytes) offset place few =
+    stops_at (b ∷ bytes) offset place (λ none. cc) (piece (b ∷ bytes)) refl (λ p e.
+    stops most (drop p.length (b ∷ bytes)) (offset + p.length) (place_after place (take p.length (b ∷ bytes))) (fewer p e))
+  where
+    fewer : (p : Piece) → piece (b ∷ bytes) ≡ Some p → length (drop p.length (b ∷ bytes)) ≤ most
+    fewer p e = omega (arith, few, length-drop p.length (b ∷ bytes), (piece_length (b ∷ bytes) p e).0)
+
+pub every_text : TokensOrBadByte
+every_text text = told (stops (length text) text 0 start_place (omega arith))
+  where
+    told : Stops text 0 start_place → ((tokens : List Token) × AreTokens text tokens) ⊎ ((place : Place) × IsBadByte text place)
+    told (tokens, rest, end, taken, inl none) = inl (tokens, (end, subst (λ (xs : List ℕ). Takes text 0 start_place tokens xs end) none taken))
+    told (tokens, rest, end, taken, inr (some, begins_none)) = inr (end, (tokens, rest, taken, some, begins_none))

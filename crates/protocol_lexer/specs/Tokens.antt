@@ -1,5 +1,5 @@
 -- The tokens of a text.
-use Rattle.std.specs.Prelude.{◌≡◌, ◌≢◌, ◌<◌, ◌≤◌, ℕ, ◌+◌, List, [], ◌∷◌, Some, None, take, drop, length, true}
+use Rattle.std.specs.Prelude.{◌≡◌, ◌≢◌, ◌⊎◌, ◌<◌, ◌≤◌, ℕ, ◌+◌, List, [], ◌∷◌, Some, None, take, drop, length, true}
 use Rattle.std.specs.List.{slice_range, list_all, AllByRecursion}
 use Rattle.protocol_lexer.specs.declared.Place.{Place}
 use Rattle.protocol_lexer.specs.declared.Token.{Token}
@@ -59,3 +59,7 @@ BadByteIsDetermined = (text : List ℕ) (one other : Place) → IsBadByte text o
 -- no text has both a list of tokens and a bad byte
 abbrev pub TokensExcludeBadByte : Type 0
 TokensExcludeBadByte = (text : List ℕ) (tokens : List Token) (place : Place) → AreTokens text tokens → IsBadByte text place → ⊥
+
+-- each text has a list of tokens or a bad byte
+abbrev pub TokensOrBadByte : Type 0
+TokensOrBadByte = (text : List ℕ) → ((tokens : List Token) × AreTokens text tokens) ⊎ ((place : Place) × IsBadByte text place)

@@ -8,7 +8,7 @@ ghost use Rattle.protocol_lexer.specs.Piece.{arrow, is_comment_byte, is_word_byt
 ghost use Rattle.std.specs.List.{list_all, prefix_len};
 ghost use Rattle.protocol_lexer.specs.Tokens.{AreTokens, IsBadByte, LieInOrder};
 ghost use Rattle.protocol_lexer.specs.private.Found.{tokens_of_piece};
-ghost use Rattle.protocol_lexer.specs.Tokens.{BadByteIsDetermined, TokensAreDetermined, TokensExcludeBadByte};
+ghost use Rattle.protocol_lexer.specs.Tokens.{BadByteIsDetermined, TokensAreDetermined, TokensExcludeBadByte, TokensOrBadByte};
 
 use std::alloc::Global;
 use thiserror::Error;
@@ -259,9 +259,10 @@ fn kind_of_byte(b: u8) -> Option<TokenKind>
     }
 }
 
-/// A text has at most one list of tokens or first bad byte, and never both.
+/// A text has one list of tokens or one first bad byte, and never both.
 pub fn one_reading()
     ensures tokens { TokensAreDetermined }
     ensures bad_byte { BadByteIsDetermined }
     ensures either { TokensExcludeBadByte }
+    ensures every { TokensOrBadByte }
 {}

@@ -4,3 +4,4 @@ pub mod Properties
 pub mod Spacing
 pub mod OneReading
 pub mod FirstLanguage
+pub mod Limits

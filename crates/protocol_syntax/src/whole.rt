@@ -4,6 +4,7 @@
 ghost use Rattle.std.specs.Prelude.{◌≡◌, ◌≢◌, ◌↔◌, IfErr, IfOk};
 ghost use Rattle.protocol_syntax.specs.Grammar.{IsFirstFault, IsProtocol, protocol, second_language};
 
+use crate::law::limits_and_words;
 use crate::limits::{MAX_ROWS, MAX_RULES};
 use crate::moves::Rule;
 use crate::protocol::Protocol;
@@ -114,5 +115,6 @@ pub fn parse(alloc: Global, text: &[u8]) -> Result<Protocol, SyntaxFault>
     ensures fault { IfErr result (λ fault. fault ≢ SyntaxFault.Memory
         → (other : SyntaxFault) → IsFirstFault text.now other ↔ (fault ≡ other)) }
 {
+    limits_and_words();
     forms::parse(alloc, &WholeProtocol, text)
 }

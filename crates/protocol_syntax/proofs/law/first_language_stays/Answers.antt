@@ -1,5 +1,5 @@
-use Rattle.protocol_syntax.proofs.FirstLanguage.{first_language}
+use Rattle.protocol_syntax.proofs.FirstLanguage.{first_language, stays, faults_stay}
 use Rattle.protocol_syntax.proofs.law.first_language_stays.Goals as goal
 
 pub returns : goal.returns
-returns c = first_language
+returns c = record { language_1 = first_language; protocol = stays; fault = faults_stay }
