@@ -1,4 +1,4 @@
--- Laws: a text means one certificate or has one first fault, and never both.
+-- Laws: a text means at most one certificate or has at most one first fault, and never both.
 use Rattle.std.specs.Prelude.{◌≡◌, ℕ, List}
 use Rattle.protocol_model.specs.System.{SystemData, IsValid}
 use Rattle.certificate.specs.declared.fault.CertFault.{CertFault}

@@ -1,4 +1,4 @@
--- Laws: a text means one configuration of a system or has one first fault, and never both.
+-- Laws: a text means at most one configuration of a system or has at most one first fault, and never both.
 use Rattle.std.specs.Prelude.{◌≡◌, ℕ, List}
 use Rattle.protocol_model.specs.declared.system.Configuration.{Configuration}
 use Rattle.protocol_model.specs.System.{SystemData, IsValid}

@@ -1,5 +1,5 @@
 //! Moves of cells, channels and stacks as transducers: one transducer relates the lists before and after a move, of every length.
-//! The machines have one state more than they exchange letters at the ends.
+//! A machine has one state more than it exchanges letters at the ends, and two where a letter leaves a list wherever it stands.
 #![tactic(auto)]
 
 mod cut;

@@ -1,8 +1,8 @@
 //! The words of the initial and of the bad configurations of a system, as automata.
 //!
 //! The words of each row are accepted by a nondeterministic automaton, which is built from the ends of the words to their fronts: each
-//! state is added in front of a state that accepts what may follow. It is made canonical alone, and the rows are then united one after
-//! the other, canonical after each, so that many rows cost what their unions do.
+//! state is added in front of a state that accepts what may follow. It is made canonical alone, and the rows are then united by halves of
+//! their list, canonical after each union, so that many rows cost what their unions do.
 #![tactic(auto)]
 
 mod letters;
