@@ -5,6 +5,7 @@ import glob
 import os
 import random
 import re
+import signal
 import subprocess
 import sys
 import tempfile
@@ -182,11 +183,109 @@ def asked_names(program, path):
     return sum(len(section.letters) for section in protocol.sections) + len(protocol.rules)
 
 
+# Properties of examples/tickets.armc, of which some hold and some fail.
+PROPS = """# what holds, and what does not
+bad two_inside { P: any* c any* c any*; }
+bad behind_the_door { P: any* { i w } any* c any*; }   # (a process that waits on the left)
+bad behind_the_door { P: any* w i any* c any*; }
+bad waiting { P: any* w any*; }
+bad inside_and_waiting_left { P: any* w any* c any*; }
+"""
+
+
+def properties(program):
+    """The table, the certificates of a folder, what a given certificate shows, and what is refused."""
+    wrong, tickets = [], example("tickets.armc")
+    with tempfile.TemporaryDirectory() as folder:
+        path, kept = os.path.join(folder, "props"), os.path.join(folder, "kept")
+        with open(path, "w") as file:
+            file.write(PROPS)
+        found = call(program, "armc-properties", "--jobs", "2", "--certificates", kept, tickets, path)
+        rows = {row[0]: row[1:] for row in (line.split() for line in found.stdout.splitlines()[1:])}
+        alone = subprocess.run([program, "checkall", tickets, path], capture_output=True, text=True).stdout
+        told = dict(re.findall(r"^property (\w+)\narmc 1 (\w+)$", alone, re.M))
+        wrong += differs("the answers", (found.returncode, {name: row[0] for name, row in rows.items()}), (1, told))
+        for name, row in rows.items():
+            files = [os.path.join(kept, f"{name}.armc"), os.path.join(kept, row[-1])]
+            wrong += [] if judged(program, files[0], read(files[1])) else [f"{files} are not judged valid"]
+        proof = os.path.join(kept, rows["two_inside"][-1])
+        found = call(program, "armc-properties", tickets, path, proof)
+        shown = [line.split()[:2] for line in found.stdout.splitlines()[1:]]
+        wrong += differs("what a proof shows", (found.returncode, shown[0], len(shown)), (2, ["two_inside", "safe"], 4))
+        found = call(program, "armc-properties", tickets, path, "-", text=read(os.path.join(kept, rows["waiting"][-1])))
+        wrong += differs("what a run shows", (found.returncode, "waiting                  unsafe" in found.stdout), (1, True))
+        found = call(program, "armc-properties", tickets, path, "-", text="armc 1 unknown\n")
+        wrong += differs("no certificate", (found.returncode, found.stderr), (6, "armc: certificate: line 1: nothing to verify\n"))
+        wrong += wrong_properties(program, path) + one_proof_for_many(program, folder)
+    return wrong
+
+
+def one_proof_for_many(program, folder):
+    """Where each search alone reaches its budget, one check of all together answers."""
+    path = os.path.join(folder, "many")
+    with open(path, "w") as file:
+        file.write(PROPS)
+    found = call(program, "armc-properties", "--jobs", "2", "--budget", "3", "--seconds", "20", example("tickets.armc"), path)
+    return differs("by the portfolio", (found.returncode, "unknown" in found.stdout), (1, False))
+
+
+def wrong_properties(program, path):
+    """Faults: a text of properties that is refused, missing files, a refused protocol, a full device, an interrupt."""
+    wrong, tickets = [], example("tickets.armc")
+    with tempfile.TemporaryDirectory() as folder:
+        refused = os.path.join(folder, "refused")
+        with open(refused, "w") as file:
+            file.write("bad one { P: any* z; }\n")
+        for words, status, said in (([tickets], 3, "usage: "), ([tickets, refused], 6, "armc: properties: line 1 column 19: unknown z\n"),
+                                    ([tickets, os.path.join(folder, "nowhere")], 4, "read fault"), ([os.path.join(folder, "nowhere"), path], 4, "read fault"),
+                                    ([refused, path], 5, "armc: protocol: line 1 column 1: unexpected token\n"), ([tickets, "-", "-"], 3, "one text alone")):
+            found = call(program, "armc-properties", *words)
+            wrong += differs(f"armc-properties {words}", (found.returncode, found.stdout, said in found.stderr, "Traceback" in found.stderr), (status, "", True, False))
+        with open("/dev/full", "w") as full:
+            found = call(program, "armc-properties", tickets, path, capture_output=False, stdout=full, stderr=subprocess.PIPE)
+        wrong += differs("a full device", (found.returncode, "Traceback" in found.stderr), (8, False))
+    tool = [sys.executable, os.path.join(TOOLS, "armc-properties"), "--program", program, "--jobs", "1", tickets, path]
+    shown, status = on_terminal(tool)
+    piped = subprocess.run(tool, capture_output=True, text=True)
+    wrong += differs("on a terminal", (status, shown.replace("\r\n", "\n")), (piped.returncode, piped.stdout))
+    with tempfile.TemporaryDirectory() as folder:
+        hard = os.path.join(folder, "hard")
+        with open(hard, "w") as file:
+            file.write("bad both { P: any* { c cy cx cxy } any* { c cy cx cxy } any*; }\n")
+        status, out, err, left = interrupted(program, "armc-properties", [example("hard", "lamport_fast.armc"), hard], signal.SIGINT)
+    return wrong + differs("an interrupt", (status, out.split()[:2], "Traceback" in err, left), (130, ["property", "answer"], False, []))
+
+
+def head_commands(program):
+    """The commands in heads of protocols of a folder, ends that are meant, sizes of proofs, and words that mean nothing."""
+    bare = "\n".join(line for line in read(example("tickets.armc")).splitlines() if not line.startswith("#"))
+    with tempfile.TemporaryDirectory() as folder:
+        with open(os.path.join(folder, "p.props"), "w") as file:
+            file.write(PROPS)
+        for name, head, text in (
+            ("back", "# command: back\n# expect: safe\n", bare), ("past", "# command: past\n# options: --bound 1\n# expect: safe\n", bare),
+            ("check", "# expect: safe\n", bare), ("free", "# command: deadlock\n# expect: deadlock free\n", bare),
+            ("end", "# command: deadlock\n# expect: deadlock\n", ENDS), ("meant", f"# command: deadlock\n# may end: {END}\n# expect: deadlock free\n", ENDS),
+            ("properties", "# command: properties p.props\n# expect: unsafe\n", bare), ("none", "# command: backward\n# expect: safe\n", bare),
+            ("options", "# options: --methods length\n# expect: safe\n", bare),
+        ):
+            with open(os.path.join(folder, f"{name}.armc"), "w") as file:
+                file.write(f"{head}{text}\n")
+        found = call(program, "check-folder", "--jobs", "2", folder)
+    shown = {os.path.basename(line.split()[0])[:-5]: re.sub(r"^.*\d s +| +<-- .*", "", line) for line in found.stdout.splitlines()[1:-1]}
+    wrong = differs("commands of heads", (found.returncode, found.stdout.splitlines()[-1]), (1, "7 as expected, 2 not, 0 expect nothing"))
+    wrong += differs("words that mean nothing", shown["options"], "the words mean nothing: check --methods length")
+    wrong += differs("a command that is none", shown["none"], "backward is no command for a head")
+    return wrong + differs("a proof, a run and properties", (shown["free"], shown["end"], shown["properties"]), ("proof with 2 states", "run of 2 steps", "2 safe, 2 unsafe"))
+
+
 def checks(program):
     """Each check with its name."""
     yield "rows of what is stuck", stuck_rows()
     yield "deadlocks by every method", deadlocks(program)
     yield "coverage with limits", coverage(program)
+    yield "armc-properties", properties(program)
+    yield "commands in heads", head_commands(program)
 
 
 if __name__ == "__main__":

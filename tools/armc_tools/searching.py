@@ -1,6 +1,8 @@
 """Calls of the program side by side, each in a process of its own with limits of memory and time."""
 import collections
+import contextlib
 import os
+import signal
 import subprocess
 import tempfile
 import time
@@ -9,11 +11,31 @@ from .program import MEMORY, Ended, limited
 
 # The status of a call that was stopped since its time was over.
 STOPPED = None
+SIGNALS = {signal.SIGINT, signal.SIGTERM, signal.SIGHUP}
 # So many seconds are between two looks at what runs.
 PAUSE = 0.005
 
 # What is to be called: a key by which its end is told, the words, and the seconds that it may take.
 Task = collections.namedtuple("Task", "key words seconds")
+
+
+@contextlib.contextmanager
+def held():
+    """Signals that end the tool wait, so that what is started is known before it has to be stopped."""
+    signal.pthread_sigmask(signal.SIG_BLOCK, SIGNALS)
+    try:
+        yield
+    finally:
+        signal.pthread_sigmask(signal.SIG_UNBLOCK, SIGNALS)
+
+
+def released(memory=None):
+    """What a process does first that is started while signals wait."""
+    def begin():
+        signal.pthread_sigmask(signal.SIG_UNBLOCK, SIGNALS)
+        if memory:
+            limited(memory)()
+    return begin
 
 
 class Search:
@@ -22,7 +44,7 @@ class Search:
     def __init__(self, program, task, memory, end):
         self.key, self.end = task.key, min(end, time.monotonic() + task.seconds)
         self.texts = [tempfile.TemporaryFile() for _ in range(2)]
-        self.process = subprocess.Popen([program.path, *task.words], stdin=subprocess.DEVNULL, stdout=self.texts[0], stderr=self.texts[1], preexec_fn=limited(memory))
+        self.process = subprocess.Popen([program.path, *task.words], stdin=subprocess.DEVNULL, stdout=self.texts[0], stderr=self.texts[1], preexec_fn=released(memory))
 
     def running(self):
         return self.process.poll() is None and time.monotonic() < self.end
@@ -49,7 +71,8 @@ def side_by_side(program, tasks, jobs, memory, end):
     try:
         while True:
             while len(running) < jobs and time.monotonic() < end and (task := next(tasks, None)):
-                running.append(Search(program, task, memory, end))
+                with held():
+                    running.append(Search(program, task, memory, end))
             if not running:
                 return
             for search in [search for search in running if not search.running()]:
