@@ -84,12 +84,12 @@ function applied(list, edit) {
 
 // The rows of the protocol's text.
 
-function markRows(kind, names) {
+function markRows(kind, names, follow = true) {
   all(document, ".source .row").forEach((row) => row.classList.remove("fired", "met", "begun"));
   const rows = names.map((name) => one(document, `.source [data-row="${name}"]`)).filter(Boolean);
   rows.forEach((row) => row.classList.add(kind));
   const pane = one(document, "aside");
-  if (rows.length && pane.scrollHeight > pane.clientHeight + 4) {
+  if (follow && rows.length && pane.scrollHeight > pane.clientHeight + 4) {
     const [top, height] = [rows[0].getBoundingClientRect().top - pane.getBoundingClientRect().top, pane.clientHeight];
     if (top < 0 || top > height - 40) pane.scrollTop += top - height / 3;
   }
@@ -119,7 +119,7 @@ function player() {
     if (atEnd) data.met.forEach((each) => caption.append(element("code", "bad", each[1])));
   }
 
-  function show(fresh) {
+  function show(fresh, follow = true) {
     const matters = new Map(at === last ? data.met.flatMap((each) => each[2]) : []);
     const edits = new Map(at ? data.steps[at - 1][1].map(([k, ...edit]) => [k, edit]) : []);
     stage.classList.toggle("fresh", fresh);
@@ -130,11 +130,11 @@ function player() {
     slider.setAttribute("aria-valuetext", `step ${at} of ${last}`);
     all(place, "[data-go=first], [data-go=back]").forEach((button) => { button.disabled = at === 0; });
     all(place, "[data-go=next], [data-go=last]").forEach((button) => { button.disabled = at === last; });
-    if (at) markRows("fired", [`rule-${data.steps[at - 1][0]}`]); else markRows("begun", data.inits.map((k) => `init-${k}`));
-    if (at === last) data.met.forEach((each) => { const row = one(document, `.source [data-row="bad-${each[0]}"]`); if (row) row.classList.add("met"); });
     const now = one(document, "tr.now"), next = one(document, `tr[data-step="${at}"]`);
     if (now) now.classList.remove("now");
     if (next) next.classList.add("now");
+    if (at) markRows("fired", [`rule-${data.steps[at - 1][0]}`], follow); else markRows("begun", data.inits.map((k) => `init-${k}`), follow);
+    if (at === last) data.met.forEach((each) => { const row = one(document, `.source [data-row="bad-${each[0]}"]`); if (row) row.classList.add("met"); });
   }
 
   function go(to, fresh = true) {
@@ -180,7 +180,7 @@ function player() {
     place.scrollIntoView({ block: "nearest" });
   }));
   place.hidden = false;
-  show(false);
+  show(false, false);
 }
 
 // A proof.
