@@ -704,7 +704,7 @@ def tools(program):
                 wrong += differs(f"{tool} {more}", (found.returncode, found.stdout, said in found.stderr), (status, "", True))
         page_of, picture = (os.path.join(folder, name) for name in ("p.html", "p.svg"))
         call("armc-explain", "--program", program, "--set", "n=2", "--plain", "--html", page_of, "--svg", picture, path)
-        wrong += [] if "counter.armct with n=2, wraps=1" in read(page_of) and "rule enter_0" in read(page_of) else ["the page of a template does not name its values"]
+        wrong += [] if "counter.armct with n=2, wraps=1" in read(page_of) and "<b>rule</b> enter_0" in read(page_of) else ["the page of a template does not name its values"]
     return wrong
 
 
