@@ -15,6 +15,7 @@ import sys
 import tempfile
 
 from .expansion import Unknown, expand, pairs
+from .memory import share
 from .templates import BYTES, Fault, value_of
 
 HERE = os.path.dirname(os.path.abspath(__file__))
@@ -50,6 +51,7 @@ class Program:
 
     def __init__(self, path):
         self.path, self.running = path, set()
+        self.share_memory(1)
         here = os.path.dirname(os.path.abspath(path)) if os.sep in path else ""
         if here and os.path.exists(os.path.join(here, "tools", "build-program")):
             # The launcher builds the program where it has to, and says how far it is.
@@ -66,13 +68,20 @@ class Program:
         if here and os.access(built, os.X_OK) and os.environ.get("ARMC_TRY", "") in ("", "0"):
             self.path = built
 
+    def share_memory(self, jobs, most=None):
+        """The memory of each call from now on, where so many run at once (memory.py), in bytes or None."""
+        try:
+            self.memory = share(jobs, most)
+        except ValueError as fault:
+            raise Refused(NOT_RUN, str(fault)) from None
+
     def has(self, command, option=""):
         return command in self.commands and option in self.commands[command]
 
     def call(self, *words, memory=None):
-        """Status, standard output and standard error of one call, with at most so many bytes of memory."""
+        """Status, standard output and standard error of one call, with at most so many bytes of memory, or those of its share."""
         try:
-            process = subprocess.Popen([self.path, *words], stdin=subprocess.DEVNULL, stdout=subprocess.PIPE, stderr=subprocess.PIPE, preexec_fn=limited(memory))
+            process = subprocess.Popen([self.path, *words], stdin=subprocess.DEVNULL, stdout=subprocess.PIPE, stderr=subprocess.PIPE, preexec_fn=limited(memory or self.memory))
         except OSError as fault:
             raise Refused(NOT_RUN, f"{self.path} does not run: {fault.strerror}") from None
         self.running.add(process)
@@ -105,7 +114,9 @@ class Program:
 
 def limited(memory):
     """What a started process does first: it takes its limit of memory."""
-    return functools.partial(resource.setrlimit, resource.RLIMIT_AS, (memory, memory)) if memory else None
+    hard = resource.getrlimit(resource.RLIMIT_AS)[1]
+    least = min(each for each in (memory, hard) if each != resource.RLIM_INFINITY) if memory else None
+    return functools.partial(resource.setrlimit, resource.RLIMIT_AS, (least, least)) if memory else None
 
 
 class Kept:
@@ -210,7 +221,7 @@ class Words(argparse.ArgumentParser):
     def parse_args(self, *words):
         """The words; a file whose name begins with - is named so that no program takes it for an option."""
         given = super().parse_args(*words)
-        if given.file.startswith("-") and given.file != "-":
+        if (given.file or "").startswith("-") and given.file != "-":
             given.file = os.path.join(os.curdir, given.file)
         return given
 
