@@ -41,16 +41,19 @@ _armc_tools() {
   case ${1##*/}:$before in
     *:--method) words='predicates length' ;;
     *:--start) words='bad none' ;;
+    armc-export:--to) words='mona openfst mata dot' ;;
     *)
       case ${1##*/}:$word in
-        armc-portfolio:-*) words='--seconds --memory --jobs --budget --deadlock --but --stuck --one-order --reordered --set --program --help' ;;
+        armc-portfolio:-*) words='--seconds --memory --jobs --budget --deadlock --but --stuck --one-order --reordered --list --first --collect --rest --from --set --program --help' ;;
         armc-coverage:-*) words='--budget --seconds --memory --jobs --method --show --set --program --help' ;;
         armc-explain:-*) words='--method --start --budget --width --svg --html --why --plain --configurations --set --program --help' ;;
         armc-walk:-*) words='--random --seed --letters --set --program --help' ;;
         armc-properties:-*) words='--seconds --memory --jobs --budget --certificates --set --program --help' ;;
         armc-expand:-*) words='--check --output --program --help' ;;
         armc-second-opinion:-*) words='--but --help' ;;
-        armc-check-folder:-*) words='--program --budget --seconds --jobs --junit --html --set --help' ;;
+        armc-export:-*) words='--to --judge --seconds --out --parts --rules --properties --property --set --help' ;;
+        armc-search-one:-*) words='--first --needs-answer --print --help' ;;
+        armc-check-folder:-*) words='--program --budget --seconds --jobs --junit --html --memory --list --collect --rest --from --set --help' ;;
         *)
           mapfile -t COMPREPLY < <(compgen -f -- "$word")
           compopt -o filenames 2>/dev/null
@@ -61,4 +64,4 @@ _armc_tools() {
   esac
   mapfile -t COMPREPLY < <(compgen -W "$words" -- "$word")
 }
-complete -F _armc_tools armc-portfolio armc-coverage armc-explain armc-walk armc-properties armc-expand armc-second-opinion armc-check-folder
+complete -F _armc_tools armc-portfolio armc-coverage armc-explain armc-walk armc-properties armc-expand armc-second-opinion armc-export armc-search-one armc-check-folder

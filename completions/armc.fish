@@ -29,6 +29,16 @@ for tool in armc-portfolio armc-second-opinion
     complete -c $tool -l but -x -d 'a row of ends that are meant'
 end
 complete -c armc-portfolio -l one-order -d 'leave the sections in their order'
+complete -c armc-portfolio -l first -d 'with --list, the first answer ends the rest'
+complete -c armc-check-folder -l memory -r -d 'with --list, megabytes for each search'
+for option in 'list:make a folder with a line for each search' 'collect:answer by the results of a list' 'rest:write the lines without a result' 'from:take results out of a text'
+    for tool in armc-portfolio armc-check-folder
+        complete -c $tool -l (string split -m1 : $option)[1] -r -d (string split -m1 : $option)[2]
+    end
+end
+for option in 'first:the first answer ends the others' 'needs-answer:status 1 without an answer' 'print:print the result'
+    complete -c armc-search-one -l (string split -m1 : $option)[1] -d (string split -m1 : $option)[2]
+end
 for option in 'budget:the largest budget of a search' 'seconds:the time for all of it' 'memory:megabytes for each search' 'jobs:searches at once' 'show:print the certificate of a letter or a rule'
     complete -c armc-coverage -l (string split -m1 : $option)[1] -r -d (string split -m1 : $option)[2]
 end
@@ -45,6 +55,13 @@ end
 for option in 'random:so many random steps' 'seed:of the random steps' 'letters:begin with so many letters'
     complete -c armc-walk -l (string split -m1 : $option)[1] -r -d (string split -m1 : $option)[2]
 end
+for option in 'seconds:the time of MONA' 'out:write files into a folder' 'properties:of which the certificate is' 'property:one of them alone'
+    complete -c armc-export -l (string split -m1 : $option)[1] -r -d (string split -m1 : $option)[2]
+end
+complete -c armc-export -l to -x -a 'mona openfst mata dot' -d 'write in this format'
+complete -c armc-export -l judge -d 'ask MONA'
+complete -c armc-export -l parts -d 'a file for each row and rule'
+complete -c armc-export -l rules -d 'the transducers of the rules'
 for option in 'budget:the budget of each search' 'seconds:the time of each search' 'jobs:searches at once' 'junit:write a report of JUnit' 'html:write a report as a page'
     complete -c armc-check-folder -l (string split -m1 : $option)[1] -r -d (string split -m1 : $option)[2]
 end
@@ -53,7 +70,7 @@ for option in 'seconds:the time for all of it' 'memory:megabytes for each search
 end
 complete -c armc-expand -l check -d 'let the program read what is written'
 complete -c armc-expand -l output -r -d 'write into a file'
-for tool in armc-portfolio armc-coverage armc-explain armc-walk armc-properties armc-check-folder
+for tool in armc-portfolio armc-coverage armc-explain armc-walk armc-properties armc-export armc-check-folder
     complete -c $tool -l set -x -d 'of a template: a value'
 end
 for tool in armc-portfolio armc-coverage armc-explain armc-walk armc-properties armc-expand armc-check-folder

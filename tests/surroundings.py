@@ -282,7 +282,8 @@ def offered_for(tool):
 def completions_of_tools():
     """The options that the shells offer for each tool are those of its help, and the manual page names them all."""
     wrong, page = [], (read("man", "armc-tools.1") + read("man", "armc-expand.1")).replace("Fl -", "--")
-    for tool in ("armc-portfolio", "armc-coverage", "armc-explain", "armc-walk", "armc-properties", "armc-expand", "armc-second-opinion", "armc-check-folder"):
+    for tool in ("armc-portfolio", "armc-coverage", "armc-explain", "armc-walk", "armc-properties", "armc-expand", "armc-second-opinion", "armc-export",
+                 "armc-search-one", "armc-check-folder"):
         told = run([sys.executable, os.path.join(TOP, "tools", tool.replace("armc-check", "check")), "--help"]).stdout
         options = set(re.findall(r"(?<![\w-])--[\w-]+", told))
         for shell, offered in offered_for(tool):

@@ -454,7 +454,9 @@ def wrong_root(program, root):
     place = os.path.join(root, "share", "doc", "armc", "examples")
     tools = [["armc-explain", f"{place}/open_door.armc"], ["armc-walk", "--random", "9", f"{place}/open_door.armc"], ["armc-portfolio", f"{place}/tickets.armc"],
              ["armc-coverage", f"{place}/tickets.armc"], ["armc-check-folder", f"{place}/tutorial", "--budget", "1000"],
-             ["armc-expand", "--check", f"{place}/templates/permits.armct", "n=3"], ["armc-explain", "--set", "n=1", f"{place}/templates/permits.armct"]]
+             ["armc-expand", "--check", f"{place}/templates/permits.armct", "n=3"], ["armc-explain", "--set", "n=1", f"{place}/templates/permits.armct"],
+             ["armc-export", "--to", "dot", "--rules", "--out", os.path.join(root, "exported"), f"{place}/tickets.armc", f"{place}/tickets.cert"],
+             ["armc-search-one", "--help"]]
     hide = without_repository()
     # The tools find the program of the archive, which is not on the path.
     environment = {"PATH": f"{os.path.dirname(sys.executable)}:/usr/bin:/bin", "HOME": root}
