@@ -68,17 +68,17 @@ def portfolio(program):
         before = os.stat(results.path_of("00000", folder)).st_mtime_ns
         run_lines(folder, lines[:1])
         wrong += differs("a line run twice", os.stat(results.path_of("00000", folder)).st_mtime_ns, before)
-    return wrong + first_answer(program)
+    return wrong + first_answer(program, []) + first_answer(program, ["--deadlock"])
 
 
-def first_answer(program):
-    """With --first an answer ends the searches behind it; a search without one ends with status 1."""
-    with made(program, PORTFOLIO, "--first", "--one-order", "--budget", "1000", example("tickets.armc")) as folder:
+def first_answer(program, more):
+    """With --first an answer ends the searches behind it, in every order; a search without one ends with status 1."""
+    with made(program, PORTFOLIO, "--first", "--budget", "1000", *more, example("handoff.armc")) as folder:
         lines = lines_of(folder)
         run_lines(folder, lines)
         found = [results.read(results.path_of(f"{at:05d}", folder)) for at in range(len(lines))]
         wrong = differs("with --first", [each["why"] for each in found], [""] + ["answered elsewhere"] * (len(lines) - 1))
-        wrong += differs("a line without an answer", run_lines(folder, [f"{lines[1]}; echo $?"]).stdout, "1\n")
+        wrong += differs("a line without an answer", run_lines(folder, [f"{lines[-1]}; echo $?"]).stdout, "1\n")
         answer = call(program, PORTFOLIO, "--collect", folder)
         return wrong + differs("the first answer", (answer.returncode, answer.stdout), (0, found[0]["out"]))
 
