@@ -48,6 +48,7 @@ end
 complete -c armc-explain -l start -x -a 'bad none' -d 'of the search'
 complete -c armc-explain -l why -d 'say from where each rule can fire'
 complete -c armc-explain -l plain -d 'draw without Graphviz'
+complete -c armc-explain -l states -d 'draw the automaton of the certificate'
 complete -c armc-explain -l configurations -d 'draw the automaton of the configurations alone'
 for tool in armc-coverage armc-explain
     complete -c $tool -l method -x -a 'predicates length' -d 'of the search'

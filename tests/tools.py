@@ -23,9 +23,9 @@ TOP = os.path.dirname(os.path.dirname(os.path.abspath(__file__)))
 TOOLS = os.path.join(TOP, "tools")
 sys.path.insert(0, TOOLS)
 import definitions  # noqa: E402, beside this file
-from armc_tools import automata, drawing, expressions, proofs  # noqa: E402
+from armc_tools import automata, drawing, expressions, proofs, stuck  # noqa: E402
 from armc_tools.certificate import read_certificate  # noqa: E402
-from armc_tools.protocol import Protocol  # noqa: E402
+from armc_tools.protocol import Protocol, Section  # noqa: E402
 
 SECONDS = 120
 DEAD = "protocol dead\narray P { a b c }\ninit { P: a*; }\nrule go { P: at a -> b; }\nrule on { P: at c -> c; }\nbad { P: any* c any*; }\n"
@@ -298,7 +298,7 @@ def explain(program):
                 wrong.append(f"the pictures of {name} are {[text[:100] for text in texts]}")
         found = call(program, "armc-explain", "--svg", os.path.join(folder, "no", "p.svg"), example("first.armc"))
         wrong += differs("a picture that cannot be written", found.returncode, 8)
-    return wrong + wrong_proofs(program)
+    return wrong + wrong_neighbours() + wrong_proofs(program)
 
 
 def wrong_proofs(program):
@@ -324,6 +324,31 @@ def wrong_proofs(program):
             if expressions.words_of(expressions.expression(one)) != one:
                 wrong.append(f"{os.path.basename(path)}: an expression has another language")
     return wrong
+
+
+def wrong_neighbours():
+    """Where the facts about ends and neighbours of a list are not those of its words of at most five letters."""
+    wrong, section = [], Section("array", "P", ["a", "b", "c"])
+    for pattern, wanted in (
+        ("a b* c", ["first: a", "last: c", "never b right before a"]), ("{ a b }* c", ["last: c"]), ("a any* b", ["first: a", "last: b"]), ("any*", []),
+        ("a* b+ a* c", ["never first: c", "last: c"]), ("{ b c } a* { b c }", ["never first: a", "never last: a"]),
+    ):
+        words = stuck.language_of(section, [stuck.atoms_of(section, pattern)])
+        found = proofs.neighbours(words, section.letters)
+        lists = [each for count in range(1, 6) for each in itertools.product("abc", repeat=count) if definitions.matches([("P", "array", ["a", "b", "c"])], {"P": pattern}, [each])]
+        for line in found:
+            wrong += [f"{line} of {pattern} does not hold of {each}" for each in lists if not is_said(line, each)]
+        wrong += [f"{line} of {pattern} is not told" for line in wanted if line.startswith(("first", "last", "never first", "never last")) and line not in found]
+    return wrong
+
+
+def is_said(line, letters):
+    """Whether a fact about ends or neighbours holds of a list."""
+    names = re.findall(r"\b[abc]\b", line)
+    if "right before" in line:
+        before, behind = (re.findall(r"\b[abc]\b", part) for part in line.split(" right before "))
+        return not any(one in before and two in behind for one, two in zip(letters, letters[1:]))
+    return (letters[0 if "first" in line else -1] in names) != line.startswith("never")
 
 
 def filled(box, row, sections):
@@ -496,10 +521,10 @@ def before_merging(program):
 
 
 PICTURES = {
-    "lock.svg": ["tutorial/lock.armc"],
-    "merged.svg": ["token.armc"],
+    "lock.svg": ["--states", "tutorial/lock.armc"],
+    "merged.svg": ["--states", "token.armc"],
     "lock_two_steps.svg": ["tutorial/lock_two_steps.armc"],
-    "german.svg": ["--configurations", "german.armc"],
+    "german.svg": ["german.armc"],
     "alternating_bit_any_ack.svg": ["alternating_bit_any_ack.armc"],
 }
 

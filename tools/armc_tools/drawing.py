@@ -71,7 +71,7 @@ def layers_of(certificate, labels):
 
 
 def in_layers(certificate, labels):
-    """A picture of the states that are reached, layer by layer from the left. Edges to the next layer are straight, all others are curved."""
+    """A picture of the states that are reached, layer by layer from the left: edges to the next layer are straight, others curved, and dashed where they lead back."""
     layers = layers_of(certificate, labels)
     wide = max([len(label) for label in labels.values()] or [1]) * LETTER
     apart, high = max(90, wide + 3 * RADIUS), max(map(len, layers), default=1) * 100
@@ -81,7 +81,7 @@ def in_layers(certificate, labels):
     for (p, q), label in labels.items():
         if p in place:
             straight = layer_of[q] == layer_of[p] + 1 and (q, p) not in labels
-            body += loop(place[p], label) if p == q else edge(place[p], place[q], label, 0 if straight else 36)
+            body += loop(place[p], label) if p == q else edge(place[p], place[q], label, 0 if straight else 36, layer_of[q] < layer_of[p])
     for state, (x, y) in place.items():
         body.append(f'<circle class="state" cx="{x:.0f}" cy="{y:.0f}" r="{RADIUS}"/>')
         if state in certificate.finals:
@@ -92,12 +92,12 @@ def in_layers(certificate, labels):
 
 def loop(at, label):
     x, y = at
-    path = f"M{x - 8:.0f} {y - 14:.0f}C{x - 24:.0f} {y - 50:.0f} {x + 24:.0f} {y - 50:.0f} {x + 8:.0f} {y - 14:.0f}"
+    path = f"M{x - 8:.0f} {y - 14:.0f}A12 12 0 1 1 {x + 8:.0f} {y - 14:.0f}"
     return [f'<path class="edge" d="{path}" marker-end="url(#arrow)"/>', words(x, y - 44, label, "label")]
 
 
-def edge(start, end, label, bend):
-    """An arrow from state to state, bent to its left by so much in the middle."""
+def edge(start, end, label, bend, back=False):
+    """An arrow from state to state, bent to its left by so much in the middle, and dashed where it leads back."""
     (x1, y1), (x2, y2) = start, end
     length = max(1.0, ((x2 - x1) ** 2 + (y2 - y1) ** 2) ** 0.5)
     across = ((y2 - y1) / length, -(x2 - x1) / length)
@@ -110,7 +110,8 @@ def edge(start, end, label, bend):
     (ax, ay), (bx, by) = shortened(x1, y1), shortened(x2, y2)
     path = f"M{ax:.0f} {ay:.0f}Q{middle[0]:.0f} {middle[1]:.0f} {bx:.0f} {by:.0f}"
     x, y = (x1 + x2) / 2 + bend * across[0], (y1 + y2) / 2 + bend * across[1]
-    return [f'<path class="edge" d="{path}" marker-end="url(#arrow)"/>', words(x, y - 4, label, "label")]
+    dashed = ' stroke-dasharray="6 3"' if back else ""
+    return [f'<path class="edge" d="{path}"{dashed} marker-end="url(#arrow)"/>', words(x, y - 4, label, "label")]
 
 
 def run(protocol, certificate, _plain):

@@ -234,6 +234,29 @@ def facts(words, names):
     return found + [f"never {said[a]} left of {alternatives(others)}" for a, others in ordered.items()]
 
 
+def neighbours(words, names):
+    """What holds of the ends of every word of the language that is not empty, and of the letters that stand next to each other: what is said besides."""
+    if not words:
+        return []
+    classes, _ = classes_of(words, names)
+    letters = {each[0]: [names[k] for k in each] for each in classes}
+    quotient = of_classes(words, classes)
+    firsts = {letter for letter, _ in quotient[0][1]}
+    lasts = {letter for _, edges in quotient for letter, target in edges if quotient[target][0]}
+    beside = {(a, b) for _, edges in quotient for a, target in edges for b, _ in quotient[target][1]}
+    found = [said_of_end(word, ends, letters) for word, ends in (("first", firsts), ("last", lasts)) if ends < set(letters)]
+    for a, said in letters.items():
+        apart = [name for b in letters if (a, b) not in beside and ever_before(quotient, a, b) for name in letters[b]]
+        found += [f"never {alternatives(said)} right before {alternatives(apart)}"] if apart else []
+    return found
+
+
+def said_of_end(word, ends, letters):
+    """What may stand first, or last: the fewer letters are named."""
+    inside, outside = ([name for letter, names in letters.items() if (letter in ends) == wanted for name in names] for wanted in (True, False))
+    return f"{word}: {alternatives(inside)}" if len(inside) <= len(outside) else f"never {word}: {alternatives(outside)}"
+
+
 def ever_before(words, first, second):
     """Whether some word has the first letter somewhere left of the second."""
     seen, waiting = {(0, False)}, [(0, False)]
