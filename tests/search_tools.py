@@ -106,6 +106,11 @@ def deadlocks(program):
         alone = subprocess.run([program, "deadlock", example(f"{name}.armc")], capture_output=True, text=True)
         found, told = deadlock_answer(program, example(f"{name}.armc"), "--one-order")
         wrong += differs(f"deadlocks of {name}", (found.returncode, found.stdout.partition("\n")[0], told), (alone.returncode, alone.stdout.partition("\n")[0], "valid"))
+    hard = example("hard", "queued_spinlock.armc")
+    found, told = deadlock_answer(program, hard, "--one-order")
+    wrong += differs("deadlocks by rows", (found.returncode, found.stdout[:14], told, "where STUCK is what" in found.stderr), (0, "deadlock free\n", "valid", True))
+    wrong += differs("the kept rows", without_comments(read(example("hard", "queued_spinlock_stuck.armc"))) + "\n", call(program, "armc-portfolio", "--stuck", hard).stdout)
+    wrong += deadlock_faults(program, hard)
     with tempfile.TemporaryDirectory() as folder:
         path, bare = (os.path.join(folder, f"{name}.armc") for name in ("ends", "bare"))
         with open(path, "w") as file:
@@ -125,6 +130,19 @@ def deadlocks(program):
         found = call(program, "armc-portfolio", "--but", END, path)
         wrong += differs("--but alone", (found.returncode, found.stdout), (3, ""))
     return wrong
+
+
+def deadlock_faults(program, hard):
+    """No answer with a small budget, a full device, an interrupt and a terminal."""
+    found = call(program, "armc-portfolio", "--deadlock", "--one-order", "--jobs", "2", "--budget", "100", hard)
+    wrong = differs("no deadlock found", (found.returncode, found.stdout, bool(re.search(r"^  check --method length of what is stuck +counted 1\d\d$", found.stderr, re.M))), (2, "", True))
+    with open("/dev/full", "w") as full:
+        found = call(program, "armc-portfolio", "--deadlock", example("open_door.armc"), capture_output=False, stdout=full, stderr=subprocess.PIPE)
+    wrong += differs("deadlocks to a full device", (found.returncode, "Traceback" in found.stderr), (8, False))
+    shown, status = on_terminal([sys.executable, os.path.join(TOOLS, "armc-portfolio"), "--program", program, "--deadlock", example("open_door.armc")])
+    wrong += differs("deadlocks on a terminal", (status, "deadlock\r\nstart P: i\r\n" in shown), (1, True))
+    status, out, err, left = interrupted(program, "armc-portfolio", ["--deadlock", "--budget", "1000000", hard], signal.SIGTERM, "deadlock")
+    return wrong + differs("an interrupt", (status, out, "interrupted; tried" in err, "Traceback" in err, left), (130, "", True, False, []))
 
 
 def wrong_stuck_protocol(program, path, bare):

@@ -173,12 +173,12 @@ def read_canonical(program, path):
     return subprocess.run([program, "show", path], capture_output=True, text=True).stdout
 
 
-def interrupted(program, tool, words, number):
+def interrupted(program, tool, words, number, command="check"):
     """What a tool says that gets a signal when its first search has begun, and whether something that it started still runs."""
     with tempfile.TemporaryDirectory() as folder:
         script, begun = (os.path.join(folder, name) for name in ("program", "begun"))
         with open(script, "w") as file:
-            file.write(f'#!/bin/sh\n[ "$1" = check ] && : >"{begun}"\n[ "$1" = checkall ] && : >"{begun}"\nexec "{program}" "$@"\n')
+            file.write(f'#!/bin/sh\n[ "$1" = {command} ] && : >"{begun}"\n[ "$1" = checkall ] && : >"{begun}"\nexec "{program}" "$@"\n')
         os.chmod(script, 0o755)
         words = [sys.executable, os.path.join(TOOLS, tool), "--program", script, "--jobs", "2", *words]
         process = subprocess.Popen(words, stdout=subprocess.PIPE, stderr=subprocess.PIPE, text=True, start_new_session=True)
