@@ -1,1 +1,1 @@
-pub mod Arrays
+pub mod NoFloats

@@ -1,8 +1,8 @@
 -- The text of the report of a search: an object of JSON in its compact form, in one line.
-use Rattle.std.specs.Prelude.{ℕ, List, [], ◌∷◌, ◌++◌, ◌-◌, Option, None, Some, codes, decimal, length, slice_get}
-use Rattle.json.specs.Json.{Json, number, string, array, object, Items, no_items, item, no_members, member}
-use Rattle.json.specs.Print.{print}
-use Rattle.json.specs.Tree.{json_tokens}
+use Rattle.std.specs.Prelude.{ℕ, List, [], ◌∷◌, ◌++◌, ◌-◌, Option, None, Some, codes, length, map, slice_get}
+use Rattle.serde_json.specs.Data.{Data, unsigned, number, string, array, object, no_members, member}
+use Rattle.serde_json.specs.View.{items_of}
+use Rattle.serde_json.specs.Written.{compact_text}
 use Rattle.search_history.specs.declared.log.LogEnd.{LogEnd}
 use Rattle.search_history.specs.declared.log.LogEnd.TheVariants.{Closed, Refuted, Real, Spent}
 use Rattle.search_history.specs.declared.log.RoundLog.{RoundLog}
@@ -33,39 +33,31 @@ verdict_of None = codes "unknown"
 verdict_of (Some round) = end_verdict round.end
 
 -- an array of numbers
-abbrev pub sizes_items : List ℕ → Items
-sizes_items [] = no_items
-sizes_items (size ∷ sizes) = item (number (decimal size)) (sizes_items sizes)
-
-abbrev pub sizes_array : List ℕ → Json
-sizes_array sizes = array (sizes_items sizes)
+abbrev pub sizes_array : List ℕ → Data
+sizes_array sizes = array (items_of (map (λ size. number (unsigned size)) sizes))
 
 -- a round: how it ended, the index of its last counted automaton, and the sizes of its merged automata, of those before merging, and
 -- of the sets of its replay, each in counting order
-abbrev pub round_object : RoundLog → Json
+abbrev pub round_object : RoundLog → Data
 round_object round =
     object (member (codes "end") (string (end_name round.end))
-    (member (codes "level") (number (decimal round.level))
+    (member (codes "level") (number (unsigned round.level))
     (member (codes "m") (sizes_array round.m)
     (member (codes "n") (sizes_array round.n)
     (member (codes "x") (sizes_array round.x) no_members)))))
 
-abbrev pub rounds_items : List RoundLog → Items
-rounds_items [] = no_items
-rounds_items (round ∷ rounds) = item (round_object round) (rounds_items rounds)
-
-abbrev pub rounds_array : List RoundLog → Json
-rounds_array rounds = array (rounds_items rounds)
+abbrev pub rounds_array : List RoundLog → Data
+rounds_array rounds = array (items_of (map round_object rounds))
 
 -- a search: the budget, the sum of all sizes, the method, the rounds in their order, and the verdict
-abbrev pub report_object : ReportedMethod → Log → Json
+abbrev pub report_object : ReportedMethod → Log → Data
 report_object method log =
-    object (member (codes "budget") (number (decimal log.budget))
-    (member (codes "counted") (number (decimal log.counted))
+    object (member (codes "budget") (number (unsigned log.budget))
+    (member (codes "counted") (number (unsigned log.counted))
     (member (codes "method") (string (method_name method))
     (member (codes "rounds") (rounds_array log.rounds)
     (member (codes "verdict") (string (verdict_of (slice_get log.rounds (length log.rounds - 1)))) no_members)))))
 
 -- the report, with a line feed at its end
 abbrev pub report_text : ReportedMethod → Log → List ℕ
-report_text method log = print (json_tokens (report_object method log)) ++ 10 ∷ []
+report_text method log = compact_text (report_object method log) ++ 10 ∷ []

@@ -1,15 +1,13 @@
-//! Writes the report of a search, member by member, as one object of JSON.
+//! Writes the report of a search: its value, one object of JSON, and the compact text of that value.
 //! It takes time linear in the log.
 
-ghost use Rattle.std.specs.Prelude.{◌≡◌, ◌-◌, ◌++◌, ◌∷◌, [], IfOk, OnOk, codes, decimal, length, slice_get, flat_map};
-ghost use Rattle.json.specs.Token.{key, string, number};
-ghost use Rattle.json.specs.Tree.{json_tokens};
-ghost use Rattle.search_report.specs.Report.{method_name, end_name, end_verdict, verdict_of, sizes_array, round_object, rounds_array, report_text};
-ghost use Rattle.search_report.specs.Writing.{size_token, round_tokens};
+ghost use Rattle.std.specs.Prelude.{◌≡◌, ◌-◌, IfOk, length, slice_get};
+ghost use Rattle.serde_json.specs.View.{view};
+ghost use Rattle.search_report.specs.Report.{method_name, end_name, end_verdict, verdict_of, sizes_array, round_object, rounds_array, report_object, report_text};
 
 use crate::method::ReportedMethod;
-use json::Writer;
 use search_history::{Log, LogEnd, RoundLog};
+use serde_json::{Value, json};
 use std::alloc::{AllocError, Global};
 
 /// The report of a search by this method with this log: the compact text of a JSON object, and a line feed.
@@ -18,98 +16,62 @@ use std::alloc::{AllocError, Global};
 pub fn report(alloc: Global, method: ReportedMethod, log: &Log) -> Result<Vec<u8>, AllocError>
     ensures { IfOk result (λ text. text.items ≡ report_text method log.now) }
 {
-    let mut writer = Writer::new(Vec::new(alloc));
-    writer.begin_object()?;
-    put_number(&mut writer, "budget", log.budget)?;
-    put_number(&mut writer, "counted", log.counted)?;
-    put_string(&mut writer, "method", name_of_method(method))?;
-    put_rounds(&mut writer, log.rounds.as_slice())?;
-    put_string(&mut writer, "verdict", verdict(log.rounds.as_slice()))?;
-    writer.end_object()?;
-    let mut text = writer.into_inner();
+    let report = report_value(alloc, method, log)?;
+    let mut text = report.to_string(alloc)?.into_bytes();
     text.push(b'\n')?;
     Ok(text)
 }
 
-/// Puts a member with a number.
-fn put_number(writer: &mut Writer, name: &str, value: u64) -> Result<(), AllocError>
-    ensures before { OnOk result (writer.new.before ≡ writer.old.before) }
-    ensures added { OnOk result (writer.new.tokens ≡ writer.old.tokens ++ key name.now ∷ number (decimal value) ∷ []) }
+/// The value of the report.
+fn report_value(alloc: Global, method: ReportedMethod, log: &Log) -> Result<Value, AllocError>
+    ensures { IfOk result (λ value. view value ≡ report_object method log.now) }
 {
-    writer.key(name)?;
-    writer.u64(value)?;
-    Ok(())
+    let rounds = rounds_value(alloc, log.rounds.as_slice())?;
+    json!(in alloc; {
+        "budget": log.budget,
+        "counted": log.counted,
+        "method": name_of_method(method),
+        "rounds": rounds,
+        "verdict": verdict(log.rounds.as_slice())
+    })
 }
 
-/// Puts a member with a string.
-fn put_string(writer: &mut Writer, name: &str, value: &str) -> Result<(), AllocError>
-    ensures before { OnOk result (writer.new.before ≡ writer.old.before) }
-    ensures added { OnOk result (writer.new.tokens ≡ writer.old.tokens ++ key name.now ∷ string value.now ∷ []) }
+/// The array of the rounds.
+fn rounds_value(alloc: Global, rounds: &[RoundLog]) -> Result<Value, AllocError>
+    ensures { IfOk result (λ value. view value ≡ rounds_array rounds.now) }
 {
-    writer.key(name)?;
-    writer.string(value)?;
-    Ok(())
-}
-
-/// Puts a member with an array of sizes.
-fn put_sizes(writer: &mut Writer, name: &str, sizes: &[u64]) -> Result<(), AllocError>
-    ensures before { OnOk result (writer.new.before ≡ writer.old.before) }
-    ensures added { OnOk result (writer.new.tokens ≡ writer.old.tokens ++ key name.now ∷ json_tokens (sizes_array sizes.now)) }
-{
-    writer.key(name)?;
-    writer.begin_array()?;
-    put_numbers(writer, sizes)?;
-    writer.end_array()?;
-    Ok(())
-}
-
-/// Puts the sizes, one after another.
-fn put_numbers(writer: &mut Writer, sizes: &[u64]) -> Result<(), AllocError>
-    ensures before { OnOk result (writer.new.before ≡ writer.old.before) }
-    ensures added { OnOk result (writer.new.tokens ≡ writer.old.tokens ++ flat_map size_token sizes.now) }
-{
-    'sizes: for size in sizes {
-        writer.u64(*size)?;
-    }
-    Ok(())
-}
-
-/// Puts the member with the rounds.
-fn put_rounds(writer: &mut Writer, rounds: &[RoundLog]) -> Result<(), AllocError>
-    ensures before { OnOk result (writer.new.before ≡ writer.old.before) }
-    ensures added { OnOk result (writer.new.tokens ≡ writer.old.tokens ++ key (codes "rounds") ∷ json_tokens (rounds_array rounds.now)) }
-{
-    writer.key("rounds")?;
-    writer.begin_array()?;
-    put_each_round(writer, rounds)?;
-    writer.end_array()?;
-    Ok(())
-}
-
-/// Puts the rounds, one after another.
-fn put_each_round(writer: &mut Writer, rounds: &[RoundLog]) -> Result<(), AllocError>
-    ensures before { OnOk result (writer.new.before ≡ writer.old.before) }
-    ensures added { OnOk result (writer.new.tokens ≡ writer.old.tokens ++ flat_map round_tokens rounds.now) }
-{
+    let mut values = Vec::new(alloc);
     'rounds: for round in rounds {
-        put_round(writer, round)?;
+        values.push(round_value(alloc, round)?)?;
     }
-    Ok(())
+    Ok(Value::Array(values))
 }
 
-/// Puts the object of a round.
-fn put_round(writer: &mut Writer, round: &RoundLog) -> Result<(), AllocError>
-    ensures before { OnOk result (writer.new.before ≡ writer.old.before) }
-    ensures added { OnOk result (writer.new.tokens ≡ writer.old.tokens ++ round_tokens round.now) }
+/// The object of a round.
+fn round_value(alloc: Global, round: &RoundLog) -> Result<Value, AllocError>
+    ensures { IfOk result (λ value. view value ≡ round_object round.now) }
 {
-    writer.begin_object()?;
-    put_string(writer, "end", name_of_end(round.end))?;
-    put_number(writer, "level", round.level)?;
-    put_sizes(writer, "m", round.m.as_slice())?;
-    put_sizes(writer, "n", round.n.as_slice())?;
-    put_sizes(writer, "x", round.x.as_slice())?;
-    writer.end_object()?;
-    Ok(())
+    let merged = sizes_value(alloc, round.m.as_slice())?;
+    let before = sizes_value(alloc, round.n.as_slice())?;
+    let replayed = sizes_value(alloc, round.x.as_slice())?;
+    json!(in alloc; {
+        "end": name_of_end(round.end),
+        "level": round.level,
+        "m": merged,
+        "n": before,
+        "x": replayed
+    })
+}
+
+/// The array of some sizes.
+fn sizes_value(alloc: Global, sizes: &[u64]) -> Result<Value, AllocError>
+    ensures { IfOk result (λ value. view value ≡ sizes_array sizes.now) }
+{
+    let mut values = Vec::new(alloc);
+    'sizes: for size in sizes {
+        values.push(Value::from(*size))?;
+    }
+    Ok(Value::Array(values))
 }
 
 /// The name of the method.
