@@ -130,6 +130,18 @@ def long_words(folder, _):
     return wrong + differs("a run of 1 MiB", folder.run(["verify", "f", "run"]), (7, b"not valid: not bad\n", b""))
 
 
+def words_without_text(folder, pool):
+    """Words of which one is no UTF-8, the name of a command, of a file that is there, an option or a word too many, mean no command: the usage comes."""
+    with open(os.path.join(TOP, "tests", "usage"), "rb") as file:
+        usage = file.read()
+    folder.put(f=example("token.armc"))
+    with open(os.path.join(os.fsencode(folder.path), b"f\xff"), "wb") as file:
+        file.write(example("token.armc"))
+    lists = [[b"\xff"], [b"show\xc3"], [b"show", b"f\xff"], [b"show", b"f", b"\x80"], [b"check", b"f", b"--budget\xe2\x82", b"9"],
+             [b"check", b"f", b"--budget", b"9\xf8"], [b"steps", b"f", b"P: t\xed\xa0\x80"], [b"verify", b"f", b"\xc0\xaf"]]
+    return [line for words, answer in zip(lists, pool.map(folder.run, lists)) for line in differs(words, answer, (3, b"", usage))]
+
+
 def calls():
     """Words of each command and kind of answer, with their files."""
     token, tickets, door, first = (example(f"{name}.armc") for name in ("token", "tickets", "open_door", "first"))
@@ -200,6 +212,7 @@ CHECKS = {
     "cut texts of properties": cut_properties,
     "long texts": long_texts,
     "long configurations": long_words,
+    "words that are no text": words_without_text,
     "sinks that take a part": short_sinks,
     "reads that fail": failed_reads,
     "little memory": little_memory,
