@@ -2,7 +2,8 @@
 //! A line is copied, in time linear in its length; a name is a part of the system, found in constant time.
 
 ghost use Rattle.std.specs.Prelude.{◌≡◌, ◌++◌, IfOk};
-ghost use Rattle.command_replies.specs.Line.{line, rule_name as rule_name_of};
+ghost use Rattle.certificate.specs.RunText.{rule_name as rule_name_of};
+ghost use Rattle.command_replies.specs.Line.{line};
 
 use protocol_model::System;
 use std::alloc::{AllocError, Global};

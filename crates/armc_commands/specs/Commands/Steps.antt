@@ -7,9 +7,10 @@ use Rattle.protocol_steps.specs.Successors.{AreSuccessors}
 use Rattle.configuration_words.specs.declared.fault.ConfigFault.{ConfigFault}
 use Rattle.configuration_words.specs.ConfigurationText.{MeansConfiguration, IsFirstFault}
 use Rattle.configuration_words.specs.Texts.{configuration_text}
+use Rattle.certificate.specs.RunText.{rule_name}
 use Rattle.command_replies.specs.declared.status.Status.TheVariants.{Done, CertificateRefused}
 use Rattle.command_replies.specs.declared.reply.Reply.{Reply}
-use Rattle.command_replies.specs.Line.{line, rule_name}
+use Rattle.command_replies.specs.Line.{line}
 use Rattle.command_replies.specs.Refusal.{configuration_refusal_text}
 use Rattle.command_replies.specs.Reply.{on_out, on_err}
 

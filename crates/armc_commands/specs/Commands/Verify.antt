@@ -5,6 +5,7 @@ use Rattle.protocol_model.specs.Patterns.{fits}
 use Rattle.protocol_model.specs.Runs.{IsBadRun}
 use Rattle.configuration_words.specs.Texts.{configuration_text}
 use Rattle.certificate.specs.Meaning.{IsCertificateOf}
+use Rattle.certificate.specs.RunText.{rule_name}
 use Rattle.certificate.specs.declared.safe.Certificate.{Certificate}
 use Rattle.certificate.specs.declared.safe.Certificate.TheVariants as certificate
 use Rattle.certificate_checker.specs.Proof.{Proves, IsSafe}
@@ -14,7 +15,7 @@ use Rattle.certificate_checker.specs.declared.answer.Answer.TheVariants.{Valid, 
 use Rattle.command_replies.specs.declared.status.Status.{Status}
 use Rattle.command_replies.specs.declared.status.Status.TheVariants as status
 use Rattle.command_replies.specs.declared.reply.Reply.{Reply}
-use Rattle.command_replies.specs.Line.{line, rule_name}
+use Rattle.command_replies.specs.Line.{line}
 use Rattle.command_replies.specs.Reply.{on_out, RefusesCertificate}
 
 -- the certificate shows the system safe by an automaton that proves it, or not safe by a bad run
