@@ -1,6 +1,6 @@
 -- From what a call comes to and its delivery to what the whole call answers.
 use Rattle.std.proofs.Common.{◌≡◌, ◌<◌, ◌≤◌, ◌⊎◌, arith, inl, inr, ℕ, List, false, None, Some, Result, Ok, Err, IsTrue, refl, sym, ap, subst, ◌∙◌, true≢false}
-use Rattle.armc_io.specs.Faults.{Rose}
+use Rattle.armc_io.specs.Faults.{Rose, last_count}
 use Rattle.armc_io.specs.Library.{LibraryState}
 use Rattle.armc_io.specs.Sink.{SinkState}
 use Rattle.protocol_syntax.specs.declared.protocol.Protocol.{Protocol}
@@ -10,10 +10,11 @@ use Rattle.command_replies.specs.declared.status.Status.TheVariants as status
 use Rattle.command_replies.specs.declared.reply.Reply.{Reply}
 use Rattle.command_replies.specs.declared.failure.Failure.{Failure}
 use Rattle.command_replies.specs.declared.failure.Failure.TheVariants.{ReadFault, TooLong, Memory}
+use Rattle.command_replies.specs.Reading.{IsFaultless}
 use Rattle.command_replies.specs.Reply.{reply_of}
 use Rattle.armc_commands.specs.Commands.{CommandReply, Promise}
 use Rattle.armc_commands.specs.Outcome.{IsReliableFor, IsOutcome, IsDecidedBy, IsReply, CarriesOut}
-use Rattle.armc_commands.specs.Answer.{Answers, DeliversCounted, AreQuietEnds, KeepsCounts, last_count, IsWholeReply, KeepsPromise, IsSound, IsQuiet, IsDecided, is_own}
+use Rattle.armc_commands.specs.Answer.{Answers, DeliversCounted, AreQuietEnds, KeepsCounts, IsWholeReply, KeepsPromise, IsSound, IsQuiet, IsDecided, is_own}
 
 pub Answers-made : (words : List (List ℕ)) (l l' : LibraryState) (o o' e e' : SinkState) (result : Status) (outcome : Result Reply Failure)
     → IsOutcome words l l' outcome
@@ -25,7 +26,8 @@ Answers-made words l l' o o' e e' result outcome is which = elim which [
 ]
 
 -- a reply with a status of the command's own keeps what the command promises
-module _ (keep : (command : Command) (p : Protocol) (text : List ℕ) (reply : Reply) → CommandReply command p text reply → Promise command p text reply)
+module _ (keep : (command : Command) (source : List ℕ) (p : Protocol) (text : List ℕ) (reply : Reply) → IsFaultless source p → CommandReply command p text reply
+    → Promise command p text reply)
     (words : List (List ℕ)) (l l' : LibraryState) (o o' e e' : SinkState) (result : Status) (command : Command)
     (asked : command_of words ≡ Some command) (own : IsTrue (is_own result)) where
   not_own : (other : Status) → is_own other ≡ false → result ≡ other → ⊥
@@ -41,7 +43,7 @@ module _ (keep : (command : Command) (p : Protocol) (text : List ℕ) (reply : R
         reply = reply;
         has_protocol = out.has_protocol;
         is_text = out.is_text;
-        promised = keep other out.protocol out.text reply out.replies;
+        promised = keep other out.has_protocol.text out.protocol out.text reply out.has_protocol.says out.replies;
         whole = whole;
       })
 
@@ -73,7 +75,8 @@ module _ (keep : (command : Command) (p : Protocol) (text : List ℕ) (reply : R
     ]
   ]
 
-pub IsSound-answer : ((command : Command) (p : Protocol) (text : List ℕ) (reply : Reply) → CommandReply command p text reply → Promise command p text reply)
+pub IsSound-answer : ((command : Command) (source : List ℕ) (p : Protocol) (text : List ℕ) (reply : Reply) → IsFaultless source p
+    → CommandReply command p text reply → Promise command p text reply)
     → (words : List (List ℕ)) (l l' : LibraryState) (o o' e e' : SinkState) (result : Status)
     → Answers words l l' o o' e e' result → IsSound words l.told o o' e e' result
 IsSound-answer keep words l l' o o' e e' result answer = λ command asked own. kept keep words l l' o o' e e' result command asked own answer

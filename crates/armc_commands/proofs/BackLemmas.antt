@@ -15,15 +15,15 @@ use Rattle.certificate.specs.SafeText.{MeansAutomaton}
 use Rattle.protocol_search.specs.Analyses.{IsCertificateText}
 use Rattle.protocol_search.specs.Methods.{by_predicates}
 use Rattle.protocol_search.specs.Verdicts.{IsVerdictOf}
-use Rattle.protocol_search.specs.declared.first.FirstAbstraction.TheVariants.{BadPredicates}
-use Rattle.protocol_search.specs.declared.search.Analysis.TheVariants.{Backward}
+use Rattle.command_words.specs.declared.Query.TheVariants.{Back}
 use Rattle.command_replies.specs.declared.status.Status.TheVariants as status
 use Rattle.command_replies.specs.declared.reply.Reply.{Reply}
 use Rattle.armc_commands.specs.declared.search_reply.Telling.{Telling}
 use Rattle.armc_commands.specs.declared.search_reply.Telling.TheVariants.{Certificate}
-use Rattle.armc_commands.specs.SearchReply.{Part, IsAnswerTo, IsSearchReply, status_of}
+use Rattle.armc_commands.specs.SearchReply.{Part, only_part, IsAnswerTo, IsSearchReply, status_of}
 use Rattle.armc_commands.specs.SearchPromise.{SearchPromise}
-use Rattle.armc_commands.specs.Commands.Back.{BackPromise, ProvesBackward, ShowsComplement, back_search, back_parts}
+use Rattle.armc_commands.specs.Commands.Back.{BackPromise, ProvesBackward, ShowsComplement}
+use Rattle.armc_commands.specs.Commands.Searches.{search_for}
 use Rattle.armc_commands.proofs.SearchLemmas.{certificate-promised, one-answer, part-of}
 
 -- an invariant of the reversed problem proves the system backward
@@ -39,7 +39,7 @@ same-proof : (m n : Automaton) (log log' : Log) → Safe m log ≡ Safe n log' �
 same-proof m n log log' h = cc h
 
 module _ (s : SystemData) (budget : ℕ) (text : List ℕ) where
-  of-found : (v : Verdict) (h : IsVerdictOf s (back_search budget) v) (proof : Automaton) (log : Log) → MeansAutomaton s text proof → (found : Verdict)
+  of-found : (v : Verdict) (h : IsVerdictOf s (search_for Back budget) v) (proof : Automaton) (log : Log) → MeansAutomaton s text proof → (found : Verdict)
       → IsVerdict (reversed (task_of s)) by_predicates (predicates (h.bad ∷ [])) budget found → IsSound (reversed (task_of s)) budget found
       → IsToldBackward found (Safe proof log) → ShowsComplement s budget text
   of-found v h proof log means (Safe m log') is sound (c, complement, told) = record {
@@ -56,7 +56,7 @@ module _ (s : SystemData) (budget : ℕ) (text : List ℕ) where
   of-found v h proof log means (Unsafe words log') is sound told = absurd (cc told)
   of-found v h proof log means (Unknown log') is sound told = absurd (cc told)
 
-  shows-complement : (v : Verdict) → IsVerdictOf s (back_search budget) v → IsCertificateText s v text → status_of (v ∷ []) ≡ status.Done
+  shows-complement : (v : Verdict) → IsVerdictOf s (search_for Back budget) v → IsCertificateText s v text → status_of (v ∷ []) ≡ status.Done
       → ShowsComplement s budget text
   shows-complement (Safe proof log) h told e =
       of-found (Safe proof log) h proof log told.1 h.is_verdict.found h.is_verdict.is_found h.is_verdict.sound h.is_verdict.told
@@ -64,13 +64,13 @@ module _ (s : SystemData) (budget : ℕ) (text : List ℕ) where
   shows-complement (Unknown log) h told e = absurd (cc e)
 
 pub back-promised : ((told : Telling) (parts : List Part) (reply : Reply) → IsSearchReply told parts reply → SearchPromise told parts reply)
-    → (s : SystemData) (budget : ℕ) (reply : Reply) → IsSearchReply (Certificate None) (back_parts s budget) reply → BackPromise s budget reply
+    → (s : SystemData) (budget : ℕ) (reply : Reply) → IsSearchReply (Certificate None) (only_part s (search_for Back budget)) reply → BackPromise s budget reply
 back-promised keep s budget reply h =
     let told : Telling = Certificate None in
-    let part = part-of s Backward BadPredicates budget in
-    let one = one-answer (IsAnswerTo told) told part reply h.answers h.are_answers h.reply_is in
+    let search = search_for Back budget in
+    let one = one-answer (IsAnswerTo told) told (part-of s search) reply h.answers h.are_answers h.reply_is in
     record {
-      certificate = certificate-promised keep s Backward (λ v text shows. shows) None BadPredicates budget reply h;
+      certificate = certificate-promised keep s search None (λ v text shows. shows) (λ log. refl) reply h;
       complements = λ e. subst (ShowsComplement s budget) (sym one.out_is)
           (shows-complement s budget one.answer.text one.answer.verdict one.holds.is_verdict one.holds.is_told (sym one.status_is ∙ e));
     }

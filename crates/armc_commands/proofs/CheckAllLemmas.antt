@@ -1,18 +1,22 @@
 -- The replies to `checkall`: their texts, that there is one, and what they promise.
-use Rattle.std.proofs.Common.{◌≡◌, ◌<◌, ◌+◌, ◌∙◌, ℕ, List, [], ◌∷◌, ◌++◌, zero, suc, length, take, min, arith, get_or, map, None, Some, Result, Ok, Err, IfOk, append-nil, append_assoc, inl, inr, refl, sym, ap, ap₂, subst, codes}
+use Rattle.std.proofs.Common.{◌≡◌, ◌≢◌, ◌<◌, ◌≤◌, ◌⊎◌, ◌||◌, ◌+◌, ◌∙◌, ℕ, Bool, true, false, if◌then◌else◌, List, [], ◌∷◌, ◌++◌, zero, suc, length, take, min, arith, get_or, map, None, Some, Result, Ok, Err, IfOk, append-nil, append_assoc, inl, inr, refl, sym, ap, ap₂, subst, codes}
 use Rattle.std.proofs.lemmas.List.{take_more, take_all}
 use Rattle.std.proofs.lemmas.Option.{slice_get-get_or}
 use Rattle.property_batch.specs.PropertyVerdicts.{AreVerdicts, IsPropertyVerdict}
 use Rattle.property_batch.proofs.ForCallers.{by-number}
-use Rattle.std.specs.List.{flat_map}
+use Rattle.std.proofs.lemmas.Bool.{true≢false}
+use Rattle.std.specs.List.{list_any, flat_map}
 use Rattle.refinement.specs.Verdicts.{log_in}
 use Rattle.refinement.specs.declared.verdict.Verdict.{Verdict}
+use Rattle.refinement.specs.declared.verdict.Verdict.TheVariants.{Safe, Unsafe, Unknown}
+use Rattle.protocol_search.specs.SearchLaws.{LargerBudgetKeepsVerdict, LargerBudgetKeepsText}
 use Rattle.protocol_syntax.specs.OneReading.{PropertiesAreDetermined, PropertiesFaultIsDetermined, FaultExcludesProperties}
 use Rattle.protocol_syntax.specs.Properties.{properties}
 use Rattle.protocol_model.specs.System.{SystemData}
 use Rattle.protocol_properties.specs.Properties.{first_properties_fault, properties_of}
 use Rattle.protocol_properties.specs.declared.properties.Property.{Property}
 use Rattle.command_replies.specs.declared.refusal.Refusal.{Refusal}
+use Rattle.command_replies.specs.declared.status.Status.{Status}
 use Rattle.command_replies.specs.declared.status.Status.TheVariants as status
 use Rattle.command_replies.specs.declared.reply.Reply.{Reply}
 use Rattle.armc_commands.specs.declared.search_reply.Telling.{Telling}
@@ -20,9 +24,12 @@ use Rattle.armc_commands.specs.declared.search_reply.Telling.TheVariants.{Certif
 use Rattle.command_replies.specs.Refusal.{IsRefusalIn}
 use Rattle.command_replies.specs.Reply.{on_out, refusal_reply}
 use Rattle.armc_commands.specs.SearchReply.{Part, PartAnswer, IsAnswerTo, HoldsOfParts, IsSearchReply, reply_of_answers, report_of, status_of, texts_of, titled}
+use Rattle.armc_commands.specs.SearchReply.{is_unsafe, is_unknown}
 use Rattle.armc_commands.specs.SearchPromise.{SearchPromise}
 use Rattle.armc_commands.specs.Commands.CheckAll.{SaysProperties, RefusesProperties, ChecksAll, IsCheckAllReply, CheckAllPromise, property_part, property_parts}
+use Rattle.armc_commands.specs.ReplyLaws.{AreKept, KeepsParts}
 use Rattle.armc_commands.specs.private.PartTexts.{IsToldPart, AreTold}
+use Rattle.armc_commands.proofs.SearchLemmas.{part-stays}
 use Rattle.command_replies.proofs.ForCallers.{refusal_once, refused_or_faultless}
 
 -- ---- the texts of the parts
@@ -129,12 +136,10 @@ module _ (s : SystemData) (budget : ℕ) (text : List ℕ) where
 
 -- ---- one reply
 
-module _ (once : PropertiesAreDetermined) (fault_once : PropertiesFaultIsDetermined) (either : FaultExcludesProperties)
-    (search_once : (parts : List Part) (r q : Reply) → IsSearchReply told parts r → IsSearchReply told parts q → r ≡ q)
-    (s : SystemData) (budget : ℕ) (text : List ℕ) where
-  says-once : (a b : List Property) → SaysProperties s text a → SaysProperties s text b → a ≡ b
-  says-once a b h k = h.said_is ∙ ap (properties_of s) (once text h.blocks k.blocks h.are_blocks k.are_blocks) ∙ sym k.said_is
+says-once : PropertiesAreDetermined → (s : SystemData) (text : List ℕ) (a b : List Property) → SaysProperties s text a → SaysProperties s text b → a ≡ b
+says-once once s text a b h k = h.said_is ∙ ap (properties_of s) (once text h.blocks k.blocks h.are_blocks k.are_blocks) ∙ sym k.said_is
 
+module _ (once : PropertiesAreDetermined) (fault_once : PropertiesFaultIsDetermined) (either : FaultExcludesProperties) (s : SystemData) (text : List ℕ) where
   refuses-once : (r q : Reply) → RefusesProperties s text r → RefusesProperties s text q → r ≡ q
   refuses-once r q h k =
       h.reply_is
@@ -142,25 +147,178 @@ module _ (once : PropertiesAreDetermined) (fault_once : PropertiesFaultIsDetermi
       (refusal_once properties (first_properties_fault s) text (once text) (fault_once text) (either text) h.refusal k.refusal h.refused k.refused)
       ∙ sym k.reply_is
 
+  not-both : (budget : ℕ) (r q : Reply) → RefusesProperties s text r → ChecksAll s budget text q → ⊥
+  not-both budget r q h k =
+      refused_or_faultless properties (first_properties_fault s) text (once text) (fault_once text) (either text) h.refusal k.says.blocks h.refused
+      k.says.are_blocks k.says.no_fault
+
+module _ (once : PropertiesAreDetermined) (fault_once : PropertiesFaultIsDetermined) (either : FaultExcludesProperties)
+    (search_once : (parts : List Part) (r q : Reply) → IsSearchReply told parts r → IsSearchReply told parts q → r ≡ q)
+    (s : SystemData) (budget : ℕ) (text : List ℕ) where
   checks-once : (r q : Reply) → ChecksAll s budget text r → ChecksAll s budget text q → r ≡ q
   checks-once r q h k =
       search_once (property_parts budget k.said) r q
-      (subst (λ said. IsSearchReply told (property_parts budget said) r) (says-once h.said k.said h.says k.says) h.replies) k.replies
-
-  not-both : (r q : Reply) → RefusesProperties s text r → ChecksAll s budget text q → ⊥
-  not-both r q h k =
-      refused_or_faultless properties (first_properties_fault s) text (once text) (fault_once text) (either text) h.refusal k.says.blocks h.refused
-      k.says.are_blocks k.says.no_fault
+      (subst (λ said. IsSearchReply told (property_parts budget said) r) (says-once once s text h.said k.said h.says k.says) h.replies) k.replies
 
   pub check-all-once : (r q : Reply) → IsCheckAllReply s budget text r → IsCheckAllReply s budget text q → r ≡ q
   check-all-once r q h k = elim h [
     | inl refuses ↦ elim k [
-      | inl refuses_too ↦ refuses-once r q refuses refuses_too
-      | inr checks ↦ absurd (not-both r q refuses checks)
+      | inl refuses_too ↦ refuses-once once fault_once either s text r q refuses refuses_too
+      | inr checks ↦ absurd (not-both once fault_once either s text budget r q refuses checks)
     ]
     | inr checks ↦ elim k [
-      | inl refuses ↦ absurd (not-both q r refuses checks)
+      | inl refuses ↦ absurd (not-both once fault_once either s text budget q r refuses checks)
       | inr checks_too ↦ checks-once r q checks checks_too
+    ]
+  ]
+
+-- ---- a larger budget
+
+-- whether one verdict is unsafe, and whether one is unknown, where each verdict that is not unknown has the same status among others
+unsafe-step : (v w : Verdict) (rest more : Bool) → (status_of (v ∷ []) ≢ status.Unknown → status_of (w ∷ []) ≡ status_of (v ∷ []))
+    → (rest ≡ true → more ≡ true) → is_unsafe v || rest ≡ true → is_unsafe w || more ≡ true
+unsafe-step (Safe proof log) (Safe proof' log') rest more kept later h = later h
+unsafe-step (Safe proof log) (Unsafe words log') rest more kept later h = refl
+unsafe-step (Safe proof log) (Unknown log') rest more kept later h = later h
+unsafe-step (Unsafe words log) (Safe proof log') rest more kept later h = absurd (let e = kept (λ u. cc u) in cc e)
+unsafe-step (Unsafe words log) (Unsafe words' log') rest more kept later h = refl
+unsafe-step (Unsafe words log) (Unknown log') rest more kept later h = absurd (let e = kept (λ u. cc u) in cc e)
+unsafe-step (Unknown log) (Safe proof log') rest more kept later h = later h
+unsafe-step (Unknown log) (Unsafe words log') rest more kept later h = refl
+unsafe-step (Unknown log) (Unknown log') rest more kept later h = later h
+
+-- neither test holds
+abbrev AreBothFalse : Bool → Bool → Type 0
+AreBothFalse a b = (a ≡ false) × (b ≡ false)
+
+safe-step : (v w : Verdict) (rest rest' more more' : Bool) → (status_of (v ∷ []) ≢ status.Unknown → status_of (w ∷ []) ≡ status_of (v ∷ []))
+    → (AreBothFalse rest rest' → AreBothFalse more more') → AreBothFalse (is_unsafe v || rest) (is_unknown v || rest')
+    → AreBothFalse (is_unsafe w || more) (is_unknown w || more')
+safe-step (Safe proof log) (Safe proof' log') rest rest' more more' kept later h = later h
+safe-step (Safe proof log) (Unsafe words log') rest rest' more more' kept later h = absurd (let e = kept (λ u. cc u) in cc e)
+safe-step (Safe proof log) (Unknown log') rest rest' more more' kept later h = absurd (let e = kept (λ u. cc u) in cc e)
+safe-step (Unsafe words log) w rest rest' more more' kept later h = absurd (true≢false h.0)
+safe-step (Unknown log) w rest rest' more more' kept later h = absurd (true≢false h.1)
+
+-- whether one answer is unsafe, and whether one is unknown
+abbrev any-unsafe : List PartAnswer → Bool
+any-unsafe answers = list_any is_unsafe (map (λ (a : PartAnswer). a.verdict) answers)
+
+abbrev any-unknown : List PartAnswer → Bool
+any-unknown answers = list_any is_unknown (map (λ (a : PartAnswer). a.verdict) answers)
+
+unsafe-kept : (answers more : List PartAnswer) → AreKept answers more → any-unsafe answers ≡ true → any-unsafe more ≡ true
+unsafe-kept [] [] kept h = h
+unsafe-kept [] (b ∷ ys) kept h = absurd kept
+unsafe-kept (a ∷ xs) [] kept h = absurd kept
+unsafe-kept (a ∷ xs) (b ∷ ys) kept h =
+    unsafe-step a.verdict b.verdict (any-unsafe xs) (any-unsafe ys) (λ decided. (kept.0 decided).status) (unsafe-kept xs ys kept.1) h
+
+safe-kept : (answers more : List PartAnswer) → AreKept answers more → AreBothFalse (any-unsafe answers) (any-unknown answers)
+    → AreBothFalse (any-unsafe more) (any-unknown more)
+safe-kept [] [] kept h = h
+safe-kept [] (b ∷ ys) kept h = absurd kept
+safe-kept (a ∷ xs) [] kept h = absurd kept
+safe-kept (a ∷ xs) (b ∷ ys) kept h =
+    safe-step a.verdict b.verdict (any-unsafe xs) (any-unknown xs) (any-unsafe ys) (any-unknown ys) (λ decided. (kept.0 decided).status)
+    (safe-kept xs ys kept.1) h
+
+-- the status of such tests
+abbrev status-by : Bool → Bool → Status
+status-by unsafe unknown = if unsafe then status.Unsafe else (if unknown then status.Unknown else status.Done)
+
+status-kept : (u k u' k' : Bool) → (u ≡ true → u' ≡ true) → (AreBothFalse u k → AreBothFalse u' k') → status-by u k ≢ status.Unknown
+    → status-by u' k' ≡ status-by u k
+status-kept true k u' k' unsafe safe decided = ap (λ b. status-by b k') (unsafe refl)
+status-kept false true u' k' unsafe safe decided = absurd (decided refl)
+status-kept false false u' k' unsafe safe decided =
+    let both = safe (refl, refl) in ap (λ b. status-by b k') both.0 ∙ ap (λ b. status-by false b) both.1
+
+done-tests : (u k : Bool) → status-by u k ≡ status.Done → AreBothFalse u k
+done-tests true k e = absurd (cc e)
+done-tests false true e = absurd (cc e)
+done-tests false false e = (refl, refl)
+
+-- where all are safe, each text is kept
+decided-step : (v : Verdict) (rest rest' : Bool) → AreBothFalse (is_unsafe v || rest) (is_unknown v || rest')
+    → (status_of (v ∷ []) ≢ status.Unknown) × AreBothFalse rest rest'
+decided-step (Safe proof log) rest rest' h = ((λ u. cc u), h)
+decided-step (Unsafe words log) rest rest' h = absurd (true≢false h.0)
+decided-step (Unknown log) rest rest' h = absurd (true≢false h.1)
+
+texts-kept : (parts : List Part) (answers more : List PartAnswer) → AreKept answers more → AreBothFalse (any-unsafe answers) (any-unknown answers)
+    → texts_of parts more ≡ texts_of parts answers
+texts-kept [] answers more kept h = refl
+texts-kept (p ∷ parts) [] [] kept h = refl
+texts-kept (p ∷ parts) [] (b ∷ ys) kept h = absurd kept
+texts-kept (p ∷ parts) (a ∷ xs) [] kept h = absurd kept
+texts-kept (p ∷ parts) (a ∷ xs) (b ∷ ys) kept h =
+    let first = decided-step a.verdict (any-unsafe xs) (any-unknown xs) h in
+    ap₂ (λ x y. titled p.title x ++ y) (kept.0 first.0).text (texts-kept parts xs ys kept.1 first.1)
+
+-- a budget is in no title
+texts-within : (budget larger : ℕ) (said : List Property) (answers : List PartAnswer)
+    → texts_of (property_parts larger said) answers ≡ texts_of (property_parts budget said) answers
+texts-within budget larger [] answers = refl
+texts-within budget larger (p ∷ said) [] = refl
+texts-within budget larger (p ∷ said) (a ∷ answers) = ap (λ x. titled (Some p.name) a.text ++ x) (texts-within budget larger said answers)
+
+module _ (keeps : LargerBudgetKeepsVerdict) (keeps-text : LargerBudgetKeepsText) (budget larger : ℕ) (bigger : budget ≤ larger) where
+  answers-kept : (said : List Property) (answers more : List PartAnswer) → HoldsOfParts (IsAnswerTo told) (property_parts budget said) answers
+      → HoldsOfParts (IsAnswerTo told) (property_parts larger said) more → AreKept answers more
+  answers-kept [] [] [] h k = tt
+  answers-kept [] [] (b ∷ ys) h k = absurd k
+  answers-kept [] (a ∷ xs) more h k = absurd h
+  answers-kept (p ∷ said) [] more h k = absurd h
+  answers-kept (p ∷ said) (a ∷ xs) [] h k = absurd k
+  answers-kept (p ∷ said) (a ∷ xs) (b ∷ ys) h k =
+      (part-stays keeps keeps-text told (property_part budget p) larger a b bigger h.0 k.0, answers-kept said xs ys h.1 k.1)
+
+  parts-kept : (said : List Property) (r q : Reply) → IsSearchReply told (property_parts budget said) r → IsSearchReply told (property_parts larger said) q
+      → KeepsParts r q
+  parts-kept said r q h k =
+      let parts = property_parts budget said in
+      let kept = answers-kept said h.answers k.answers h.are_answers k.are_answers in
+      let one = ap (λ (x : Reply). x.status) h.reply_is in
+      let other = ap (λ (x : Reply). x.status) k.reply_is in
+      let within = texts-within budget larger said k.answers in
+      record {
+        parts = parts;
+        answers = h.answers;
+        more = k.answers;
+        one_is = h.reply_is;
+        other_is = k.reply_is ∙ (λ i. record {
+          status = status_of (map (λ (a : PartAnswer). a.verdict) k.answers);
+          out = within i;
+          err = flat_map (λ (a : PartAnswer). report_of told (log_in a.verdict)) k.answers;
+        });
+        kept = kept;
+        status = λ decided.
+            other
+            ∙ status-kept (any-unsafe h.answers) (any-unknown h.answers) (any-unsafe k.answers) (any-unknown k.answers)
+            (unsafe-kept h.answers k.answers kept) (safe-kept h.answers k.answers kept) (λ e. decided (one ∙ e))
+            ∙ sym one;
+        out = λ done.
+            ap (λ (x : Reply). x.out) k.reply_is ∙ within ∙ texts-kept parts h.answers k.answers kept (done-tests (any-unsafe h.answers) (any-unknown h.answers) (sym one ∙ done))
+            ∙ sym (ap (λ (x : Reply). x.out) h.reply_is);
+      }
+
+module _ (once : PropertiesAreDetermined) (fault_once : PropertiesFaultIsDetermined) (either : FaultExcludesProperties) (keeps : LargerBudgetKeepsVerdict)
+    (keeps-text : LargerBudgetKeepsText) (s : SystemData) (budget larger : ℕ) (bigger : budget ≤ larger) (text : List ℕ) where
+  checks-kept : (r q : Reply) → ChecksAll s budget text r → ChecksAll s larger text q → KeepsParts r q
+  checks-kept r q h k =
+      parts-kept keeps keeps-text budget larger bigger k.said r q
+      (subst (λ said. IsSearchReply told (property_parts budget said) r) (says-once once s text h.said k.said h.says k.says) h.replies) k.replies
+
+  pub check-all-kept : (r q : Reply) → IsCheckAllReply s budget text r → IsCheckAllReply s larger text q → (r ≡ q) ⊎ KeepsParts r q
+  check-all-kept r q h k = elim h [
+    | inl refuses ↦ elim k [
+      | inl refuses_too ↦ inl (refuses-once once fault_once either s text r q refuses refuses_too)
+      | inr checks ↦ absurd (not-both once fault_once either s text larger r q refuses checks)
+    ]
+    | inr checks ↦ elim k [
+      | inl refuses ↦ absurd (not-both once fault_once either s text budget q r refuses checks)
+      | inr checks_too ↦ inr (checks-kept r q checks checks_too)
     ]
   ]
 

@@ -22,11 +22,12 @@ use Rattle.command_replies.specs.Reading.{IsFaultless}
 use Rattle.armc_commands.specs.Commands.{CommandReply}
 use Rattle.armc_commands.specs.declared.search_reply.Telling.{Telling}
 use Rattle.armc_commands.specs.declared.search_reply.Telling.TheVariants.{Summary}
-use Rattle.armc_commands.specs.SearchReply.{Part, IsSearchReply}
+use Rattle.armc_commands.specs.SearchReply.{Part, only_part, IsSearchReply}
 use Rattle.armc_commands.specs.Commands.CheckAll.{IsCheckAllReply}
-use Rattle.armc_commands.specs.Commands.Generate.{generate_parts}
+use Rattle.armc_commands.specs.Commands.Generate.{default_search}
 use Rattle.armc_commands.specs.Commands.Migrate.{IsMigrateReply, Migrates, migrated_text}
-use Rattle.armc_commands.specs.Commands.Queries.{telling_of, query_parts}
+use Rattle.armc_commands.specs.Commands.Queries.{telling_of}
+use Rattle.armc_commands.specs.Commands.Searches.{search_for}
 use Rattle.armc_commands.specs.Commands.Steps.{IsStepsReply, ListsSuccessors, RefusesConfiguration, successors_text}
 use Rattle.armc_commands.specs.Commands.Verify.{IsVerifyReply, Judges, answer_status, answer_text}
 
@@ -119,6 +120,6 @@ module _ (allowed : (text : List ℕ) (p : Protocol) → IsProtocol text p → I
   command_once (steps file configuration) source p text r q says h k = steps_reply_once (system_of p) (system_is_valid source p says) text r q h k
   command_once (show file) source p text r q says h k = h ∙ sym k
   command_once (searching file query limits) source p text r q says h k =
-      search_once (telling_of query) (query_parts (system_of p) query limits.budget) r q h k
+      search_once (telling_of query) (only_part (system_of p) (search_for query limits.budget)) r q h k
   command_once (checking_all file properties limits) source p text r q says h k = check_all_reply_once (system_of p) limits.budget text r q h k
-  command_once (generate number workers) source p text r q says h k = search_once (Summary number) (generate_parts (system_of p)) r q h k
+  command_once (generate number workers) source p text r q says h k = search_once (Summary number) (only_part (system_of p) default_search) r q h k

@@ -9,6 +9,9 @@ pub mod BackLemmas
 pub mod DeadlockLemmas
 pub mod QueryLemmas
 pub mod MigrateLemmas
+pub mod VerifyLemmas
+pub mod WorkersLemmas
+pub mod BudgetLemmas
 pub mod CheckAllLemmas
 pub mod Promised
 pub mod UsageLemmas

@@ -30,7 +30,7 @@ not_longer (Some x) a limit some h within longer = let same = ap length h in ome
 
 -- a text that is told has one meaning
 module _ (told : Told) where
-  origin_once : (origin : Origin) (a b : List ℕ) → IsToldOrigin told origin → IsTextFrom told origin a → IsTextFrom told origin b → a ≡ b
+  pub origin_once : (origin : Origin) (a b : List ℕ) → IsToldOrigin told origin → IsTextFrom told origin a → IsTextFrom told origin b → a ≡ b
   origin_once (named name limit) a b some h k = one_text (told name) a b some h.whole k.whole
   origin_once (given text) a b some h k = h ∙ sym k
   origin_once (generated number) a b some h k = h ∙ sym k
@@ -41,9 +41,28 @@ module _ (told : Told) where
       let of_name = subst (λ o. IsTextFrom told o a) e h in
       not_longer (told name) a limit some of_name.whole of_name.within longer
 
+-- what is said of a command, where another has its origins
+module _ (told : Told) (command other : Command) (first : protocol_origin other ≡ protocol_origin command) where
+  pub protocol_moved : (p : Protocol) → HasProtocol told other p → HasProtocol told command p
+  protocol_moved p h =
+      let is_text = subst (λ (o : Origin). IsTextFrom told o h.text) first h.is_text in record { text = h.text; is_text = is_text; says = h.says }
+
+  pub refusal_moved : (reply : Reply) → RefusesProtocol told other reply → RefusesProtocol told command reply
+  refusal_moved reply h = record {
+    refusal = h.refusal;
+    text = h.text;
+    is_text = subst (λ (o : Origin). IsTextFrom told o h.text) first h.is_text;
+    refused = h.refused;
+    reply_is = h.reply_is;
+  }
+
+  pub read_moved : second_origin other ≡ second_origin command → (name : List ℕ) (limit : ℕ) → IsRead told other name limit → IsRead told command name limit
+  read_moved second name limit h = elim h [
+    | inl e ↦ inl (sym first ∙ e)
+    | inr later ↦ inr (sym second ∙ later.0, (later.1.0, protocol_moved later.1.0 later.1.1))
+  ]
+
 module _ (protocol_once : ProtocolIsDetermined) (fault_once : FaultIsDetermined) (fault_or_protocol : FaultExcludesProtocol)
-    (command_once : (command : Command) (source : List ℕ) (p : Protocol) (text : List ℕ) (r q : Reply) → IsFaultless source p
-    → CommandReply command p text r → CommandReply command p text q → r ≡ q)
     (words : List (List ℕ)) (told : Told) (tells : TellsTexts words told) where
   module _ (command : Command) (asked : command_of words ≡ Some command) where
     name_told : (name : List ℕ) (limit : ℕ) → IsRead told command name limit → IsSome (told name)
@@ -52,50 +71,29 @@ module _ (protocol_once : ProtocolIsDetermined) (fault_once : FaultIsDetermined)
     first_once : (a b : List ℕ) → IsTextFrom told (protocol_origin command) a → IsTextFrom told (protocol_origin command) b → a ≡ b
     first_once a b = origin_once told (protocol_origin command) a b (first_told words told tells command asked)
 
-    not_both : (p : Protocol) (reply : Reply) → RefusesProtocol told command reply → HasProtocol told command p → ⊥
+    pub not_both : (p : Protocol) (reply : Reply) → RefusesProtocol told command reply → HasProtocol told command p → ⊥
     not_both p reply refuses has =
         let same = first_once refuses.text has.text refuses.is_text has.is_text in
         refused_or_faultless protocol first_fault has.text (protocol_once has.text) (fault_once has.text) (fault_or_protocol has.text) refuses.refusal p
         (subst (λ text. IsRefusalOf text refuses.refusal) same refuses.refused) has.says.is_protocol has.says.no_fault
 
-    refused_once : (r q : Reply) → RefusesProtocol told command r → RefusesProtocol told command q → r ≡ q
+    pub refused_once : (r q : Reply) → RefusesProtocol told command r → RefusesProtocol told command q → r ≡ q
     refused_once r q h k =
         let same = first_once h.text k.text h.is_text k.is_text in
         let refusals = refusal_once protocol first_fault k.text (protocol_once k.text) (fault_once k.text) (fault_or_protocol k.text) h.refusal k.refusal
         (subst (λ text. IsRefusalOf text h.refusal) same h.refused) k.refused in
         h.reply_is ∙ ap (refusal_reply (codes "protocol") ProtocolRefused) refusals ∙ sym k.reply_is
 
-    protocols_once : (p q : Protocol) → HasProtocol told command p → HasProtocol told command q → p ≡ q
+    pub protocols_once : (p q : Protocol) → HasProtocol told command p → HasProtocol told command q → p ≡ q
     protocols_once p q h k =
         let same = first_once h.text k.text h.is_text k.is_text in
         protocol_once k.text p q (subst (λ text. IsFaultless text p) same h.says).is_protocol k.says.is_protocol
-
-    carried_once : (r q : Reply) → CarriesOut told command r → CarriesOut told command q → r ≡ q
-    carried_once r q h k =
-        let protocols = protocols_once h.protocol k.protocol h.has_protocol k.has_protocol in
-        let texts = origin_once told (second_origin command) h.text k.text (second_told words told tells command asked h.protocol h.has_protocol) h.is_text k.is_text in
-        let moved = subst (λ p. CommandReply command p h.text r) protocols h.replies in
-        command_once command k.has_protocol.text k.protocol k.text r q k.has_protocol.says
-        (subst (λ text. CommandReply command k.protocol text r) texts moved) k.replies
-
-    replies_once : (r q : Reply) → RefusesProtocol told command r ⊎ CarriesOut told command r → RefusesProtocol told command q ⊎ CarriesOut told command q
-        → r ≡ q
-    replies_once r q h k = elim h [
-      | inl refuses ↦ elim k [
-        | inl refuses_too ↦ refused_once r q refuses refuses_too
-        | inr carries ↦ absurd (not_both carries.protocol r refuses carries.has_protocol)
-      ]
-      | inr carries ↦ elim k [
-        | inl refuses ↦ absurd (not_both carries.protocol q refuses carries.has_protocol)
-        | inr carries_too ↦ carried_once r q carries carries_too
-      ]
-    ]
 
     first_within : (text : List ℕ) (name : List ℕ) (limit : ℕ) → IsTextFrom told (protocol_origin command) text
         → protocol_origin command ≡ named name limit → IfSome (told name) (λ x. limit < length x) → ⊥
     first_within text name limit is e longer = origin_within told (protocol_origin command) text name limit (name_told name limit (inl e)) is e longer
 
-    none_too_long : (r : Reply) (name : List ℕ) (limit : ℕ) → RefusesProtocol told command r ⊎ CarriesOut told command r → IsRead told command name limit
+    pub none_too_long : (r : Reply) (name : List ℕ) (limit : ℕ) → RefusesProtocol told command r ⊎ CarriesOut told command r → IsRead told command name limit
         → IfSome (told name) (λ x. limit < length x) → ⊥
     none_too_long r name limit h is_read longer = elim h [
       | inl refuses ↦ elim is_read [
@@ -121,25 +119,8 @@ module _ (protocol_once : ProtocolIsDetermined) (fault_once : FaultIsDetermined)
       ]
     ]
 
-  same_command : (one other : Command) → command_of words ≡ Some one → command_of words ≡ Some other → other ≡ one
+  pub same_command : (one other : Command) → command_of words ≡ Some one → command_of words ≡ Some other → other ≡ one
   same_command one other h k = let same : Some other ≡ Some one = sym k ∙ h in cc same
-
-  to_commands_once : (r q : Reply) → RepliesToCommand words told r → RepliesToCommand words told q → r ≡ q
-  to_commands_once r q h k =
-      let P : Command → Type 0 = λ command. RefusesProtocol told command q ⊎ CarriesOut told command q in
-      replies_once h.command h.asked r q h.replies (subst P (same_command h.command k.command h.asked k.asked) k.replies)
-
-  reply_once : (r q : Reply) → IsReply words told r → IsReply words told q → r ≡ q
-  reply_once r q h k = elim h [
-    | inl none ↦ elim k [
-      | inl none_too ↦ none.1 ∙ sym none_too.1
-      | inr to_command ↦ absurd (let e : None ≡ Some to_command.command = sym none.0 ∙ to_command.asked in cc e)
-    ]
-    | inr to_command ↦ elim k [
-      | inl none ↦ absurd (let e : None ≡ Some to_command.command = sym none.0 ∙ to_command.asked in cc e)
-      | inr to_command_too ↦ to_commands_once r q to_command to_command_too
-    ]
-  ]
 
   reply_or_too_long : (r : Reply) (name : List ℕ) (limit : ℕ) → IsReply words told r → IsToldTooLong words told name limit → ⊥
   reply_or_too_long r name limit h k = elim h [
@@ -156,16 +137,57 @@ module _ (protocol_once : ProtocolIsDetermined) (fault_once : FaultIsDetermined)
       let P : Command → Type 0 = λ command. IsRead told command other bound in
       too_long_once h.reads.command h.reads.asked name other limit bound h.reads.is_read (subst P same k.reads.is_read) h.longer k.longer
 
-  pub outcome_once : (one other : Result Reply Failure) → IsDecidedBy words told one → IsDecidedBy words told other → one ≢ Err Memory → other ≢ Err Memory
-      → one ≡ other
-  outcome_once (Ok r) (Ok q) h k m n = ap Ok (reply_once r q h k)
-  outcome_once (Ok r) (Err (ReadFault name)) h k m n = absurd k
-  outcome_once (Ok r) (Err (TooLong name)) h k m n = absurd (reply_or_too_long r name k.0 h k.1)
-  outcome_once (Ok r) (Err Memory) h k m n = absurd (n refl)
-  outcome_once (Err (ReadFault name)) other h k m n = absurd h
-  outcome_once (Err (TooLong name)) (Ok q) h k m n = absurd (reply_or_too_long q name h.0 k h.1)
-  outcome_once (Err (TooLong name)) (Err (ReadFault other)) h k m n = absurd k
-  outcome_once (Err (TooLong name)) (Err (TooLong other)) h k m n =
-      ap (λ (x : List ℕ). Err (TooLong x)) (names_once name other h.0 k.0 h.1 k.1)
-  outcome_once (Err (TooLong name)) (Err Memory) h k m n = absurd (n refl)
-  outcome_once (Err Memory) other h k m n = absurd (m refl)
+  module _ (command_once : (command : Command) (source : List ℕ) (p : Protocol) (text : List ℕ) (r q : Reply) → IsFaultless source p
+      → CommandReply command p text r → CommandReply command p text q → r ≡ q) where
+    module _ (command : Command) (asked : command_of words ≡ Some command) where
+      carried_once : (r q : Reply) → CarriesOut told command r → CarriesOut told command q → r ≡ q
+      carried_once r q h k =
+          let protocols = protocols_once command asked h.protocol k.protocol h.has_protocol k.has_protocol in
+          let texts = origin_once told (second_origin command) h.text k.text (second_told words told tells command asked h.protocol h.has_protocol) h.is_text k.is_text in
+          let moved = subst (λ p. CommandReply command p h.text r) protocols h.replies in
+          command_once command k.has_protocol.text k.protocol k.text r q k.has_protocol.says
+          (subst (λ text. CommandReply command k.protocol text r) texts moved) k.replies
+
+      replies_once : (r q : Reply) → RefusesProtocol told command r ⊎ CarriesOut told command r → RefusesProtocol told command q ⊎ CarriesOut told command q
+          → r ≡ q
+      replies_once r q h k = elim h [
+        | inl refuses ↦ elim k [
+          | inl refuses_too ↦ refused_once command asked r q refuses refuses_too
+          | inr carries ↦ absurd (not_both command asked carries.protocol r refuses carries.has_protocol)
+        ]
+        | inr carries ↦ elim k [
+          | inl refuses ↦ absurd (not_both command asked carries.protocol q refuses carries.has_protocol)
+          | inr carries_too ↦ carried_once r q carries carries_too
+        ]
+      ]
+
+    to_commands_once : (r q : Reply) → RepliesToCommand words told r → RepliesToCommand words told q → r ≡ q
+    to_commands_once r q h k =
+        let P : Command → Type 0 = λ command. RefusesProtocol told command q ⊎ CarriesOut told command q in
+        replies_once h.command h.asked r q h.replies (subst P (same_command h.command k.command h.asked k.asked) k.replies)
+
+    reply_once : (r q : Reply) → IsReply words told r → IsReply words told q → r ≡ q
+    reply_once r q h k = elim h [
+      | inl none ↦ elim k [
+        | inl none_too ↦ none.1 ∙ sym none_too.1
+        | inr to_command ↦ absurd (let e : None ≡ Some to_command.command = sym none.0 ∙ to_command.asked in cc e)
+      ]
+      | inr to_command ↦ elim k [
+        | inl none ↦ absurd (let e : None ≡ Some to_command.command = sym none.0 ∙ to_command.asked in cc e)
+        | inr to_command_too ↦ to_commands_once r q to_command to_command_too
+      ]
+    ]
+
+    pub outcome_once : (one other : Result Reply Failure) → IsDecidedBy words told one → IsDecidedBy words told other → one ≢ Err Memory → other ≢ Err Memory
+        → one ≡ other
+    outcome_once (Ok r) (Ok q) h k m n = ap Ok (reply_once r q h k)
+    outcome_once (Ok r) (Err (ReadFault name)) h k m n = absurd k
+    outcome_once (Ok r) (Err (TooLong name)) h k m n = absurd (reply_or_too_long r name k.0 h k.1)
+    outcome_once (Ok r) (Err Memory) h k m n = absurd (n refl)
+    outcome_once (Err (ReadFault name)) other h k m n = absurd h
+    outcome_once (Err (TooLong name)) (Ok q) h k m n = absurd (reply_or_too_long q name h.0 k h.1)
+    outcome_once (Err (TooLong name)) (Err (ReadFault other)) h k m n = absurd k
+    outcome_once (Err (TooLong name)) (Err (TooLong other)) h k m n =
+        ap (λ (x : List ℕ). Err (TooLong x)) (names_once name other h.0 k.0 h.1 k.1)
+    outcome_once (Err (TooLong name)) (Err Memory) h k m n = absurd (n refl)
+    outcome_once (Err Memory) other h k m n = absurd (m refl)

@@ -1,33 +1,39 @@
 -- The replies of commands that search.
-use Rattle.std.proofs.Common.{◌≡◌, ◌≢◌, ◌≤◌, ◌∙◌, ℕ, Bool, true, false, List, [], ◌∷◌, map, Option, None, append-nil, refl, sym, ap, subst, if◌then◌else◌}
+use Rattle.std.proofs.Common.{◌≡◌, ◌≢◌, ◌↔◌, ◌≤◌, ◌∙◌, ℕ, Bool, true, false, List, [], ◌∷◌, map, Option, None, append-nil, refl, sym, ap, subst, if◌then◌else◌}
 use Rattle.std.specs.List.{list_any}
 use Rattle.protocol_model.specs.declared.system.Run.{Run}
 use Rattle.protocol_model.specs.System.{SystemData}
 use Rattle.protocol_model.specs.Runs.{IsBadRun}
 use Rattle.certificate_checker.specs.Proof.{IsSafe}
-use Rattle.search_history.specs.declared.log.LogEnd.TheVariants.{Spent}
+use Rattle.search_history.specs.Histories.{log_of}
+use Rattle.search_history.specs.declared.log.Log.{Log}
+use Rattle.search_history.specs.declared.log.LogEnd.{LogEnd}
+use Rattle.search_history.specs.declared.log.LogEnd.TheVariants.{Closed, Real, Spent}
 use Rattle.refinement.specs.Verdicts.{log_in}
 use Rattle.refinement.specs.declared.verdict.Verdict.{Verdict}
 use Rattle.refinement.specs.declared.verdict.Verdict.TheVariants.{Safe, Unsafe, Unknown}
-use Rattle.protocol_search.specs.Analyses.{VerdictShows, CertificateShows, TextShows}
+use Rattle.certificate_writing.specs.Writing.{unknown_text}
+use Rattle.protocol_search.specs.Analyses.{IsVerdictText, VerdictShows, CertificateShows, TextShows}
 use Rattle.protocol_search.specs.OneVerdict.{VerdictIsDetermined, TextIsDetermined}
 use Rattle.protocol_search.specs.SearchLaws.{VerdictsAreSound, VerdictsShow, TextsShow, with_budget, with_logged_budget, LargerBudgetKeepsVerdict, LargerBudgetKeepsText}
-use Rattle.protocol_search.specs.SystemHistories.{VerdictsHaveHistories, SearchRefutesOnce, SearchIsBoundedByKeys, SearchIsBoundedByRuns}
-use Rattle.protocol_search.specs.Verdicts.{end_of}
-use Rattle.protocol_search.specs.declared.first.FirstAbstraction.{FirstAbstraction}
+use Rattle.protocol_search.specs.SystemHistories.{HistoryEnds, VerdictsHaveHistories, VerdictsAreOfHistories, SearchRefutesOnce}
+use Rattle.protocol_search.specs.SystemHistories.{SearchIsBoundedByKeys, SearchIsBoundedByRuns}
+use Rattle.protocol_search.specs.Verdicts.{IsVerdictOf, end_of}
+use Rattle.protocol_search.specs.declared.search.Search.{Search}
 use Rattle.protocol_search.specs.declared.search.Analysis.{Analysis}
-use Rattle.protocol_search.specs.declared.search.Analysis.TheVariants.{Forward}
-use Rattle.search_report.specs.declared.method.ReportedMethod.{ReportedMethod}
+use Rattle.protocol_search.specs.declared.search.Analysis.TheVariants.{Forward, Backward, Stuck}
+use Rattle.search_report.specs.declared.methods.Method.{Method}
 use Rattle.command_replies.specs.declared.status.Status.{Status}
 use Rattle.command_replies.specs.declared.status.Status.TheVariants as status
 use Rattle.command_replies.specs.declared.reply.Reply.{Reply}
 use Rattle.armc_commands.specs.declared.search_reply.Telling.{Telling}
 use Rattle.armc_commands.specs.declared.search_reply.Telling.TheVariants.{Certificate, Summary}
 use Rattle.armc_commands.specs.Summary.{summary}
-use Rattle.armc_commands.specs.SearchReply.{Part, PartAnswer, IsTold, IsAnswerTo, HoldsOfParts, titled, status_of, report_of, reply_of_answers, IsSearchReply, is_unsafe, is_unknown}
-use Rattle.armc_commands.specs.SearchPromise.{PartPromise, ToldShows, SearchPromise, ShowsSafe, ShowsUnsafe, CertificatePromise}
-use Rattle.armc_commands.specs.Commands.Generate.{IsGenerateReply, GeneratePromise, generate_parts}
-use Rattle.armc_commands.specs.ReplyLaws.{part_within, SamePart, SameAnswer}
+use Rattle.armc_commands.specs.SearchReply.{Part, PartAnswer, only_part, IsTold, IsAnswerTo, HoldsOfParts, titled, status_of, report_of, reply_of_answers, IsSearchReply}
+use Rattle.armc_commands.specs.SearchReply.{is_unsafe, is_unknown}
+use Rattle.armc_commands.specs.SearchPromise.{PartPromise, IsStatusOfHistory, spent_text, ToldShows, SearchPromise, ShowsSafe, ShowsUnsafe, CertificatePromise}
+use Rattle.armc_commands.specs.Commands.Generate.{IsGenerateReply, GeneratePromise, default_search}
+use Rattle.armc_commands.specs.ReplyLaws.{SamePart, SameAnswer}
 
 -- ---- one reply
 
@@ -58,10 +64,59 @@ module _ (verdict-once : VerdictIsDetermined) (text-once : TextIsDetermined) whe
   search-once told parts r q h k =
       h.reply_is ∙ ap (reply_of_answers told parts) (answers-once told parts h.answers k.answers h.are_answers k.are_answers) ∙ sym k.reply_is
 
+-- ---- the end of its history
+
+-- the status of a verdict says how its history ends
+done-closed : (v : Verdict) → (status_of (v ∷ []) ≡ status.Done) ↔ (end_of v ≡ Closed)
+done-closed (Safe proof log) = (λ e. refl, λ e. refl)
+done-closed (Unsafe words log) = (λ e. absurd (cc e), λ e. absurd (cc e))
+done-closed (Unknown log) = (λ e. absurd (cc e), λ e. absurd (cc e))
+
+unsafe-real : (v : Verdict) → (status_of (v ∷ []) ≡ status.Unsafe) ↔ (end_of v ≡ Real)
+unsafe-real (Safe proof log) = (λ e. absurd (cc e), λ e. absurd (cc e))
+unsafe-real (Unsafe words log) = (λ e. refl, λ e. refl)
+unsafe-real (Unknown log) = (λ e. absurd (cc e), λ e. absurd (cc e))
+
+unknown-spent : (v : Verdict) → (status_of (v ∷ []) ≡ status.Unknown) ↔ (end_of v ≡ Spent)
+unknown-spent (Safe proof log) = (λ e. absurd (cc e), λ e. absurd (cc e))
+unknown-spent (Unsafe words log) = (λ e. absurd (cc e), λ e. absurd (cc e))
+unknown-spent (Unknown log) = (λ e. refl, λ e. refl)
+
+-- the text of an unknown verdict
+spent-by : (report : Option Method) (analysis : Analysis) (s : SystemData) (log : Log) (text : List ℕ) → IsVerdictText analysis s (Unknown log) text
+    → text ≡ spent_text (Certificate report) analysis log
+spent-by report Forward s log text h = h
+spent-by report Backward s log text h = h
+spent-by report Stuck s log text h = h
+
+spent-told : (told : Telling) (part : Part) (v : Verdict) (text : List ℕ) (log : Log) → end_of v ≡ Spent → log_in v ≡ log → IsTold told part v text
+    → text ≡ spent_text told part.search.analysis log
+spent-told told part (Safe proof own) text log e same h = absurd (cc e)
+spent-told told part (Unsafe words own) text log e same h = absurd (cc e)
+spent-told (Certificate report) part (Unknown own) text log e same h =
+    spent-by report part.search.analysis part.system own text h ∙ ap (spent_text (Certificate report) part.search.analysis) same
+spent-told (Summary number) part (Unknown own) text log e same h = h ∙ ap (spent_text (Summary number) part.search.analysis) same
+
+module _ (histories : VerdictsHaveHistories) (no-others : VerdictsAreOfHistories) (s : SystemData) (search : Search) (v : Verdict) (h : IsVerdictOf s search v) where
+  exactly-where : (end : LogEnd) (told : Status) → (status_of (v ∷ []) ≡ told) ↔ (end_of v ≡ end)
+      → (status_of (v ∷ []) ≡ told) ↔ ((sum : ℕ) × HistoryEnds s search end sum)
+  exactly-where end told says =
+      let from = histories s search v h in (
+        λ e. (from.sum, subst (λ x. HistoryEnds s search x from.sum) (says.0 e) from.ended),
+        λ ended. says.1 ((no-others s search v h end ended.0 ended.1).0),
+      )
+
+  status-by-history : IsStatusOfHistory s search (status_of (v ∷ []))
+  status-by-history = record {
+    done = exactly-where Closed status.Done (done-closed v);
+    unsafe = exactly-where Real status.Unsafe (unsafe-real v);
+    unknown = exactly-where Spent status.Unknown (unknown-spent v);
+  }
+
 -- ---- what it promises
 
-module _ (histories : VerdictsHaveHistories) (sound : VerdictsAreSound) (shows : VerdictsShow) (texts : TextsShow) (once : SearchRefutesOnce)
-    (by-keys : SearchIsBoundedByKeys) (by-runs : SearchIsBoundedByRuns) where
+module _ (histories : VerdictsHaveHistories) (no-others : VerdictsAreOfHistories) (sound : VerdictsAreSound) (shows : VerdictsShow) (texts : TextsShow)
+    (once : SearchRefutesOnce) (by-keys : SearchIsBoundedByKeys) (by-runs : SearchIsBoundedByRuns) where
   told-shows : (told : Telling) (part : Part) (answer : PartAnswer) → IsAnswerTo told part answer → ToldShows told part answer
   told-shows (Certificate report) part answer h = texts part.system part.search answer.verdict answer.text h.is_verdict h.is_told
   told-shows (Summary number) part answer h = tt
@@ -71,14 +126,19 @@ module _ (histories : VerdictsHaveHistories) (sound : VerdictsAreSound) (shows :
       let s = part.system in
       let search = part.search in
       let from = histories s search answer.verdict h.is_verdict in
+      let ended = from.ended in
       record {
         is_answer = h;
         searched = record {
           comes = from;
-          refuted_once = λ by. once s search from.rounds from.sum by from.history;
-          bounded_by_keys = by-keys s search from.rounds from.sum from.history;
-          bounded_by_runs = λ run counter. by-runs s search run counter from.rounds from.sum from.history;
+          refuted_once = λ by. once s search ended.rounds from.sum by ended.history;
+          bounded_by_keys = by-keys s search ended.rounds from.sum ended.history;
+          bounded_by_runs = λ run counter. by-runs s search run counter ended.rounds from.sum ended.history;
         };
+        by_history = status-by-history histories no-others s search answer.verdict h.is_verdict;
+        unknown = λ sum spent.
+            let only = no-others s search answer.verdict h.is_verdict Spent sum spent in
+            spent-told told part answer.verdict answer.text (log_of search.budget spent.rounds sum) only.0 only.1 h.is_told;
         sound = sound s search answer.verdict h.is_verdict;
         shows = shows s search answer.verdict h.is_verdict;
         text_shows = told-shows told part answer h;
@@ -118,8 +178,8 @@ one-answer P told part reply (a ∷ []) h is = record {
 one-answer P told part reply (a ∷ b ∷ xs) h is = absurd h.1
 
 -- the part of one search
-abbrev pub part-of : SystemData → Analysis → FirstAbstraction → ℕ → Part
-part-of s analysis first budget = record { title = None; system = s; search = record { analysis = analysis; first = first; budget = budget } }
+abbrev pub part-of : SystemData → Search → Part
+part-of s search = record { title = None; system = s; search = search }
 
 certificate-safe : (s : SystemData) (v : Verdict) (text : List ℕ) → CertificateShows s v text → status_of (v ∷ []) ≡ status.Done → ShowsSafe s text
 certificate-safe s (Safe proof log) text h e = (proof, h.0, h.1, h.2)
@@ -132,20 +192,22 @@ certificate-unsafe s (Unsafe words log) text h e = h
 certificate-unsafe s (Unknown log) text h e = absurd (cc e)
 
 pub certificate-promised : ((told : Telling) (parts : List Part) (reply : Reply) → IsSearchReply told parts reply → SearchPromise told parts reply)
-    → (s : SystemData) (analysis : Analysis) → ((v : Verdict) (text : List ℕ) → TextShows analysis s v text → CertificateShows s v text)
-    → (report : Option ReportedMethod) (first : FirstAbstraction) (budget : ℕ) (reply : Reply)
-    → IsSearchReply (Certificate report) (part-of s analysis first budget ∷ []) reply
-    → CertificatePromise s (Certificate report) (part-of s analysis first budget ∷ []) reply
-certificate-promised keep s analysis certifies report first budget reply h =
+    → (s : SystemData) (search : Search) (report : Option Method)
+    → ((v : Verdict) (text : List ℕ) → TextShows search.analysis s v text → CertificateShows s v text)
+    → ((log : Log) → spent_text (Certificate report) search.analysis log ≡ unknown_text log.counted log.budget)
+    → (reply : Reply) → IsSearchReply (Certificate report) (only_part s search) reply → CertificatePromise s (Certificate report) search reply
+certificate-promised keep s search report certifies spells reply h =
     let told : Telling = Certificate report in
-    let part = part-of s analysis first budget in
+    let part = part-of s search in
     let promise = keep told (part ∷ []) reply h in
     let one = one-answer (PartPromise told) told part reply promise.answers promise.promised promise.reply_is in
     let shows = certifies one.answer.verdict one.answer.text one.holds.text_shows in
     record {
       searched = promise;
+      by_history = subst (IsStatusOfHistory s search) (sym one.status_is) one.holds.by_history;
       safe = λ e. subst (ShowsSafe s) (sym one.out_is) (certificate-safe s one.answer.verdict one.answer.text shows (sym one.status_is ∙ e));
       unsafe = λ e. subst (ShowsUnsafe s) (sym one.out_is) (certificate-unsafe s one.answer.verdict one.answer.text shows (sym one.status_is ∙ e));
+      unknown = λ sum spent. one.out_is ∙ one.holds.unknown sum spent ∙ spells (log_of search.budget spent.rounds sum);
     }
 
 safe-shown : (s : SystemData) (v : Verdict) → VerdictShows Forward s v → status_of (v ∷ []) ≡ status.Done → IsSafe s
@@ -162,12 +224,14 @@ pub generate-promised : ((told : Telling) (parts : List Part) (reply : Reply) �
     → (s : SystemData) (number : ℕ) (reply : Reply) → IsGenerateReply s number reply → GeneratePromise s number reply
 generate-promised keep s number reply h =
     let told : Telling = Summary number in
-    let promise = keep told (generate_parts s) reply h in
+    let promise = keep told (only_part s default_search) reply h in
     let one = one-answer (PartPromise told) told _ reply promise.answers promise.promised promise.reply_is in
     record {
       searched = promise;
+      by_history = subst (IsStatusOfHistory s default_search) (sym one.status_is) one.holds.by_history;
       safe = λ e. safe-shown s one.answer.verdict one.holds.shows (sym one.status_is ∙ e);
       unsafe = λ e. run-shown s one.answer.verdict one.holds.shows (sym one.status_is ∙ e);
+      unknown = λ sum spent. one.out_is ∙ one.holds.unknown sum spent;
     }
 
 -- ---- a larger budget
@@ -182,10 +246,9 @@ same-summary number budget (Safe proof log) = refl
 same-summary number budget (Unsafe words log) = refl
 same-summary number budget (Unknown log) = refl
 
-open-status : (v : Verdict) → status_of (v ∷ []) ≢ status.Unknown → end_of v ≢ Spent
-open-status (Safe proof log) decided e = cc e
-open-status (Unsafe words log) decided e = cc e
-open-status (Unknown log) decided e = decided refl
+-- the part within another budget
+abbrev pub part_within : ℕ → Part → Part
+part_within budget part = record { title = part.title; system = part.system; search = with_budget budget part.search }
 
 module _ (keeps : LargerBudgetKeepsVerdict) (keeps-text : LargerBudgetKeepsText) where
   told-stays : (told : Telling) (part : Part) (larger : ℕ) (one other : PartAnswer) → part.search.budget ≤ larger → IsAnswerTo told part one
@@ -196,13 +259,14 @@ module _ (keeps : LargerBudgetKeepsVerdict) (keeps-text : LargerBudgetKeepsText)
       let same = keeps part.system part.search larger one.verdict other.verdict more h.is_verdict decided k.is_verdict in
       k.is_told ∙ ap (summary number) same ∙ same-summary number larger one.verdict ∙ sym h.is_told
 
-  pub part-stays : (told : Telling) (part : Part) (larger : ℕ) (one other : PartAnswer) → part.search.budget ≤ larger → IsAnswerTo told part one
-      → end_of one.verdict ≢ Spent → IsAnswerTo told (part_within larger part) other → SamePart one other
-  part-stays told part larger one other more h decided k =
-      let same = keeps part.system part.search larger one.verdict other.verdict more h.is_verdict decided k.is_verdict in
+  pub part-stays : (told : Telling) (part : Part) (larger : ℕ) (one other : PartAnswer) → part.search.budget ≤ larger
+      → IsAnswerTo told part one → IsAnswerTo told (part_within larger part) other → status_of (one.verdict ∷ []) ≢ status.Unknown → SamePart one other
+  part-stays told part larger one other more h k decided =
+      let open_end : end_of one.verdict ≢ Spent = λ e. decided ((unknown-spent one.verdict).1 e) in
+      let same = keeps part.system part.search larger one.verdict other.verdict more h.is_verdict open_end k.is_verdict in
       record {
         status = ap (λ v. status_of (v ∷ [])) same ∙ same-status larger one.verdict;
-        text = told-stays told part larger one other more h decided k;
+        text = told-stays told part larger one other more h open_end k;
       }
 
   pub reply-stays : (told : Telling) (part : Part) (larger : ℕ) (one other : Reply) → part.search.budget ≤ larger → IsSearchReply told (part ∷ []) one
@@ -210,7 +274,7 @@ module _ (keeps : LargerBudgetKeepsVerdict) (keeps-text : LargerBudgetKeepsText)
   reply-stays told part larger one other more h decided k =
       let a = one-answer (IsAnswerTo told) told part one h.answers h.are_answers h.reply_is in
       let b = one-answer (IsAnswerTo told) told (part_within larger part) other k.answers k.are_answers k.reply_is in
-      let same = part-stays told part larger a.answer b.answer more a.holds (open-status a.answer.verdict (λ e. decided (a.status_is ∙ e))) b.holds in
+      let same = part-stays told part larger a.answer b.answer more a.holds b.holds (λ e. decided (a.status_is ∙ e)) in
       record {
         status = b.status_is ∙ same.status ∙ sym a.status_is;
         out = b.out_is ∙ ap (titled part.title) same.text ∙ sym a.out_is;

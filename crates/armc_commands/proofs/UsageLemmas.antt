@@ -13,10 +13,12 @@ use Rattle.command_replies.specs.declared.reply.Reply.{Reply}
 use Rattle.command_replies.specs.declared.failure.Failure.{Failure}
 use Rattle.command_replies.specs.declared.failure.Failure.TheVariants.{ReadFault, TooLong, Memory}
 use Rattle.armc_commands.specs.declared.search_reply.Telling.TheVariants.{Certificate, Summary}
+use Rattle.armc_commands.specs.SearchReply.{only_part}
 use Rattle.armc_commands.specs.Commands.{CommandReply}
 use Rattle.armc_commands.specs.Commands.CheckAll.{property_parts}
-use Rattle.armc_commands.specs.Commands.Generate.{generate_parts}
-use Rattle.armc_commands.specs.Commands.Queries.{telling_of, query_parts}
+use Rattle.armc_commands.specs.Commands.Generate.{default_search}
+use Rattle.armc_commands.specs.Commands.Queries.{telling_of}
+use Rattle.armc_commands.specs.Commands.Searches.{search_for}
 use Rattle.armc_commands.specs.Commands.Verify.{answer_status}
 use Rattle.armc_commands.specs.Outcome.{IsOutcome, IsReply}
 use Rattle.command_replies.specs.Reply.{reply_of}
@@ -51,12 +53,12 @@ not_of_command (steps file configuration) p text reply h e = elim h [
 ]
 not_of_command (show file) p text reply h e = let f = status_in reply _ h e in cc f
 not_of_command (searching file query limits) p text reply h e =
-    search-not-usage (telling_of query) (query_parts (system_of p) query limits.budget) reply h e
+    search-not-usage (telling_of query) (only_part (system_of p) (search_for query limits.budget)) reply h e
 not_of_command (checking_all file properties limits) p text reply h e = elim h [
   | inl refuses ↦ let f = status_in reply _ refuses.reply_is e in cc f
   | inr checks ↦ search-not-usage (Certificate None) (property_parts limits.budget checks.said) reply checks.replies e
 ]
-not_of_command (generate number workers) p text reply h e = search-not-usage (Summary number) (generate_parts (system_of p)) reply h e
+not_of_command (generate number workers) p text reply h e = search-not-usage (Summary number) (only_part (system_of p) default_search) reply h e
 
 module _ (words : List (List ℕ)) (l l' : LibraryState) (o o' e e' : SinkState) (result : Status) where
   none_asked : (reply : Reply) → IsReply words l.told reply → reply.status ≡ status.Usage → command_of words ≡ None

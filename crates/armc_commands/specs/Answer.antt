@@ -1,6 +1,6 @@
 -- What a whole call answers.
 use Rattle.std.specs.Prelude.{◌≡◌, ◌<◌, ◌≤◌, ℕ, Bool, true, false, List, Some, Result, IsTrue}
-use Rattle.armc_io.specs.Faults.{Rose}
+use Rattle.armc_io.specs.Faults.{Rose, last_count}
 use Rattle.armc_io.specs.Library.{LibraryState}
 use Rattle.armc_io.specs.Sink.{SinkState}
 use Rattle.protocol_syntax.specs.declared.protocol.Protocol.{Protocol}
@@ -57,10 +57,6 @@ pub record KeepsPromise (told : Told) (command : Command) (out out' err err' : S
 abbrev pub IsSound : List (List ℕ) → Told → SinkState → SinkState → SinkState → SinkState → Status → Type 0
 IsSound words told out out' err err' result =
     (command : Command) → command_of words ≡ Some command → IsTrue (is_own result) → KeepsPromise told command out out' err err' result
-
--- the last value of a count of faults
-abbrev pub last_count : ℕ
-last_count = 18446744073709551615
 
 -- no count of faults rose
 pub record IsQuiet (library library' : LibraryState) (out out' err err' : SinkState) : Type 0 where

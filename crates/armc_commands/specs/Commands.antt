@@ -5,6 +5,7 @@ pub mod Deadlock
 pub mod Generate
 pub mod Migrate
 pub mod Queries
+pub mod Searches
 pub mod Show
 pub mod Steps
 pub mod Verify

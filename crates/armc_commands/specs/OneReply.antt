@@ -7,7 +7,7 @@ use Rattle.armc_commands.specs.Origin.{Told}
 use Rattle.armc_commands.specs.Outcome.{TellsTexts, IsDecidedBy}
 
 -- where every text that the words read is told, what they decide other than running out of memory is one
-abbrev pub OutcomeIsDetermined : Type 0
-OutcomeIsDetermined =
-    (words : List (List ℕ)) (told : Told) (outcome other : Result Reply Failure) → TellsTexts words told → IsDecidedBy words told outcome
-    → IsDecidedBy words told other → outcome ≢ Err Memory → other ≢ Err Memory → outcome ≡ other
+abbrev pub HasOneReply : List (List ℕ) → Told → Type 0
+HasOneReply words told =
+    (outcome other : Result Reply Failure) → TellsTexts words told → IsDecidedBy words told outcome → IsDecidedBy words told other
+    → outcome ≢ Err Memory → other ≢ Err Memory → outcome ≡ other

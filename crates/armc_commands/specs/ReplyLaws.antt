@@ -1,76 +1,109 @@
 -- Laws of the replies of commands that search, and of all replies to commands.
-use Rattle.std.specs.Prelude.{◌≡◌, ◌≢◌, ◌≤◌, ◌⊎◌, ℕ, List, [], ◌∷◌, Some}
+use Rattle.std.specs.Prelude.{◌≡◌, ◌≢◌, ◌≤◌, ◌⊎◌, ℕ, List, [], ◌∷◌, None, Some, Result, Err}
 use Rattle.protocol_syntax.specs.declared.protocol.Protocol.{Protocol}
 use Rattle.protocol_model.specs.declared.system.Run.{Run}
 use Rattle.protocol_model.specs.Numbering.{system_of}
-use Rattle.search_history.specs.declared.log.LogEnd.TheVariants.{Spent}
 use Rattle.protocol_search.specs.Analyses.{IsCounterexample}
-use Rattle.protocol_search.specs.SearchLaws.{with_budget}
-use Rattle.protocol_search.specs.Verdicts.{end_of}
 use Rattle.command_words.specs.Words.{Command, command_of, searching, checking_all, generate}
 use Rattle.command_words.specs.declared.Limits.{Limits}
 use Rattle.command_words.specs.declared.Query.{Query}
-use Rattle.command_replies.specs.declared.status.Status.TheVariants.{Done, Unknown, ProtocolRefused}
+use Rattle.command_replies.specs.declared.status.Status.TheVariants.{Done, Unsafe, Unknown, ProtocolRefused}
 use Rattle.command_replies.specs.declared.reply.Reply.{Reply}
-use Rattle.armc_commands.specs.declared.search_reply.Telling.{Telling}
-use Rattle.armc_commands.specs.SearchReply.{Part, PartAnswer, IsAnswerTo, status_of}
+use Rattle.command_replies.specs.declared.failure.Failure.{Failure}
+use Rattle.command_replies.specs.declared.failure.Failure.TheVariants.{Memory}
+use Rattle.command_replies.specs.Reply.{reply_of}
+use Rattle.armc_commands.specs.declared.search_reply.Telling.TheVariants.{Certificate}
+use Rattle.armc_commands.specs.SearchReply.{Part, PartAnswer, status_of, reply_of_answers}
 use Rattle.armc_commands.specs.Commands.{CommandReply, Promise, second_origin}
-use Rattle.armc_commands.specs.Commands.Queries.{search_for}
+use Rattle.armc_commands.specs.Commands.Searches.{search_for}
 use Rattle.armc_commands.specs.Origin.{Told, IsTextFrom}
-use Rattle.armc_commands.specs.Outcome.{HasProtocol, RefusesProtocol, IsReply}
+use Rattle.armc_commands.specs.Outcome.{HasProtocol, RefusesProtocol, TellsTexts, IsReply, IsDecidedBy}
 
--- the limits with another number of workers, and with another budget
-abbrev pub with_workers : ℕ → Limits → Limits
-with_workers workers limits = record limits { workers = workers }
+-- the same command with one worker
+abbrev pub with_one_worker : Command → Command
+with_one_worker (searching file query limits) = searching file query (record limits { workers = 1 })
+with_one_worker (checking_all file properties limits) = checking_all file properties (record limits { workers = 1 })
+with_one_worker (generate number workers) = generate number 1
+with_one_worker command = command
 
+-- both lists of words mean commands, which differ in the number of workers alone
+pub record DifferInWorkers (words others : List (List ℕ)) : Type 0 where
+  pub command : Command
+  pub other : Command
+  pub asked : command_of words ≡ Some command
+  pub asked_too : command_of others ≡ Some other
+  pub same : with_one_worker other ≡ with_one_worker command
+
+-- what words decide whose commands differ in the number of workers alone is the same, unless memory runs out
+abbrev pub WorkersKeepReply : List (List ℕ) → Told → Type 0
+WorkersKeepReply words told =
+    (others : List (List ℕ)) (outcome other : Result Reply Failure) → DifferInWorkers words others → TellsTexts words told
+    → IsDecidedBy words told outcome → IsDecidedBy others told other → outcome ≢ Err Memory → other ≢ Err Memory → outcome ≡ other
+
+-- the same limits with another budget
 abbrev pub limited_to : ℕ → Limits → Limits
 limited_to budget limits = record limits { budget = budget }
 
--- two replies to a query whose limits differ in the number of workers alone are equal
-abbrev pub WorkersKeepQuery : Type 0
-WorkersKeepQuery =
-    (file : List ℕ) (query : Query) (limits : Limits) (workers : ℕ) (p : Protocol) (text : List ℕ) (one other : Reply)
-    → CommandReply (searching file query limits) p text one → CommandReply (searching file query (with_workers workers limits)) p text other → one ≡ other
-
--- two replies to `checkall` whose limits differ in the number of workers alone are equal
-abbrev pub WorkersKeepCheckAll : Type 0
-WorkersKeepCheckAll =
-    (file properties : List ℕ) (limits : Limits) (workers : ℕ) (p : Protocol) (text : List ℕ) (one other : Reply)
-    → CommandReply (checking_all file properties limits) p text one
-    → CommandReply (checking_all file properties (with_workers workers limits)) p text other → one ≡ other
-
--- two replies to `gen` with one number are equal
-abbrev pub WorkersKeepGenerate : Type 0
-WorkersKeepGenerate =
-    (number workers more : ℕ) (p : Protocol) (text : List ℕ) (one other : Reply)
-    → CommandReply (generate number workers) p text one → CommandReply (generate number more) p text other → one ≡ other
-
--- the part with another budget
-abbrev pub part_within : ℕ → Part → Part
-part_within budget part = record { title = part.title; system = part.system; search = with_budget budget part.search }
-
--- the status and the text are the same
-pub record SamePart (one other : PartAnswer) : Type 0 where
-  pub status : status_of (other.verdict ∷ []) ≡ status_of (one.verdict ∷ [])
-  pub text : other.text ≡ one.text
-
--- an answer to a part that is not unknown has the same status and the same text for every larger budget
-abbrev pub LargerBudgetKeepsPart : Type 0
-LargerBudgetKeepsPart =
-    (told : Telling) (part : Part) (larger : ℕ) (one other : PartAnswer) → part.search.budget ≤ larger
-    → IsAnswerTo told part one → end_of one.verdict ≢ Spent → IsAnswerTo told (part_within larger part) other → SamePart one other
+-- both lists of words ask for one search of one file, the second within a larger budget
+pub record AskForLargerBudget (words others : List (List ℕ)) : Type 0 where
+  pub file : List ℕ
+  pub query : Query
+  pub limits : Limits
+  pub larger : ℕ
+  pub asked : command_of words ≡ Some (searching file query limits)
+  pub asked_too : command_of others ≡ Some (searching file query (limited_to larger limits))
+  pub more : limits.budget ≤ larger
 
 -- the status and the text on standard output are the same
 pub record SameAnswer (one other : Reply) : Type 0 where
   pub status : other.status ≡ one.status
   pub out : other.out ≡ one.out
 
--- a reply to a query that is not `unknown` has the same status and the same certificate for every larger budget
-abbrev pub LargerBudgetKeepsReply : Type 0
-LargerBudgetKeepsReply =
-    (file : List ℕ) (query : Query) (limits : Limits) (larger : ℕ) (p : Protocol) (text : List ℕ) (one other : Reply) → limits.budget ≤ larger
-    → CommandReply (searching file query limits) p text one → one.status ≢ Unknown
-    → CommandReply (searching file query (limited_to larger limits)) p text other → SameAnswer one other
+-- an answer to a search that decides, with status 0 or 1, has the same status and the same certificate for every larger budget, unless memory runs out
+abbrev pub LargerBudgetKeepsReply : List (List ℕ) → Told → Type 0
+LargerBudgetKeepsReply words told =
+    (others : List (List ℕ)) (outcome other : Result Reply Failure) → AskForLargerBudget words others → TellsTexts words told
+    → IsDecidedBy words told outcome → ((reply_of outcome).status ≡ Done) ⊎ ((reply_of outcome).status ≡ Unsafe)
+    → IsDecidedBy others told other → other ≢ Err Memory → SameAnswer (reply_of outcome) (reply_of other)
+
+-- the same of `checkall`
+pub record AskForAllWithLargerBudget (words others : List (List ℕ)) : Type 0 where
+  pub file : List ℕ
+  pub properties : List ℕ
+  pub limits : Limits
+  pub larger : ℕ
+  pub asked : command_of words ≡ Some (checking_all file properties limits)
+  pub asked_too : command_of others ≡ Some (checking_all file properties (limited_to larger limits))
+  pub more : limits.budget ≤ larger
+
+-- the status and the text are the same
+pub record SamePart (one other : PartAnswer) : Type 0 where
+  pub status : status_of (other.verdict ∷ []) ≡ status_of (one.verdict ∷ [])
+  pub text : other.text ≡ one.text
+
+-- there are as many answers, and each of the first that is not unknown has the same status and the same text among the second
+abbrev pub AreKept : List PartAnswer → List PartAnswer → Type 0
+AreKept [] [] = Unit {0}
+AreKept [] (other ∷ more) = ⊥
+AreKept (one ∷ answers) [] = ⊥
+AreKept (one ∷ answers) (other ∷ more) = (status_of (one.verdict ∷ []) ≢ Unknown → SamePart one other) × AreKept answers more
+
+-- the replies tell answers to the same parts, of which each that is not unknown is kept; so is a status 0 or 1, and at status 0 the whole text
+pub record KeepsParts (one other : Reply) : Type 0 where
+  pub parts : List Part
+  pub answers : List PartAnswer
+  pub more : List PartAnswer
+  pub one_is : one ≡ reply_of_answers (Certificate None) parts answers
+  pub other_is : other ≡ reply_of_answers (Certificate None) parts more
+  pub kept : AreKept answers more
+  pub status : one.status ≢ Unknown → other.status ≡ one.status
+  pub out : one.status ≡ Done → other.out ≡ one.out
+
+-- within a larger budget `checkall` tells the same first fault, or keeps each part that decides
+abbrev pub LargerBudgetKeepsParts : List (List ℕ) → Told → Type 0
+LargerBudgetKeepsParts words told =
+    (others : List (List ℕ)) (one other : Reply) → AskForAllWithLargerBudget words others → TellsTexts words told
+    → IsReply words told one → IsReply others told other → (one ≡ other) ⊎ KeepsParts one other
 
 -- where the protocol has a run that the query looks for, a bad one or one into a deadlock, of any number of steps, no reply says that there is none
 abbrev pub BadRunRulesOutSafe : Type 0

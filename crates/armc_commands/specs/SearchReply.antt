@@ -24,6 +24,10 @@ pub record Part : Type 0 where
   pub system : SystemData
   pub search : Search
 
+-- the one part of a reply without titles
+abbrev pub only_part : SystemData → Search → List Part
+only_part s search = (record { title = None; system = s; search = search }) ∷ []
+
 -- the answer to a part: the verdict of its search, and the text that tells it
 pub record PartAnswer : Type 0 where
   pub verdict : Verdict

@@ -4,9 +4,12 @@
 ghost use Rattle.std.specs.Prelude.{◌≡◌, ◌⊎◌, IfOk, Err, None, map, string_bytes};
 ghost use Rattle.command_words.specs.Words.{command_of};
 ghost use Rattle.command_replies.specs.Reply.{reply_of};
+ghost use Rattle.armc_commands.specs.OneReply.{HasOneReply};
+ghost use Rattle.armc_commands.specs.ReplyLaws.{WorkersKeepReply, LargerBudgetKeepsReply, LargerBudgetKeepsParts};
 ghost use Rattle.armc_commands.specs.Answer.{Answers, DeliversCounted, IsSound, IsQuiet, IsDecided, AreQuietEnds, KeepsCounts};
 
 use crate::commands::keep_promises;
+use crate::law::{larger_budget_keeps_reply, one_reply, workers_keep_reply};
 use crate::outcome::reply_to;
 use armc_io::{Gate, Library, Sink};
 use command_replies::{Failure, Reply, Status, deliver, failure_reply};
@@ -83,7 +86,14 @@ pub fn run<L: Library, O: Sink, E: Sink, G: Gate, R: Threads + Sync>(
     ensures untouched { command_of (map string_bytes words.now) ≡ None → L.state library.new ≡ L.state library.old }
     ensures counts { KeepsCounts (L.state library.old) (L.state library.new) (O.state out.old) (O.state out.new)
         (E.state err.old) (E.state err.new) }
+    ensures one_reply { HasOneReply (map string_bytes words.now) (L.state library.old).told }
+    ensures workers { WorkersKeepReply (map string_bytes words.now) (L.state library.old).told }
+    ensures larger_budget { LargerBudgetKeepsReply (map string_bytes words.now) (L.state library.old).told }
+    ensures larger_budget_of_parts { LargerBudgetKeepsParts (map string_bytes words.now) (L.state library.old).told }
 {
+    one_reply();
+    workers_keep_reply();
+    larger_budget_keeps_reply();
     keep_promises();
     let outcome = reply_to(alloc, runtime, gate, words, library);
     answer(alloc, outcome, out, err)

@@ -5,6 +5,7 @@ ghost use Rattle.std.specs.Prelude.{◌≡◌, ℕ, List, IfOk};
 ghost use Rattle.protocol_syntax.specs.declared.protocol.Protocol.{Protocol as ProtocolData};
 ghost use Rattle.protocol_model.specs.Numbering.{system_of};
 ghost use Rattle.command_words.specs.Words.{Command as CommandData, IsInRange, said};
+ghost use Rattle.command_replies.specs.Reading.{IsFaultless};
 ghost use Rattle.command_replies.specs.declared.reply.Reply.{Reply as ReplyData};
 ghost use Rattle.armc_commands.specs.Origin.{IsReadable, origin_of};
 ghost use Rattle.armc_commands.specs.Commands.{protocol_origin as protocol_origin_of, second_origin as second_origin_of, CommandReply, Promise};
@@ -24,9 +25,10 @@ use command_replies::Reply;
 use command_words::Command;
 use generate::{generate_reply, keeps_generate_promise};
 use migrate::{keeps_migrate_promise, migrate_reply};
-use protocol_model::System;
+use protocol_model::{System, texts_say_allowed_protocols};
 use protocol_syntax::Protocol;
-use queries::{keeps_query_promise, query_reply};
+pub use queries::keeps_query_promise;
+use queries::query_reply;
 use show::show_reply;
 use std::alloc::{AllocError, Global};
 use std::thread::Threads;
@@ -118,11 +120,13 @@ pub fn command_reply<G: Gate, R: Threads + Sync>(
     }
 }
 
-/// The law of replies: each keeps what its command promises. The function does nothing.
+/// The law of replies: where some text says the protocol, and it has no fault, each keeps what its command promises. The function does
+/// nothing.
 pub fn keep_promises()
-    ensures { (command : CommandData) (p : ProtocolData) (text : List ℕ) (reply : ReplyData)
+    ensures { (command : CommandData) (source : List ℕ) (p : ProtocolData) (text : List ℕ) (reply : ReplyData) → IsFaultless source p
         → CommandReply command p text reply → Promise command p text reply }
 {
+    texts_say_allowed_protocols();
     keeps_verify_promise();
     keeps_migrate_promise();
     keeps_query_promise();

@@ -1,11 +1,13 @@
 //! The laws of replies, from those of the texts, of the judgement and of the search.
-//! Their functions do nothing, and no call of the program needs them.
+//! Their functions do nothing. The top call makes those of which it has clauses.
 
-ghost use Rattle.armc_commands.specs.OneReply.{OutcomeIsDetermined};
-ghost use Rattle.armc_commands.specs.ReplyLaws.{WorkersKeepQuery, WorkersKeepCheckAll, WorkersKeepGenerate, LargerBudgetKeepsPart, LargerBudgetKeepsReply};
+ghost use Rattle.std.specs.Prelude.{ℕ, List};
+ghost use Rattle.armc_commands.specs.Origin.{Told};
+ghost use Rattle.armc_commands.specs.OneReply.{HasOneReply};
+ghost use Rattle.armc_commands.specs.ReplyLaws.{WorkersKeepReply, LargerBudgetKeepsReply, LargerBudgetKeepsParts};
 ghost use Rattle.armc_commands.specs.ReplyLaws.{BadRunRulesOutSafe, GenerateIsNeverRefused, RepliesKeepPromises};
 
-use crate::commands::keep_promises;
+use crate::commands::{keep_promises, keeps_query_promise};
 use certificate::one_reading as one_certificate;
 use certificate_checker::one_answer as one_judgement;
 use configuration_words::one_reading as one_configuration;
@@ -17,7 +19,7 @@ use protocol_syntax::{one_reading as one_protocol, one_reading_of_properties};
 /// The law of replies: where every text that the words read is told, the words and the told texts decide one reply, or one text that is
 /// too long, beside running out of memory. The function does nothing.
 pub fn one_reply()
-    ensures { OutcomeIsDetermined }
+    ensures { (words : List (List ℕ)) (told : Told) → HasOneReply words told }
 {
     one_protocol();
     texts_say_allowed_protocols();
@@ -29,23 +31,22 @@ pub fn one_reply()
     one_verdict();
 }
 
-/// The law of workers: the replies to a search of a file, to `checkall` and to `gen` are the same for every number of workers. The function
-/// does nothing.
+/// The law of workers: what words decide whose commands differ in the number of workers alone is the same, beside running out of memory.
+/// The function does nothing.
 pub fn workers_keep_reply()
-    ensures query { WorkersKeepQuery }
-    ensures check_all { WorkersKeepCheckAll }
-    ensures generate { WorkersKeepGenerate }
+    ensures { (words : List (List ℕ)) (told : Told) → WorkersKeepReply words told }
 {
-    one_reading_of_properties();
-    one_verdict();
+    one_reply();
 }
 
-/// The law of budgets: an answer to a part of a reply that decides it has the same status and the same text for every larger budget, and
-/// so has a reply to a search of a file. The function does nothing.
+/// The law of budgets: an answer to a search of a file that decides has the same status and the same certificate for every larger budget,
+/// and so has each part of an answer to `checkall`. The function does nothing.
 pub fn larger_budget_keeps_reply()
-    ensures part { LargerBudgetKeepsPart }
-    ensures query { LargerBudgetKeepsReply }
+    ensures query { (words : List (List ℕ)) (told : Told) → LargerBudgetKeepsReply words told }
+    ensures parts { (words : List (List ℕ)) (told : Told) → LargerBudgetKeepsParts words told }
 {
+    one_protocol();
+    one_reading_of_properties();
     larger_budget_keeps_verdict();
 }
 
@@ -54,7 +55,7 @@ pub fn larger_budget_keeps_reply()
 pub fn bad_run_rules_out_safe()
     ensures { BadRunRulesOutSafe }
 {
-    keep_promises();
+    keeps_query_promise();
 }
 
 /// The law of promises: the reply that the words of a command and the told texts decide tells the first fault of the protocol, or keeps

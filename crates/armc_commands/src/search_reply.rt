@@ -5,7 +5,7 @@ ghost use Rattle.std.specs.Prelude.{◌≡◌, ◌<◌, ◌≤◌, [], ◌∷◌
 ghost use Rattle.refinement.specs.Verdicts.{IsSound, log_in};
 ghost use Rattle.protocol_search.specs.Analyses.{proof_limit, task_for};
 ghost use Rattle.command_replies.specs.declared.reply.Reply.{Reply as ReplyData};
-ghost use Rattle.armc_commands.specs.SearchReply.{Part, IsSearchReply, IsTold, report_of as report_of_telling, status_of};
+ghost use Rattle.armc_commands.specs.SearchReply.{Part, only_part, IsSearchReply, IsTold, report_of as report_of_telling, status_of};
 ghost use Rattle.armc_commands.specs.SearchPromise.{SearchPromise};
 
 use crate::summary::summary;
@@ -18,7 +18,7 @@ use protocol_search::{
 };
 use refinement::Verdict;
 use search_history::Log;
-use search_report::{ReportedMethod, report};
+use search_report::{Method, report};
 use sequence::Sequence;
 use std::alloc::{AllocError, Global};
 use std::thread::Threads;
@@ -27,7 +27,7 @@ use std::thread::Threads;
 #[derive(Clone, Copy, Debug, Drop)]
 pub enum Telling {
     /// By its certificate, and by a report that names this method where one is asked for.
-    Certificate(Option<ReportedMethod>),
+    Certificate(Option<Method>),
     /// By a summary, with the number of the chain that is searched.
     Summary(u32),
 }
@@ -96,7 +96,7 @@ pub fn search_reply<G: Gate, R: Threads + Sync>(
     requires some { 0 < search.budget }
     requires most { search.budget ≤ 1000000 }
     requires workers { (0 < workers) × (workers ≤ 16) }
-    ensures { IfOk result (IsSearchReply telling ((record { title = None; system = system.now; search = search }) ∷ [])) }
+    ensures { IfOk result (IsSearchReply telling (only_part system.now search)) }
 {
     let verdict = search_system(alloc, runtime, gate, system, search, workers)?;
     let out = told_text(alloc, system, search, telling, &verdict)?;

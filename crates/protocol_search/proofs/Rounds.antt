@@ -1,7 +1,8 @@
 -- What holds of the history of the search for a system, and of the verdict that comes from it.
-use Rattle.std.proofs.Common.{◌≡◌, ◌≢◌, ◌≤◌, ◌+◌, ◌∙◌, ℕ, Bool, List, [], ◌∷◌, Option, None, Some, length, map, arith, refl, sym, ap, subst}
+use Rattle.std.proofs.Common.{◌≡◌, ◌≢◌, ◌≤◌, ◌+◌, ◌∙◌, ℕ, Bool, List, [], ◌∷◌, Option, None, Some, length, map, arith, refl, sym, ap, ap₂, subst}
 use Rattle.std.specs.List.{last_or, AllByRecursion}
 use Rattle.std.proofs.lemmas.List.{length-map}
+use Rattle.std.proofs.lemmas.Option.{same_Some}
 use Rattle.word_automata.specs.Automaton.{Automaton}
 use Rattle.protocol_model.specs.System.{SystemData}
 use Rattle.safety_problem.specs.Task.{Task}
@@ -15,7 +16,9 @@ use Rattle.future_abstraction.specs.Signatures as by_length
 use Rattle.future_abstraction.proofs.ForCallers.{related_by_signature as related_by_lengths}
 use Rattle.past_abstraction.specs.PastLaws.{related-equivalence as pasts-equivalence}
 use Rattle.search_history.specs.Counting.{size}
-use Rattle.search_history.specs.Histories.{RefinableAbstraction, SearchRound, History, last_level, log_of_round}
+use Rattle.search_history.specs.Histories.{RefinableAbstraction, SearchRound, History, ends, goes_on, last_level, log_of, log_of_round}
+use Rattle.fixpoint.specs.Laws.{AreGrowing}
+use Rattle.fixpoint.proofs.ForCallers.{growing}
 use Rattle.refinement.specs.declared.verdict.Verdict.{Verdict}
 use Rattle.refinement.specs.Bounds.{HoldOfRounds}
 use Rattle.refinement.specs.Exclusion.{AreRefutedOnce}
@@ -26,7 +29,7 @@ use Rattle.protocol_search.specs.Analyses.{task_for, searched, searched_task, pr
 use Rattle.protocol_search.specs.Methods.{by_predicates, by_lengths, by_pasts, search_method, first_key, IsByPredicates}
 use Rattle.protocol_search.specs.OneVerdict.{HistoryIsDetermined, VerdictIsDetermined}
 use Rattle.protocol_search.specs.SearchLaws.{VerdictsAreSound, VerdictsShow, TextsShow}
-use Rattle.protocol_search.specs.SystemHistories.{IsWithin, HasIndicesUpTo, IsBoundedByKey, VerdictsHaveHistories, SearchRefutesOnce}
+use Rattle.protocol_search.specs.SystemHistories.{IsWithin, HasIndicesUpTo, IsBoundedByKey, VerdictsHaveHistories, VerdictsAreOfHistories, SearchRefutesOnce}
 use Rattle.protocol_search.specs.SystemHistories.{SearchIsBoundedByKeys, SearchIsBoundedByRuns, LogsAreBoundedByRuns}
 use Rattle.protocol_search.specs.Verdicts.{IsVerdictFor}
 use Rattle.protocol_search.specs.declared.search.Analysis.{Analysis}
@@ -64,14 +67,30 @@ pub verdict-from : VerdictsHaveHistories
 verdict-from s search v h =
     let from = by-rounds search.analysis (task_for search.analysis s) (search_method search.first) (first_key search.first h.bad) search.budget v h.is_verdict in
     record {
-      rounds = from.rounds;
       sum = from.sum;
-      history = record { bad = h.bad; is_bad = h.is_bad; history = from.history };
+      ended = record {
+        rounds = from.rounds;
+        history = record { bad = h.bad; is_bad = h.is_bad; history = from.history };
+        last_round = from.last_round;
+        is_last = from.is_last;
+        ends = from.ends;
+      };
       log_is = from.log_is;
-      last_round = from.last_round;
-      is_last = from.is_last;
-      ends = from.ends;
     }
+
+-- histories of the same rounds end alike
+ends-alike : (rounds : List SearchRound) (a b : SearchRound) → last_or None rounds ≡ Some a → last_or None rounds ≡ Some b → b.end ≡ a.end
+ends-alike rounds a b h k = ap (λ (r : SearchRound). r.end) (same-round b a (sym k ∙ h))
+
+pub verdict-of-histories : VerdictsAreOfHistories
+verdict-of-histories s search v h end sum other =
+    let from = verdict-from s search v h in
+    let mine = from.ended in
+    let same = history-once s search mine.rounds other.rounds from.sum sum mine.history other.history in
+    let last = subst (λ rounds. last_or None rounds ≡ Some mine.last_round) same.0 mine.is_last in (
+      sym mine.ends ∙ ends-alike other.rounds other.last_round mine.last_round other.is_last last ∙ other.ends,
+      from.log_is ∙ ap₂ (log_of search.budget) same.0 same.1,
+    )
 
 pub verdict-sound : VerdictsAreSound
 verdict-sound s search v h =
@@ -84,12 +103,16 @@ pub verdict-text-shows : TextsShow
 verdict-text-shows s search v text h told =
     text-shows search.analysis s (proof_limit search.analysis search.budget) v text (verdict-sound s search v h) told
 
--- what holds of every round holds of these, whatever their keys are
-held : (method : RefinableAbstraction) (P : Key → SearchRound → Type 0)
-    → ((key : Key) (round : SearchRound) → P key round) → (key : Key) (rounds : List SearchRound)
-    → HoldOfRounds method P key rounds
-held method P always key [] = tt
-held method P always key (round ∷ rounds) = (always key round, λ x last. held method P always (method.next key x) rounds)
+-- the merged automata of each round grow, whatever relates states
+rounds-grow : (t : Task) (method : RefinableAbstraction) (own : (key : Key) (a : Automaton) (p : ℕ) → method.related key a p p) (budget : ℕ) {key : Key} {s z : ℕ}
+    → {rounds : List SearchRound} → History t method budget key s rounds z → HoldOfRounds method (λ key round. AreGrowing round.m × Unit {0}) key rounds
+rounds-grow t method own budget (ends {key = key} h not_refuted) =
+    ((growing t (method.related key) (own key) budget h.forward.forward, tt), λ x last. tt)
+rounds-grow t method own budget (goes_on {key = key} {x = set} {rounds = rounds} h refuted last rest) = (
+  (growing t (method.related key) (own key) budget h.forward.forward, tt),
+  λ x is. subst (λ a. HoldOfRounds method (λ k round. AreGrowing round.m × Unit {0}) (method.next key a) rounds) (same_Some set x (sym last ∙ is))
+      (rounds-grow t method own budget rest),
+)
 
 -- by predicates no language is refuted twice
 module _ (t : Task) (budget : ℕ) {key : Key} {s z : ℕ} {rounds : List SearchRound} where
@@ -99,7 +122,7 @@ module _ (t : Task) (budget : ℕ) {key : Key} {s z : ℕ} {rounds : List Search
   refuted-by (Lengths bound) by h = absurd by
   refuted-by (Pasts bound) by h = absurd by
 
-  -- signatures of states bound each round by its key
+  -- the merged automata of each round grow, and signatures of states bound them by its key
   bounded-by : (first : FirstAbstraction) → History t (search_method first) budget key s rounds z
       → HoldOfRounds (search_method first) (IsBoundedByKey t.letters first) key rounds
   bounded-by BadPredicates h =
@@ -111,7 +134,7 @@ module _ (t : Task) (budget : ℕ) {key : Key} {s z : ℕ} {rounds : List Search
   bounded-by (Lengths bound) h =
       rounds_bounded t by_lengths (own-related (Lengths bound)) (λ k. by_length.tests k t.letters) by_length.future_signature
       (λ k. related_by_lengths k t.letters) budget h
-  bounded-by (Pasts bound) h = held by_pasts (IsBoundedByKey t.letters (Pasts bound)) (λ k round. tt) key rounds
+  bounded-by (Pasts bound) h = rounds-grow t by_pasts (own-related (Pasts bound)) budget h
 
 pub refutes-once : SearchRefutesOnce
 refutes-once s search rounds sum by h = refuted-by (searched_task search.analysis s) search.budget search.first by h.history
@@ -152,8 +175,9 @@ not-closed n o last (round ∷ next ∷ rounds) h is none = not-closed n None la
 pub logs-bounded : LogsAreBoundedByRuns
 logs-bounded s search run counter v h =
     let found = verdict-from s search v h in
-    let within = bounded-by-runs s search run counter found.rounds found.sum found.history in (
-      λ closed. not-closed (length run.steps) None found.last_round found.rounds within found.is_last refl (found.ends ∙ closed),
+    let ended = found.ended in
+    let within = bounded-by-runs s search run counter ended.rounds found.sum ended.history in (
+      λ closed. not-closed (length run.steps) None ended.last_round ended.rounds within ended.is_last refl (ended.ends ∙ closed),
       subst (λ rounds. AllByRecursion (HasIndicesUpTo (length run.steps)) rounds) (sym (ap (λ l. l.rounds) found.log_is))
-          (logs-within (length run.steps) found.rounds within),
+          (logs-within (length run.steps) ended.rounds within),
     )

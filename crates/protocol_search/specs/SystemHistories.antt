@@ -30,21 +30,25 @@ pub record IsHistoryOf (s : SystemData) (search : Search) (rounds : List SearchR
   pub is_bad : IsAutomatonOf (searched_task search.analysis s).letters (searched_task search.analysis s).is_bad bad
   pub history : History (searched_task search.analysis s) (search_method search.first) search.budget (first_key search.first bad) 0 rounds sum
 
--- the log and the end of the search are those of its history: the sizes of the automata of its rounds with their sum, and the end of the last round
-pub record IsFromHistory (s : SystemData) (search : Search) (log : Log) (end : LogEnd) : Type 0 where
+-- the history of the search for the system ends so, with this sum of counted states
+pub record HistoryEnds (s : SystemData) (search : Search) (end : LogEnd) (sum : ℕ) : Type 0 where
   pub rounds : List SearchRound
-  pub sum : ℕ
   pub history : IsHistoryOf s search rounds sum
-  pub log_is : log ≡ log_of search.budget rounds sum
   pub last_round : SearchRound
   pub is_last : last_or None rounds ≡ Some last_round
   pub ends : last_round.end ≡ end
 
--- the merged automata of the round grow, and are at most as many as there are sets of facts that automata over so many letters can have by the
--- key, where states have signatures
+-- the log and the end of the search are those of its history: the sizes of the automata of its rounds with their sum, and the end of the last round
+pub record IsFromHistory (s : SystemData) (search : Search) (log : Log) (end : LogEnd) : Type 0 where
+  pub sum : ℕ
+  pub ended : HistoryEnds s search end sum
+  pub log_is : log ≡ log_of search.budget ended.rounds sum
+
+-- the merged automata of the round grow; and where states have signatures, they are at most as many as there are sets of facts that automata over so
+-- many letters can have by the key
 abbrev pub IsBoundedByKey : ℕ → FirstAbstraction → Key → SearchRound → Type 0
 IsBoundedByKey letters first key round =
-    IfSome (signature_length first letters key) (λ tests. AreGrowing round.m × (length round.m ≤ 2 ^ fact_count letters (width tests)))
+    AreGrowing round.m × IfSome (signature_length first letters key) (λ tests. length round.m ≤ 2 ^ fact_count letters (width tests))
 
 -- the round has no index above n, since its automata before merging have the indices from 0 on, and does not end closed
 abbrev pub IsWithin : ℕ → SearchRound → Type 0
@@ -59,12 +63,18 @@ pub record HasIndicesUpTo (n : ℕ) (round : RoundLog) : Type 0 where
 abbrev pub VerdictsHaveHistories : Type 0
 VerdictsHaveHistories = (s : SystemData) (search : Search) (v : Verdict) → IsVerdictOf s search v → IsFromHistory s search (log_in v) (end_of v)
 
+-- and from no other: every history of the search ends as the verdict says, and its log is that of the verdict
+abbrev pub VerdictsAreOfHistories : Type 0
+VerdictsAreOfHistories =
+    (s : SystemData) (search : Search) (v : Verdict) → IsVerdictOf s search v → (end : LogEnd) (sum : ℕ) → (h : HistoryEnds s search end sum)
+    → (end_of v ≡ end) × (log_in v ≡ log_of search.budget h.rounds sum)
+
 -- where the search begins with predicates, no two rounds refute one language: what a round refutes stays out of every later round
 abbrev pub SearchRefutesOnce : Type 0
 SearchRefutesOnce = (s : SystemData) (search : Search) (rounds : List SearchRound) (sum : ℕ)
     → IsByPredicates search.first → IsHistoryOf s search rounds sum → AreRefutedOnce rounds
 
--- each round is bounded by its key
+-- the merged automata of each round grow, and its key bounds their number
 abbrev pub SearchIsBoundedByKeys : Type 0
 SearchIsBoundedByKeys = (s : SystemData) (search : Search) (rounds : List SearchRound) (sum : ℕ) → (h : IsHistoryOf s search rounds sum)
     → HoldOfRounds (search_method search.first) (IsBoundedByKey (searched_task search.analysis s).letters search.first) (first_key search.first h.bad) rounds

@@ -3,7 +3,7 @@
 
 ghost use Rattle.protocol_search.specs.OneVerdict.{VerdictIsDetermined, TextIsDetermined, HistoryIsDetermined};
 ghost use Rattle.protocol_search.specs.SearchLaws.{VerdictsAreSound, VerdictsShow, TextsShow, LargerBudgetKeepsVerdict, LargerBudgetKeepsText};
-ghost use Rattle.protocol_search.specs.SystemHistories.{VerdictsHaveHistories, SearchRefutesOnce, SearchIsBoundedByKeys};
+ghost use Rattle.protocol_search.specs.SystemHistories.{VerdictsHaveHistories, VerdictsAreOfHistories, SearchRefutesOnce, SearchIsBoundedByKeys};
 ghost use Rattle.protocol_search.specs.SystemHistories.{SearchIsBoundedByRuns, LogsAreBoundedByRuns};
 
 /// A system and a search have one verdict, with one log, and a verdict has one text.
@@ -20,7 +20,8 @@ pub fn one_history()
 /// Each verdict comes from that history: its log has the sizes of the history's automata, and it is safe, unsafe or unknown exactly where
 /// the history ends closed, real or spent.
 pub fn verdicts_have_histories()
-    ensures { VerdictsHaveHistories }
+    ensures histories { VerdictsHaveHistories }
+    ensures no_others { VerdictsAreOfHistories }
 {}
 
 /// Each verdict shows of the system what it says, and so does its text: that an automaton proves it, and then no run is a counterexample,
@@ -42,8 +43,8 @@ pub fn no_language_is_refuted_twice()
     ensures { SearchRefutesOnce }
 {}
 
-/// The merged automata of a round grow, and are at most as many as there are sets of facts by its key, where the abstraction tells states
-/// apart by signatures.
+/// The merged automata of a round grow, and where the abstraction tells states apart by signatures they are at most as many as there are
+/// sets of facts by its key.
 pub fn keys_bound_rounds()
     ensures { SearchIsBoundedByKeys }
 {}

@@ -3,7 +3,7 @@ use Rattle.std.proofs.Common.{◌≡◌, ℕ, List, [], ◌∷◌, false, refl}
 use Rattle.serde_json.specs.Written.{has_float}
 use Rattle.search_history.specs.declared.log.Log.{Log}
 use Rattle.search_history.specs.declared.log.RoundLog.{RoundLog}
-use Rattle.search_report.specs.declared.method.ReportedMethod.{ReportedMethod}
+use Rattle.search_report.specs.declared.methods.Method.{Method}
 use Rattle.search_report.specs.Report.{sizes_array, round_object, rounds_array, report_object}
 
 sizes_exact : (sizes : List ℕ) → has_float (sizes_array sizes) ≡ false
@@ -17,5 +17,5 @@ rounds_exact : (rounds : List RoundLog) → has_float (rounds_array rounds) ≡ 
 rounds_exact [] = refl
 rounds_exact (round ∷ rounds) = rw (round_exact round, rounds_exact rounds) refl
 
-pub report_exact : (method : ReportedMethod) (log : Log) → has_float (report_object method log) ≡ false
+pub report_exact : (method : Method) (log : Log) → has_float (report_object method log) ≡ false
 report_exact method log = rw (rounds_exact log.rounds) refl

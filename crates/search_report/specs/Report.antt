@@ -7,10 +7,10 @@ use Rattle.search_history.specs.declared.log.LogEnd.{LogEnd}
 use Rattle.search_history.specs.declared.log.LogEnd.TheVariants.{Closed, Refuted, Real, Spent}
 use Rattle.search_history.specs.declared.log.RoundLog.{RoundLog}
 use Rattle.search_history.specs.declared.log.Log.{Log}
-use Rattle.search_report.specs.declared.method.ReportedMethod.{ReportedMethod}
-use Rattle.search_report.specs.declared.method.ReportedMethod.TheVariants.{Predicates, Length}
+use Rattle.search_report.specs.declared.methods.Method.{Method}
+use Rattle.search_report.specs.declared.methods.Method.TheVariants.{Predicates, Length}
 
-abbrev pub method_name : ReportedMethod → List ℕ
+abbrev pub method_name : Method → List ℕ
 method_name Predicates = codes "predicates"
 method_name Length = codes "length"
 
@@ -50,7 +50,7 @@ abbrev pub rounds_array : List RoundLog → Data
 rounds_array rounds = array (items_of (map round_object rounds))
 
 -- a search: the budget, the sum of all sizes, the method, the rounds in their order, and the verdict
-abbrev pub report_object : ReportedMethod → Log → Data
+abbrev pub report_object : Method → Log → Data
 report_object method log =
     object (member (codes "budget") (number (unsigned log.budget))
     (member (codes "counted") (number (unsigned log.counted))
@@ -59,5 +59,5 @@ report_object method log =
     (member (codes "verdict") (string (verdict_of (slice_get log.rounds (length log.rounds - 1)))) no_members)))))
 
 -- the report, with a line feed at its end
-abbrev pub report_text : ReportedMethod → Log → List ℕ
+abbrev pub report_text : Method → Log → List ℕ
 report_text method log = compact_text (report_object method log) ++ 10 ∷ []

@@ -2,8 +2,8 @@
 //! the log.
 #![tactic(auto)]
 
-mod method;
+mod methods;
 mod writing;
 
-pub use method::ReportedMethod;
+pub use methods::Method;
 pub use writing::report;

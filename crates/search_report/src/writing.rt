@@ -5,7 +5,7 @@ ghost use Rattle.std.specs.Prelude.{◌≡◌, ◌-◌, IfOk, length, slice_get}
 ghost use Rattle.serde_json.specs.View.{view};
 ghost use Rattle.search_report.specs.Report.{method_name, end_name, end_verdict, verdict_of, sizes_array, round_object, rounds_array, report_object, report_text};
 
-use crate::method::ReportedMethod;
+use crate::methods::Method;
 use search_history::{Log, LogEnd, RoundLog};
 use serde_json::{Value, json};
 use std::alloc::{AllocError, Global};
@@ -13,7 +13,7 @@ use std::alloc::{AllocError, Global};
 /// The report of a search by this method with this log: the compact text of a JSON object, and a line feed.
 ///
 /// Errors: `AllocError` where memory runs out.
-pub fn report(alloc: Global, method: ReportedMethod, log: &Log) -> Result<Vec<u8>, AllocError>
+pub fn report(alloc: Global, method: Method, log: &Log) -> Result<Vec<u8>, AllocError>
     ensures { IfOk result (λ text. text.items ≡ report_text method log.now) }
 {
     let report = report_value(alloc, method, log)?;
@@ -23,7 +23,7 @@ pub fn report(alloc: Global, method: ReportedMethod, log: &Log) -> Result<Vec<u8
 }
 
 /// The value of the report.
-fn report_value(alloc: Global, method: ReportedMethod, log: &Log) -> Result<Value, AllocError>
+fn report_value(alloc: Global, method: Method, log: &Log) -> Result<Value, AllocError>
     ensures { IfOk result (λ value. view value ≡ report_object method log.now) }
 {
     let rounds = rounds_value(alloc, log.rounds.as_slice())?;
@@ -75,12 +75,12 @@ fn sizes_value(alloc: Global, sizes: &[u64]) -> Result<Value, AllocError>
 }
 
 /// The name of the method.
-fn name_of_method(method: ReportedMethod) -> &'static str
+fn name_of_method(method: Method) -> &'static str
     ensures { result.now ≡ method_name method }
 {
     match method {
-        ReportedMethod::Predicates => "predicates",
-        ReportedMethod::Length => "length",
+        Method::Predicates => "predicates",
+        Method::Length => "length",
     }
 }
 

@@ -15,23 +15,13 @@ use Rattle.refinement.specs.Verdicts.{IsVerdict}
 use Rattle.refinement.specs.declared.verdict.Verdict.TheVariants.{Safe}
 use Rattle.backward_search.specs.BackwardVerdicts.{IsComplementOf}
 use Rattle.certificate.specs.SafeText.{MeansAutomaton}
+use Rattle.command_words.specs.declared.Query.TheVariants.{Back}
 use Rattle.protocol_search.specs.Methods.{by_predicates}
-use Rattle.protocol_search.specs.declared.first.FirstAbstraction.TheVariants.{BadPredicates}
-use Rattle.protocol_search.specs.declared.search.Analysis.TheVariants.{Backward}
-use Rattle.protocol_search.specs.declared.search.Search.{Search}
 use Rattle.command_replies.specs.declared.status.Status.TheVariants as status
 use Rattle.command_replies.specs.declared.reply.Reply.{Reply}
 use Rattle.armc_commands.specs.declared.search_reply.Telling.TheVariants.{Certificate}
-use Rattle.armc_commands.specs.SearchReply.{Part}
 use Rattle.armc_commands.specs.SearchPromise.{CertificatePromise}
-
--- the search within the budget
-abbrev pub back_search : ℕ → Search
-back_search budget = record { analysis = Backward; first = BadPredicates; budget = budget }
-
--- its one part
-abbrev pub back_parts : SystemData → ℕ → List Part
-back_parts s budget = (record { title = None; system = s; search = back_search budget }) ∷ []
+use Rattle.armc_commands.specs.Commands.Searches.{search_for}
 
 -- the automaton accepts the word of every bad configuration, with a configuration every one from which a step leads to it, and of no initial one
 pub record ProvesBackward (s : SystemData) (m : Automaton) : Type 0 where
@@ -53,5 +43,5 @@ pub record ShowsComplement (s : SystemData) (budget : ℕ) (text : List ℕ) : T
 
 -- the certificate shows what it says, and at status 0 it is the complement of what was found
 pub record BackPromise (s : SystemData) (budget : ℕ) (reply : Reply) : Type 0 where
-  pub certificate : CertificatePromise s (Certificate None) (back_parts s budget) reply
+  pub certificate : CertificatePromise s (Certificate None) (search_for Back budget) reply
   pub complements : reply.status ≡ status.Done → ShowsComplement s budget reply.out

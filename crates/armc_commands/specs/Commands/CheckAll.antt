@@ -6,7 +6,8 @@ use Rattle.protocol_syntax.specs.Properties.{AreProperties, properties}
 use Rattle.protocol_model.specs.System.{SystemData}
 use Rattle.protocol_properties.specs.Properties.{first_properties_fault, properties_of}
 use Rattle.protocol_properties.specs.declared.properties.Property.{Property}
-use Rattle.property_batch.specs.PropertyVerdicts.{property_search}
+use Rattle.armc_commands.specs.Commands.Searches.{predicate_search}
+use Rattle.protocol_search.specs.declared.search.Analysis.TheVariants.{Forward}
 use Rattle.command_replies.specs.declared.refusal.Refusal.{Refusal}
 use Rattle.command_replies.specs.declared.status.Status.TheVariants as status
 use Rattle.command_replies.specs.declared.reply.Reply.{Reply}
@@ -25,7 +26,7 @@ pub record SaysProperties (s : SystemData) (text : List ℕ) (said : List Proper
 
 -- the part of a property, with its name as the title: the search of its own system with the whole budget
 abbrev pub property_part : ℕ → Property → Part
-property_part budget property = record { title = Some property.name; system = property.system; search = property_search budget }
+property_part budget property = record { title = Some property.name; system = property.system; search = predicate_search Forward budget }
 
 -- a part for each property, in their order
 abbrev pub property_parts : ℕ → List Property → List Part

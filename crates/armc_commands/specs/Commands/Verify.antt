@@ -1,5 +1,5 @@
 -- The reply of `verify`, and what it promises.
-use Rattle.std.specs.Prelude.{◌≡◌, ◌⊎◌, ℕ, List, ◌++◌, IsTrue, codes, decimal}
+use Rattle.std.specs.Prelude.{◌≡◌, ◌↔◌, ◌⊎◌, ℕ, List, ◌++◌, IsTrue, codes, decimal}
 use Rattle.protocol_model.specs.System.{SystemData}
 use Rattle.protocol_model.specs.Patterns.{fits}
 use Rattle.protocol_model.specs.Runs.{IsBadRun}
@@ -66,6 +66,6 @@ pub record ShowsProof (s : SystemData) (text : List ℕ) : Type 0 where
   pub means : IsCertificateOf s text certificate
   pub is_proof : IsProofOf s certificate
 
--- at status 0 the text shows a proof
+-- the status is 0 exactly where the text shows a proof
 abbrev pub VerifyPromise : SystemData → List ℕ → Reply → Type 0
-VerifyPromise s text reply = reply.status ≡ status.Done → ShowsProof s text
+VerifyPromise s text reply = (reply.status ≡ status.Done) ↔ ShowsProof s text

@@ -7,8 +7,9 @@ ghost use Rattle.command_words.specs.Words.{IsLimits};
 ghost use Rattle.command_words.specs.declared.Query.{Query as QueryData};
 ghost use Rattle.protocol_model.specs.System.{SystemData};
 ghost use Rattle.command_replies.specs.declared.reply.Reply.{Reply as ReplyData};
-ghost use Rattle.armc_commands.specs.Commands.Queries.{first_abstraction as first_abstraction_of, search_for as search_for_query, reported_method as reported_method_of};
-ghost use Rattle.armc_commands.specs.Commands.Queries.{check_telling, telling_of as telling_of_query, QueryReply, QueryPromise};
+ghost use Rattle.armc_commands.specs.Commands.Searches.{first_abstraction as first_abstraction_of, search_for as search_for_query};
+ghost use Rattle.armc_commands.specs.Commands.Queries.{reported_method as reported_method_of, check_telling, telling_of as telling_of_query};
+ghost use Rattle.armc_commands.specs.Commands.Queries.{QueryReply, QueryPromise};
 
 use crate::search_reply::{Telling, keep_search_promises, search_reply};
 use armc_io::Gate;
@@ -16,7 +17,7 @@ use command_replies::Reply;
 use command_words::{Limits, Method, Query, Settings, Start};
 use protocol_model::System;
 use protocol_search::{Analysis, FirstAbstraction, Search};
-use search_report::ReportedMethod;
+use search_report::Method as ReportedMethod;
 use std::alloc::{AllocError, Global};
 use std::thread::Threads;
 

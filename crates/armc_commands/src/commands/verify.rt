@@ -4,14 +4,14 @@
 ghost use Rattle.std.specs.Prelude.{◌≡◌, ◌≢◌, ◌↔◌, ◌++◌, ℕ, List, IsTrue, IfOk, OnOk, MatchOption, codes, decimal};
 ghost use Rattle.protocol_model.specs.Patterns.{fits};
 ghost use Rattle.configuration_words.specs.Texts.{configuration_text as text_of};
-ghost use Rattle.protocol_model.specs.System.{SystemData};
+ghost use Rattle.protocol_model.specs.System.{SystemData, IsValid};
 ghost use Rattle.command_replies.specs.declared.reply.Reply.{Reply as ReplyData};
 ghost use Rattle.command_replies.specs.Line.{line};
 ghost use Rattle.command_replies.specs.Reply.{on_out as on_out_of};
 ghost use Rattle.armc_commands.specs.Commands.Verify.{ShowsFitting, IsVerifyReply, VerifyPromise, answer_text, answer_status as answer_status_of};
 
-use certificate::read;
-use certificate_checker::{Answer, check_certificate, proofs_are_sound};
+use certificate::{one_reading, read};
+use certificate_checker::{Answer, check_certificate, one_answer, proofs_are_sound};
 use command_replies::{Reply, Status, certificate_refusal, line_of, on_out, rule_name};
 use configuration_words::configuration_text;
 use protocol_model::{Configuration, System};
@@ -116,9 +116,11 @@ pub fn verify_reply(alloc: Global, system: &System, text: &[u8]) -> Result<Reply
     Ok(on_out(alloc, answer_status(&answer), line))
 }
 
-/// What `verify` promises: at status 0 the text shows a proof. The function does nothing.
+/// What `verify` promises: the status is 0 exactly where the text shows a proof. The function does nothing.
 pub fn keeps_verify_promise()
-    ensures { (s : SystemData) (text : List ℕ) (reply : ReplyData) → IsVerifyReply s text reply → VerifyPromise s text reply }
+    ensures { (s : SystemData) → IsValid s → (text : List ℕ) (reply : ReplyData) → IsVerifyReply s text reply → VerifyPromise s text reply }
 {
+    one_reading();
+    one_answer();
     proofs_are_sound();
 }

@@ -29,3 +29,17 @@ returns-clause-usage g c =
     usage_only (map string_bytes c.args.words.now) (g.L.Library.state c.args.library.now)
     (g.L.Library.state c.reply_to-outcome.new.library) _ _ _ _ _
     (Answers-made _ _ _ _ _ _ _ _ _ c.reply_to-outcome.ensures.outcome c.answer.ensures)
+
+pub returns-clause-one_reply : goal.returns-clause-one_reply
+returns-clause-one_reply g c = c.one_reply.ensures (map string_bytes c.args.words.now) (g.L.Library.state c.args.library.now).told
+
+pub returns-clause-workers : goal.returns-clause-workers
+returns-clause-workers g c = c.workers_keep_reply.ensures (map string_bytes c.args.words.now) (g.L.Library.state c.args.library.now).told
+
+pub returns-clause-larger_budget : goal.returns-clause-larger_budget
+returns-clause-larger_budget g c =
+    c.larger_budget_keeps_reply.ensures.query (map string_bytes c.args.words.now) (g.L.Library.state c.args.library.now).told
+
+pub returns-clause-larger_budget_of_parts : goal.returns-clause-larger_budget_of_parts
+returns-clause-larger_budget_of_parts g c =
+    c.larger_budget_keeps_reply.ensures.parts (map string_bytes c.args.words.now) (g.L.Library.state c.args.library.now).told

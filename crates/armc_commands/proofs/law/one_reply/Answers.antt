@@ -8,7 +8,7 @@ use Rattle.armc_commands.proofs.law.one_reply.Goals as goal
 
 pub returns : goal.returns
 returns c = λ words told one other tells.
-    outcome_once c.one_reading.ensures.protocol c.one_reading.ensures.fault c.one_reading.ensures.either
+    outcome_once c.one_reading.ensures.protocol c.one_reading.ensures.fault c.one_reading.ensures.either words told tells
     (command_once c.texts_say_allowed_protocols.ensures.allowed c.texts_say_allowed_protocols.ensures.valid
     (λ s valid text. verify_once c.one_reading-3.ensures.meaning c.one_reading-3.ensures.fault c.one_reading-3.ensures.either s valid text c.one_answer-2.ensures)
     (migrate_once c.one_reading-3.ensures.meaning c.one_reading-3.ensures.fault c.one_reading-3.ensures.either)
@@ -16,4 +16,4 @@ returns c = λ words told one other tells.
     (check-all-once c.one_reading_of_properties.ensures.properties c.one_reading_of_properties.ensures.fault c.one_reading_of_properties.ensures.either
     (search-once c.one_verdict.ensures.verdict c.one_verdict.ensures.text (Certificate None)))
     (search-once c.one_verdict.ensures.verdict c.one_verdict.ensures.text))
-    words told tells one other
+    one other

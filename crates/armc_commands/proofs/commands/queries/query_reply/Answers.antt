@@ -1,8 +1,8 @@
-use Rattle.std.proofs.Common.{[], ◌∷◌, None, IfOk, subst}
+use Rattle.std.proofs.Common.{IfOk, subst}
 use Rattle.protocol_search.specs.declared.search.Search.{Search}
 use Rattle.armc_commands.specs.declared.search_reply.Telling.{Telling}
-use Rattle.armc_commands.specs.SearchReply.{IsSearchReply}
-use Rattle.armc_commands.specs.Commands.Queries.{query_parts}
+use Rattle.armc_commands.specs.SearchReply.{only_part, IsSearchReply}
+use Rattle.armc_commands.specs.Commands.Searches.{search_for}
 use Rattle.armc_commands.proofs.commands.queries.query_reply.Goals as goal
 
 pub returns : goal.returns
@@ -10,6 +10,5 @@ returns g c =
     let r = c.search_reply.result in
     let s = c.args.system.now in
     let by_search =
-    subst (λ (x : Search). IfOk r (IsSearchReply c.telling_of-telling.result ((record { title = None; system = s; search = x }) ∷ [])))
-    c.search_for-search.ensures.search c.search_reply.ensures in
-    subst (λ (t : Telling). IfOk r (IsSearchReply t (query_parts s c.args.query c.args.limits.budget))) c.telling_of-telling.ensures by_search
+    subst (λ (x : Search). IfOk r (IsSearchReply c.telling_of-telling.result (only_part s x))) c.search_for-search.ensures.search c.search_reply.ensures in
+    subst (λ (t : Telling). IfOk r (IsSearchReply t (only_part s (search_for c.args.query c.args.limits.budget)))) c.telling_of-telling.ensures by_search

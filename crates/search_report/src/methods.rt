@@ -3,7 +3,7 @@
 
 /// What a search relates states by.
 #[derive(Clone, Copy, Debug, PartialEq, Eq)]
-pub enum ReportedMethod {
+pub enum Method {
     /// The states of predicate automata with which states share words.
     Predicates,
     /// The accepted words of bounded length.
