@@ -235,6 +235,9 @@ def properties(program):
         found = call(program, "armc-properties", tickets, path, "-", text="armc 1 unknown\n")
         wrong += differs("no certificate", (found.returncode, found.stderr), (6, "armc: certificate: line 1: nothing to verify\n"))
         wrong += wrong_properties(program, path) + one_proof_for_many(program, folder)
+    for words, told in re.findall(r"^\$ armc-properties (.*)\n((?:.*\n)*?)```$", read(os.path.join(TOP, "docs", "TOOLS.md")), re.M):
+        found = call(program, "armc-properties", *words.split(), cwd=TOP)
+        wrong += differs(f"armc-properties {words}", found.stdout, told)
     return wrong
 
 

@@ -478,6 +478,7 @@ def wrong_root(program, root):
     wrong = [f"the program needs {other}"] if other else []
     place = os.path.join(root, "share", "doc", "armc", "examples")
     tools = [["armc-explain", f"{place}/open_door.armc"], ["armc-walk", "--random", "9", f"{place}/open_door.armc"], ["armc-portfolio", f"{place}/tickets.armc"],
+             ["armc-portfolio", "--deadlock", f"{place}/tickets.armc"], ["armc-properties", f"{place}/patterns/several_properties.armc", f"{place}/patterns/several_properties.props"],
              ["armc-coverage", f"{place}/tickets.armc"], ["armc-check-folder", f"{place}/tutorial", "--budget", "1000"],
              ["armc-expand", "--check", f"{place}/templates/permits.armct", "n=3"], ["armc-explain", "--set", "n=1", f"{place}/templates/permits.armct"],
              ["armc-export", "--to", "dot", "--rules", "--out", os.path.join(root, "exported"), f"{place}/tickets.armc", f"{place}/tickets.cert"],
