@@ -103,6 +103,36 @@ def folders(program):
         return wrong + refused_results(program, folder) + terminal(program, folder)
 
 
+# Protocols whose heads ask for tools, which go along with the list then.
+HEADS = {"ends.armc": ("# expect: deadlock free\n# command: deadlock\n# may end: P: c*\n", "open_door.armc"),
+         "free.armc": ("# expect: deadlock free\n# command: deadlock\n", "tickets.armc"),
+         "many.armc": ("# expect: unsafe\n# command: properties many.props\n", "patterns/several_properties.armc")}
+
+
+def heads(program):
+    """A list of protocols whose heads ask for deadlocks, also with ends that are meant, and for properties; a certificate of these that is forged."""
+    with tempfile.TemporaryDirectory() as place:
+        shutil.copy(example("patterns", "several_properties.props"), os.path.join(place, "many.props"))
+        for name, (head, path) in HEADS.items():
+            with open(os.path.join(place, name), "w") as file:
+                file.write(head + re.sub(r"(?m)^# expect:.*\n", "", tools.read(example(path))))
+        alone = call(program, FOLDER, "--jobs", "2", place)
+        with made(program, FOLDER, place) as folder:
+            wrong = differs("lines with tools", run_lines(folder, lines_of(folder)).stderr, "")
+            found = call(program, FOLDER, "--collect", folder)
+            wrong += differs("heads", (found.returncode, without_times(found.stdout), found.stderr), (0, without_times(alone.stdout), ""))
+            path = next(path for path in map(results.path_of, ("00000", "00001", "00002"), [folder] * 3) if results.read(path)["files"])
+            whole = results.read(path)
+            name = next(name for name, text in whole["files"].items() if text.startswith("armc 1 safe"))
+            protocol = next(name for name in whole["files"] if name.endswith(".armc"))
+            for change in ({name: "armc 1 safe\nstates 0\nend\n"}, {protocol: re.sub(r"(?m)^init.*\n", "", whole["files"][protocol])}):
+                with open(path, "w") as file:
+                    file.write(results.sealed({**whole, "files": {**whole["files"], **change}}))
+                found = call(program, FOLDER, "--collect", folder)
+                wrong += differs(f"a forged {list(change)}", (found.returncode, found.stderr.count("is refused: ")), (10, 1))
+    return wrong
+
+
 def refused_results(program, folder):
     """Half a file, an empty one, a forged proof, and results of another program or list are refused, told, and put aside."""
     paths = [results.path_of(f"{at:05d}", folder) for at in range(5)]
@@ -213,7 +243,7 @@ def one_search(program):
         return wrong + differs("a result that cannot be written", (ended.returncode, "Traceback" in ended.stderr), (75, False))
 
 
-CHECKS = {"lists of a portfolio": portfolio, "lists of a folder": folders, "lists, with faults": faults, "armc-search-one": one_search}
+CHECKS = {"lists of a portfolio": portfolio, "lists of a folder": folders, "lists of heads": heads, "lists, with faults": faults, "armc-search-one": one_search}
 
 
 def checks(program):

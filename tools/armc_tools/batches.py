@@ -2,16 +2,22 @@
 
 The folder of results is the truth, whatever an engine tells of its own: a line without a whole result of this list is to be run once more.
 """
+import glob
 import json
 import os
 import shlex
 import shutil
+import subprocess
 
 from . import results
 from .program import NOT_RUN, READ, TOOLS, WRITE, Refused
+from .properties import rows_of
+from .protocol import Protocol
 
 # What is copied into the folder beside the program and the protocols.
 COPIED = ("armc-search-one", "armc-second-opinion", os.path.join("armc_tools", "__init__.py"), os.path.join("armc_tools", "results.py"))
+# What goes along too where a search is made by a tool.
+TOOLS_COPIED = ("armc-properties", "armc-portfolio", os.path.join("armc_tools", "*.py"))
 MISSING = 10
 MAKEFILE = """# The searches of the list that have no result: make -k -j 4
 RESULTS := $(shell sed -E 's,^\\./armc-search-one( --[a-z-]+)* ([0-9]+) .*,results/\\2.json,' list)
@@ -50,8 +56,9 @@ def make(folder, program, tool, told, protocols, tasks, limits, flags=()):
         for name in (results.PROTOCOLS, results.RESULTS, results.ANSWERED, "armc_tools"):
             os.mkdir(os.path.join(folder, name))
         shutil.copy(program, os.path.join(folder, results.PROGRAM))
-        for name in COPIED:
-            shutil.copy(os.path.join(TOOLS, name), os.path.join(folder, name))
+        copied = (*COPIED, *TOOLS_COPIED) if any(words[0].startswith("armc-") for words in tasks) else COPIED
+        for path in [path for name in copied for path in glob.glob(os.path.join(TOOLS, name))]:
+            shutil.copy(path, os.path.join(folder, os.path.relpath(path, TOOLS)))
         for name, text in protocols.items():
             with open(os.path.join(folder, results.PROTOCOLS, name), "wb") as file:
                 file.write(text)
@@ -109,10 +116,23 @@ class Collected:
         if [found.get(name) for name in results.KEY] != [task, words, self.digests[words[1]], self.own]:
             return self.refuse(path, "is of another list")
         if found["judged"] == "valid":
-            told = results.judged(self.program, os.path.join(self.folder, words[1]), found["out"])
-            if told != "valid":
+            file = os.path.join(self.folder, words[1])
+            told = results.judged_result(self.program, file, found)
+            if told != "valid" or not self.has_its_properties(file, words, found):
                 return self.refuse(path, f"is refused: {told}")
         return found
+
+    def has_its_properties(self, file, words, found):
+        """Whether the protocols that a result of armc-properties has for its certificates are the given one, in some order of sections, with the rows of
+        each property."""
+        if words[0] != results.PROPERTIES:
+            return True
+        protocol = Protocol(subprocess.run([self.program, "show", file], capture_output=True, text=True).stdout)
+        with open(os.path.join(self.folder, words[-1]), encoding="utf-8", errors="replace") as text:
+            rows = rows_of(text.read())
+        names = [line.split()[0] for line in found["out"].splitlines()[1:]]
+        files = {name: found["files"].get(f"{name}.armc") for name in names}
+        return names == list(rows) and all(text is None or sorted(text.splitlines()) == sorted(protocol.text(bads=rows[name]).splitlines()) for name, text in files.items())
 
     def refuse(self, path, why):
         self.faults.append(f"{path} {why}")

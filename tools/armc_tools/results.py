@@ -11,6 +11,8 @@ HEAD = "armc-result "
 PROGRAM, PROTOCOLS, RESULTS, ANSWERED = "armc", "protocols", "results", "answered"
 # What says which search a result is of.
 KEY = ("task", "words", "protocol", "program")
+# A search of many properties is made by a tool, which goes along then, and so is one for a deadlock with ends that are meant.
+PROPERTIES, DEADLOCKS = "armc-properties", "armc-portfolio"
 
 
 def sealed(result):
@@ -60,13 +62,38 @@ def digest(path):
         return hashlib.sha256(file.read()).hexdigest()
 
 
-def judged(program, file, text):
-    """'valid', or the line that refuses a certificate: by `verify`, and by armc-second-opinion where it is about deadlocks. None where a signal ended it."""
+def judged(program, file, text, *more):
+    """'valid', or the line that refuses a certificate: by `verify`, and by armc-second-opinion with these words more where it is about deadlocks. None
+    where a signal ended it."""
     second = os.path.join(os.path.dirname(os.path.dirname(os.path.abspath(__file__))), "armc-second-opinion")
-    judge = [sys.executable, second] if text.startswith("deadlock") else [program, "verify"]
+    judge = [sys.executable, second, *more] if text.startswith("deadlock") else [program, "verify"]
     with tempfile.NamedTemporaryFile("w", suffix=".cert", encoding="utf-8") as certificate:
         certificate.write(text)
         certificate.flush()
         ended = subprocess.run([*judge, file, certificate.name], stdin=subprocess.DEVNULL, capture_output=True)
     told = (ended.stdout or ended.stderr).decode("utf-8", "replace").strip()
     return None if ended.returncode < 0 else "valid" if ended.returncode == 0 and told == "valid" else told or f"status {ended.returncode}"
+
+
+def judged_result(program, file, result):
+    """The same of all certificates of a result; nothing where it has none."""
+    command, _, *options = result["words"]
+    if command == PROPERTIES:
+        return judged_properties(program, result)
+    buts = [word for at, word in enumerate(options) if "--but" in options[max(0, at - 1):at + 1]]
+    return judged(program, file, result["out"], *buts) if result["status"] in (0, 1) else ""
+
+
+def judged_properties(program, result):
+    """Of the table of armc-properties: each certificate, for the protocol with the rows of its property."""
+    told, files = "", result["files"]
+    for name, answer, *_, certificate in (line.split() for line in result["out"].splitlines()[1:]):
+        if answer in ("safe", "unsafe"):
+            text, protocol = files.get(certificate, ""), files.get(f"{name}.armc", "")
+            with tempfile.NamedTemporaryFile("w", suffix=".armc", encoding="utf-8") as file:
+                file.write(protocol)
+                file.flush()
+                told = judged(program, file.name, text) if text.startswith(f"armc 1 {answer}\n") else f"{certificate} does not fit its row"
+            if told != "valid":
+                return told
+    return told
