@@ -106,7 +106,7 @@ def faults(program):
 def terminals(program):
     """What a terminal shows of the tools that ask nothing is what a pipe gets."""
     wrong, lock = [], example("tutorial", "lock.armc")
-    for tool, words in (("armc-coverage", [lock]), ("armc-explain", [lock]), ("armc-second-opinion", [example("tickets.armc"), example("tickets.cert")]),
+    for tool, words in (("armc-coverage", [lock]), ("armc-explain", ["--why", lock]), ("armc-second-opinion", [example("tickets.armc"), example("tickets.cert")]),
                         ("armc-walk", ["--random", "9", "--seed", "1", example("open_door.armc")]), ("check-folder", [example("tutorial")])):
         asked = [] if tool == "armc-second-opinion" else ["--program", program]
         words = [sys.executable, os.path.join(TOOLS, tool), *asked, *words]
@@ -477,7 +477,8 @@ def wrong_root(program, root):
     other = [path for path in needed if not re.match(r"(ld-linux[\w-]*|libc|libm|libpthread|libdl|librt|libgcc_s)\.so", os.path.basename(path))]
     wrong = [f"the program needs {other}"] if other else []
     place = os.path.join(root, "share", "doc", "armc", "examples")
-    tools = [["armc-explain", f"{place}/open_door.armc"], ["armc-walk", "--random", "9", f"{place}/open_door.armc"], ["armc-portfolio", f"{place}/tickets.armc"],
+    tools = [["armc-explain", f"{place}/open_door.armc"], ["armc-explain", "--why", "--html", os.path.join(root, "page.html"), f"{place}/tickets.armc"],
+             ["armc-walk", "--random", "9", f"{place}/open_door.armc"], ["armc-portfolio", f"{place}/tickets.armc"],
              ["armc-portfolio", "--deadlock", f"{place}/tickets.armc"], ["armc-properties", f"{place}/patterns/several_properties.armc", f"{place}/patterns/several_properties.props"],
              ["armc-coverage", f"{place}/tickets.armc"], ["armc-check-folder", f"{place}/tutorial", "--budget", "1000"],
              ["armc-expand", "--check", f"{place}/templates/permits.armct", "n=3"], ["armc-explain", "--set", "n=1", f"{place}/templates/permits.armct"],

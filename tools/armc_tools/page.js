@@ -224,7 +224,7 @@ function member() {
     if (!moves.has(p)) moves.set(p, new Map());
     moves.get(p).set(`${k}.${letter}`, q);
   });
-  const pictured = picturedStates();
+  const pictured = picturedStates(), arrows = picturedArrows();
 
   // The states on the way, and how many letters were read.
   function walked(word) {
@@ -270,13 +270,14 @@ function member() {
 
   function look(through) {
     const word = readConfiguration(field.value);
-    pictured.forEach((node) => node.classList.remove("on-way", "at-end", "no"));
+    [...pictured.values(), ...arrows.values()].forEach((node) => node.classList.remove("on-way", "at-end", "no"));
     if (typeof word === "string") {
       answer.replaceChildren(element("p", "note", word));
       return;
     }
     const states = walked(word), [inside, text] = said(word, states);
     states.forEach((state) => pictured.has(state) && pictured.get(state).classList.add("on-way"));
+    states.slice(1).forEach((state, at) => arrows.get(`${states[at]}-${state}`)?.classList.add("on-way"));
     const end = through === undefined ? states[states.length - 1] : states[through];
     if (pictured.has(end)) pictured.get(end).classList.add("at-end", ...(inside ? [] : ["no"]));
     answer.replaceChildren(element("p", "verdict " + (inside ? "good" : "bad"), text), path(word, states, through, inside));
@@ -341,6 +342,14 @@ function picturedStates() {
     found.set(Number(text.textContent), group);
   });
   found.delete(NaN);
+  return found;
+}
+
+// The arrows in the picture, by the states between which they lead.
+function picturedArrows() {
+  const found = new Map();
+  all(document, ".picture g.edge").forEach((group) => found.set(one(group, "title").textContent.replace("->", "-"), group));
+  all(document, ".picture [data-edge]").forEach((path) => found.set(path.dataset.edge, path));
   return found;
 }
 

@@ -310,7 +310,8 @@ def automaton_html(told, least, left_out):
     between = ", with <code>|</code> between two sections" if len(told.protocol.sections) > 1 else ""
     yield f"<p>It reads the letters of a configuration from left to right{between}, from state 0. It accepts in the states with two circles.</p>"
     if automaton.states <= DRAWN:
-        yield f'<div class="picture">{bare(drawing.automaton(told.protocol, automaton, told.given.plain))}</div>'
+        picture = bare(drawing.automaton(told.protocol, automaton, told.given.plain))
+        yield f'<div class="picture">{with_edges(picture, drawing.labels_of(told.protocol, automaton))}</div>'
         yield '<p class="picked soft" hidden>Click on a state to see the least configuration through it.</p>'
     else:
         yield f'<p class="note">The picture of {size_of(automaton)} is left out here; <code>armc-explain --svg</code> draws it.</p>'
@@ -320,6 +321,18 @@ def automaton_html(told, least, left_out):
 def bare(picture):
     """The picture without a head and a style of its own: the page has one for it."""
     return re.sub(r"<style>.*?</style>\s*|<rect [^>]*fill=\"#fff\"/>\s*", "", picture[picture.index("<svg"):], flags=re.S)
+
+
+def with_edges(picture, labels):
+    """A plain picture with the states of each arrow named, so that the script finds it: behind that of the start, the arrows stand in the order of the labels."""
+    reached = {0}
+    while more := {q for p, q in labels if p in reached} - reached:
+        reached |= more
+    pairs = [pair for pair in labels if pair[0] in reached]
+    parts = picture.split('<path class="edge"')
+    if len(parts) != len(pairs) + 2:
+        return picture
+    return '<path class="edge"'.join(parts[:2]) + "".join(f'<path class="edge" data-edge="{p}-{q}"{part}' for (p, q), part in zip(pairs, parts[2:]))
 
 
 def examples_of(told, least):
