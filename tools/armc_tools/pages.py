@@ -236,7 +236,7 @@ def proof_lines(told):
 
 
 NOTATION = """<p class="soft hint"><code>a*</code> is any number of <code>a</code>, <code>a+</code> at least one, <code>a?</code> one or none,
-<code>{ a b }</code> one of these, <code>any</code> one of all letters of the section.</p>"""
+<code>{ a b }</code> one of these, <code>(a b or c)</code> one of these rows, <code>any</code> one of all letters of the section.</p>"""
 TRY = """<p>What is outside of the proof is never reached by a run; what is inside may be.</p>
 <form class="try"><label for="configuration">A configuration, as <code class="example"></code></label>
 <div class="line"><input id="configuration" type="text" autocomplete="off" autocapitalize="off" spellcheck="false"><button type="submit">Look it up</button></div></form>
@@ -247,7 +247,7 @@ TRY = """<p>What is outside of the proof is never reached by a run; what is insi
 def closure_table(told):
     """The table of rules: from where each can fire, and into which case it leads."""
     words = Told(told.protocol, told.given.width)
-    yield '<div class="wide"><table class="closure"><thead><tr><th>rule</th><th>fires where</th><th>and leads to</th><th>as, at the least</th></tr></thead>'
+    yield '<div class="wide"><table class="closure"><thead><tr><th>rule</th><th>fires where</th><th>and leads to</th><th>a least step</th></tr></thead>'
     for number, (rule, ways) in enumerate(told.closure):
         yield f'<tbody data-rule="{number}">'
         name = f'<th scope="rowgroup" rowspan="{max(1, min(len(ways), WAYS))}">{html.escape(rule.name)}</th>'
