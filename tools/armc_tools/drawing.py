@@ -16,7 +16,7 @@ text { font: 12px monospace; fill: #222 } .label { fill: #035; paint-order: stro
 def svg(width, height, body):
     width, height = round(width), round(height)
     head = f'<svg xmlns="http://www.w3.org/2000/svg" viewBox="0 0 {width} {height}" width="{width}" height="{height}">'
-    arrow = '<marker id="arrow" viewBox="0 0 8 8" refX="8" refY="4" markerWidth="8" markerHeight="8" orient="auto"><path d="M0 0L8 4L0 8z" fill="#555"/></marker>'
+    arrow = '<marker id="arrow" viewBox="0 0 8 8" refX="8" refY="4" markerWidth="8" markerHeight="8" markerUnits="userSpaceOnUse" orient="auto"><path d="M0 0L8 4L0 8z" fill="#555"/></marker>'
     return "\n".join([head, STYLE, f"<defs>{arrow}</defs>", f'<rect width="{width}" height="{height}" fill="#fff"/>', *body, "</svg>", ""])
 
 
@@ -70,14 +70,26 @@ def layers_of(certificate, labels):
     return layers[:-1]
 
 
+def columns_of(layers, layer_of, labels):
+    """Where each layer stands: so far from the one before that the labels between them and those above their states have room; and how wide it all is."""
+    between, above = [0] * len(layers), [0] * len(layers)
+    for (p, q), label in labels.items():
+        if p in layer_of and abs(layer_of[p] - layer_of[q]) < 2:
+            room, k = (above if p == q else between), min(layer_of[p], layer_of[q])
+            room[k] = max(room[k], len(label) * LETTER)
+    found = [max(60, above[0] / 2 + 10)] if layers else [0]
+    for k in range(1, len(layers)):
+        found.append(found[-1] + max(90, between[k - 1] + 3 * RADIUS, (above[k - 1] + above[k]) / 2 + RADIUS))
+    return found, found[-1] + max([60, *(wide / 2 + 10 for wide in above[-1:])])
+
+
 def in_layers(certificate, labels):
     """A picture of the states that are reached, layer by layer from the left: edges to the next layer are straight, others curved, and dashed where they lead back."""
     layers = layers_of(certificate, labels)
-    wide = max([len(label) for label in labels.values()] or [1]) * LETTER
-    apart, high = max(90, wide + 3 * RADIUS), max(map(len, layers), default=1) * 100
-    place = {state: (60 + k * apart, 40 + high * (j + 0.5) / len(layer)) for k, layer in enumerate(layers) for j, state in enumerate(layer)}
     layer_of = {state: k for k, layer in enumerate(layers) for state in layer}
-    body = ['<path class="edge" d="M20 {0:.0f}L42 {0:.0f}" marker-end="url(#arrow)"/>'.format(place[0][1])] if place else []
+    (columns, wide), high = columns_of(layers, layer_of, labels), max(map(len, layers), default=1) * 100
+    place = {state: (columns[k], 40 + high * (j + 0.5) / len(layer)) for k, layer in enumerate(layers) for j, state in enumerate(layer)}
+    body = ['<path class="edge" d="M{0:.0f} {2:.0f}L{1:.0f} {2:.0f}" marker-end="url(#arrow)"/>'.format(columns[0] - 40, columns[0] - 18, place[0][1])] if place else []
     for (p, q), label in labels.items():
         if p in place:
             straight = layer_of[q] == layer_of[p] + 1 and (q, p) not in labels
@@ -87,7 +99,7 @@ def in_layers(certificate, labels):
         if state in certificate.finals:
             body.append(f'<circle class="state" cx="{x:.0f}" cy="{y:.0f}" r="{RADIUS - 4}"/>')
         body.append(words(x, y + 4, str(state)))
-    return svg(80 + len(layers) * apart, 80 + high, body)
+    return svg(wide, 80 + high, body)
 
 
 def loop(at, label):

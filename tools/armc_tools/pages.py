@@ -27,7 +27,7 @@ LETTERS, SHORT = 200_000, 12
 
 # What is told: the name of the file, its text, the protocol, the certificate and what `verify` says of it, the lines that tell it, the bad rows that
 # the end of a run meets, the ways of the rules of a proof (or a line that says why they are not told), and the words of the tool: the longest expression,
-# and whether Graphviz may draw.
+# whether Graphviz may draw, and whether the automaton is that of the certificate.
 Explained = collections.namedtuple("Explained", "name text protocol certificate judged lines met closure given")
 
 
@@ -62,7 +62,7 @@ VERDICTS = {"safe": ("good", "Safe, for every number of processes"), "deadlock f
 
 def head(told):
     mark, verdict = VERDICTS[told.certificate.kind]
-    what = f"a proof, an automaton of {size_of(told.certificate)}" if isinstance(told.certificate, Automaton) else f"a run of {size_of(told.certificate)}"
+    what = told.lines[1].rstrip(".").lower() if isinstance(told.certificate, Automaton) else f"a run of {size_of(told.certificate)}"
     judged = "judged valid by <code>armc verify</code>" if told.judged == "valid" else html.escape(told.judged)
     return ["<header>", f"<h1>{html.escape(told.name)}</h1>", f'<p class="verdict {mark}">{verdict}</p>', f'<p class="soft">Shown by {what}, {judged}.</p>', "</header>"]
 
@@ -308,10 +308,11 @@ def proof_main(told):
 def automaton_html(told, least, left_out):
     automaton = told.certificate
     between = ", with <code>|</code> between two sections" if len(told.protocol.sections) > 1 else ""
-    yield f"<p>It reads the letters of a configuration from left to right{between}, from state 0. It accepts in the states with two circles.</p>"
+    which = "This is the automaton of the certificate. It" if told.given.states else "This is the smallest automaton of the configurations of the proof. It"
+    yield f"<p>{which} reads the letters of a configuration from left to right{between}, from state 0, and accepts in the states with two circles.</p>"
     if automaton.states <= DRAWN:
-        picture = bare(drawing.automaton(told.protocol, automaton, told.given.plain))
-        yield f'<div class="picture">{with_edges(picture, drawing.labels_of(told.protocol, automaton))}</div>'
+        picture, wide = bare(drawing.automaton(told.protocol, automaton, told.given.plain))
+        yield f'<div class="picture" style="--wide: {wide}px">{with_edges(picture, drawing.labels_of(told.protocol, automaton))}</div>'
         yield '<p class="picked soft" hidden>Click on a state to see the least configuration through it.</p>'
     else:
         yield f'<p class="note">The picture of {size_of(automaton)} is left out here; <code>armc-explain --svg</code> draws it.</p>'
@@ -319,8 +320,10 @@ def automaton_html(told, least, left_out):
 
 
 def bare(picture):
-    """The picture without a head and a style of its own: the page has one for it."""
-    return re.sub(r"<style>.*?</style>\s*|<rect [^>]*fill=\"#fff\"/>\s*", "", picture[picture.index("<svg"):], flags=re.S)
+    """The picture without a head, a style and a size of its own, since the page has them; and how many pixels it is wide."""
+    picture = re.sub(r"<style>.*?</style>\s*|<rect [^>]*fill=\"#fff\"/>\s*", "", picture[picture.index("<svg"):], flags=re.S)
+    size = re.search(r'width="(\d+)(pt|)" height="\d+(?:pt|)"', picture)
+    return picture.replace(size[0], "", 1), int(size[1]) * (4 if size[2] else 3) // 3
 
 
 def with_edges(picture, labels):
