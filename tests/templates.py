@@ -62,6 +62,7 @@ PRODUCTIONS = (
     ("for i in 1 .. 3 { cell S{i} { x } }", "cell S1 { x }\ncell S2 { x }"),
     ("for x in { u v } { cell S_{x} { x{x}1 } }", "cell S_u { xu1 }\ncell S_v { xv1 }"),
     ("let R = { u v } for x in R { for y in R { if x != y { cell S_{x}{y} { w } } } }", "cell S_uv { w }\ncell S_vu { w }"),
+    ("for q in { a b } { if q != a { cell S_{q} { x } } if b == q { cell T_{q} { x } } if q == c { cell U { x } } }", "cell S_b { x }\ncell T_b { x }"),
     ("for i in 2 .. 2 { cell S { x } } for i in 3 .. 1 { cell S { x } } for x in { } { cell S { x } }", ""),
     ("for i in 0 .. 6 { if i % 2 == 1 { if i >= 3 { cell S{i} { x } } } }", "cell S3 { x }\ncell S5 { x }"),
     ("if 1 < 2 { if 2 <= 2 { if 3 > 2 { if 2 >= 2 { if 1 != 2 { if 2 == 2 { cell S { x } } } } } } }", "cell S { x }"),
@@ -130,7 +131,7 @@ def productions():
                           ({"z": 1}, "the template has no variable z at its top, but n, m, R, q")):
         wrong += differs(f"with {given}", answer(text, **given), f"template: {wanted}")
     for word, wanted in (("n=3", ("n", 3)), ("R={a b}", ("R", ("a", "b"))), ("R={}", ("R", ())), ("n=", None), ("n=-1", None), ("3=3", None), ("n=1000000001", None),
-                         ("n=99999999999", None), ("for=3", None), ("R={all}", None), ("R={a-b}", None), ("R={a", None), ("=3", None), ("n=3 ", None), (f"R={{{'a' * 33}}}", None)):
+                         ("n=99999999999", None), ("for=3", None), ("R={all}", None), ("R={a any}", None), ("R={a-b}", None), ("R={a", None), ("=3", None), ("n=3 ", None), (f"R={{{'a' * 33}}}", None)):
         wrong += differs(f"the value {word}", value_of(word), wanted)
     return wrong
 
@@ -154,7 +155,8 @@ def refusals():
         wrong += [f"{cell} takes {time.monotonic() - began:.1f} s"] if time.monotonic() - began > LONGEST else []
     # (the words of each message before its first value)
     messages = re.findall(r'(?:self\.fault|Fault)\([\w.\[\]]+, f?"((?:[^"{]|\{what\})+)', read(os.path.join(TOOLS, "armc_tools", "expansion.py")) + read(os.path.join(TOOLS, "armc_tools", "templates.py")))
-    shown = [told for _, told in table] + [message for message in messages if message.startswith(("too many bytes", "there is no section", "the template has more"))]
+    kept = ("too many bytes", "there is no section", "the template has more", "there are two values")
+    shown = [told for _, told in table] + [message for message in messages if message.startswith(kept)]
     for message in set(messages):
         pattern = re.escape(message.strip()).replace(r"\{what\}", r"[a-z ]+")
         wrong += [] if any(re.search(pattern, told) for told in shown) else [f"the page has no refusal {message!r}"]
@@ -246,6 +248,12 @@ def computed(tokens, values):
     return int(tokens[0][0]) if tokens[0][0].isdigit() else values[tokens[0][0]]
 
 
+def side(tokens, values):
+    """The value of a side of a comparison: a word that is no variable is a name."""
+    word = tokens[0][0]
+    return word if len(tokens) == 1 and not word.isdigit() and word not in values else computed(tokens, values)
+
+
 def expression_end(tokens, at):
     """Where the expression that begins at this token ends."""
     while True:
@@ -296,7 +304,7 @@ def flattened(tokens, values, given=None, listed=False):
         elif word == "if":
             left = expression_end(tokens, at + 1)
             right = expression_end(tokens, left + 1)
-            sides = computed(tokens[at + 1:left], values), computed(tokens[left + 1:right], values)
+            sides = side(tokens[at + 1:left], values), side(tokens[left + 1:right], values)
             at, sign = closing(tokens, right + 1), tokens[left][0]
             # (names have the signs == and != alone)
             if (sides[0] == sides[1] if sign == "==" else sides[0] != sides[1] if sign == "!=" else
@@ -636,7 +644,11 @@ def runs(program):
             ([path, "n=1", "--output", out], 0, "", ""),
             ([path, "--output", os.path.join(folder, "no", "x")], 8, "", "cannot be written"),
             ([], 3, "", "usage: "),
+            (["--set", "n=1", path], 0, written, ""),
+            ([path, "n=1", "n=2"], 3, "", "armc-expand: n is given two values\n"),
+            ([path, "n=1", "--set", "n=2"], 3, "", "armc-expand: n is given two values\n"),
             ([path, "n"], 3, "", "'n' is no value: NAME=NUMBER or NAME={NAME ..}; usage: "),
+            ([path, "R={a any}"], 3, "", "'R={a any}' is no value: any is a word of the language; usage: "),
             ([path, "m=1"], 3, "", "armc-expand: the template has no variable m at its top, but n\n"),
             ([path, "n={a}"], 3, "", "armc-expand: n is a number in the template\n"),
             ([os.path.join(folder, "nowhere")], 4, "", "armc-expand: read fault: "),
@@ -697,6 +709,7 @@ def tools(program):
                 told = re.search(r"s: armc-expand (.*) \| armc (.*)$", one.stderr, re.M)
                 again = told and subprocess.run(f"{sys.executable} {TOOLS}/armc-expand {told[1]} | {program} {told[2]}", shell=True, capture_output=True, text=True)
                 wrong += differs("the told command line", again and again.stdout, one.stdout)
+                wrong += judges(asked, path, folder)
             for more, status, said in ((["--set", "k=1", path], 3, "the template has no variable k"), (["--set", "n", path], 3, "is no value"),
                                        (["--set", "n=1", protocol], 3, "--set is for a template"), ([unknown], 5, f"{tool}: template: line 3 column 37: unknown x0\n"),
                                        (["--set", "n=0", path], 5, f"{tool}: template: line"), ([os.path.join(folder, "no.armct")], 4, "read fault: ")):
@@ -708,6 +721,18 @@ def tools(program):
     return wrong
 
 
+def judges(asked, path, folder):
+    """The command lines by which the portfolio says that its answer about deadlocks is judged can be run on a template."""
+    found = call("armc-portfolio", *asked, "--deadlock", "--set", "n=2", path)
+    told, written, certificate = re.search(r"valid by (.*)$", found.stderr, re.M), os.path.join(folder, "P"), os.path.join(folder, "CERT")
+    if not told:
+        return [f"the portfolio tells no judge: {found.stderr[:300]!r}"]
+    with open(certificate, "w") as file:
+        file.write(found.stdout)
+    line = re.sub(r"\b(P|CERT)\b", lambda match: {"P": written, "CERT": certificate}[match[0]], told[1].replace("armc-", f"{sys.executable} {TOOLS}/armc-"))
+    return differs(f"the told judge {told[1]}", subprocess.run(line, shell=True, capture_output=True, text=True, timeout=SECONDS).stdout, "valid\n")
+
+
 def folders(program):
     """armc-check-folder: a row for each case of the head, options and expectations of each, given values, and refusals with their places."""
     texts = {
@@ -717,6 +742,9 @@ def folders(program):
         "c.armct": "# values: m=1\n# expect: safe\nlet n = 1\nprotocol p\narray P { a b }\n",
         "d.armct": "# expect: safe\nprotocol p\narray P { a a }\n",
         "e.armct": "# values: n\nprotocol p\narray P { a }\n",
+        "f.armct": "# values: n=2\n# expect: safe\n# values: n=2\n# expect: unsafe\n# options: --budget 7\nlet n = 1\nprotocol p\narray P { a b }\nbad { P: b; }\n",
+        "g.armct": "# expect: saf\nprotocol p\narray P { a b }\n",
+        "h.armct": "# value: n=7\nlet n = 1\nprotocol p\narray P { a b }\n",
     }
     with tempfile.TemporaryDirectory() as folder:
         for name, text in texts.items():
@@ -730,7 +758,10 @@ def folders(program):
                   ["b.armct", "safe", "no answer", "template: line 4 column 10: unknown c"],
                   ["c.armct m=1", "an answer", "no answer", "template: line 1 column 3: the template has no variable m at its top, but n"],
                   ["d.armct", "an answer", "no answer", "template: line 3 column 13: duplicate letter a, first at line 3 column 11"],
-                  ["e.armct", "an answer", "no answer", "template: line 1 column 3: 'n' is no value: NAME=NUMBER or NAME={NAME ..}"]]
+                  ["e.armct", "an answer", "no answer", "template: line 1 column 3: 'n' is no value: NAME=NUMBER or NAME={NAME ..}"],
+                  ["f.armct n=2 (line 1)", "safe", "safe"], ["f.armct n=2 (line 3)", "unsafe", "safe"],
+                  ["g.armct", "an answer", "no answer", "'expect: saf' names no verdict: safe, unsafe, unknown"],
+                  ["h.armct", "an answer", "no answer", "template: line 1 column 3: 'value:' is no word of a head, but 'values:'"]]
         wrong += differs("a folder", (found.returncode, [row[:len(each)] for row, each in itertools.zip_longest(told, wanted, fillvalue=[])]), (1, wanted))
         wrong += [] if 'name="a.armct n=1"' in read(report) else ["the report does not name the values"]
         for name in texts:
@@ -738,6 +769,10 @@ def folders(program):
                 os.remove(os.path.join(folder, name))
         found = call("check-folder", "--program", program, "--set", "n=2", "--set", "m=3", folder)
         wrong += differs("given values", (found.returncode, "a.armct n=2" in found.stdout, "n=1" in found.stdout), (0, True, False))
+        found = call("check-folder", "--program", program, "--set", "n=2", os.path.join(folder, "a.armct"))
+        wrong += differs("a file", (found.returncode, "a.armct n=2" in found.stdout), (0, True))
+        found = call("check-folder", "--program", program, "--set", "n=2", "--set", "n=3", folder)
+        wrong += differs("two values", (found.returncode, "given two values" in found.stderr), (2, True))
         found = call("check-folder", "--program", program, "--set", "n=7", folder)
         wrong += differs("values without a case", (found.returncode, "(nothing)" in found.stdout), (2, True))
         found = call("check-folder", "--program", program, "--set", "n", folder)
@@ -762,7 +797,17 @@ def heads():
         found = expand("t.armct", text.encode(), given).text.splitlines()
         wrong += differs(f"the head with {given}", found[:found.index("protocol p")], lines)
     told = [(words, isinstance(each, Written)) for words, each in expanded_cases("t.armct", text.encode(), {})]
-    return wrong + differs("the cases", told, [(["n=1"], True), (["n=2", "R={a b}"], True)])
+    wrong += differs("the cases", told, [(["n=1"], True), (["n=2", "R={a b}"], True)])
+    twice = "# values: n=2\n# expect: safe\n# values: n=2\n# expect: unsafe\nlet n = 1\nprotocol p\narray P { a b }\n"
+    for given in ({}, {"n": 2}):
+        told = [(words, each.text.splitlines()[0]) for words, each in expanded_cases("t.armct", twice.encode(), given)]
+        wrong += differs(f"equal values with {given}", told, [(["n=2", "(line 1)"], "# expect: safe"), (["n=2", "(line 3)"], "# expect: unsafe")])
+    for line, why in (("values:", "'' is no value: NAME=NUMBER or NAME={NAME ..}"), ("values: n=2 n=3", "there are two values of n"),
+                      ("values: R={a any}", "'R={a any}' is no value: any is a word of the language"), ("value: n=7", "'value:' is no word of a head, but 'values:'")):
+        wrong += differs(line, answer(f"# {line}\n{text}"), f"template: line 1 column 3: {why}")
+    told = expand("t.armct", f"{HEAD}init {{ }}\nrule r {{ P: at {{ }} -> a; }}\nbad {{ }}\n".encode(), {}).text.splitlines()[3:]
+    wanted = ["# from t.armct:3", "init { }", "# from t.armct:4: no rule r (an empty set)", "# from t.armct:5", "bad { }"]
+    return wrong + differs("where rows come from, and a rule of an empty set", told, wanted)
 
 
 def windows():

@@ -7,7 +7,7 @@ import itertools
 import os
 import re
 
-from .templates import MOST, RESERVED, Any, Chain, Fault, For, If, Let, Name, Number, Place, Range, Row, Rule, Same, Section, Set, head_of, read_template
+from .templates import MOST, RESERVED, Any, Chain, Fault, For, If, Let, Name, Number, Place, Range, Row, Rule, Same, Section, Set, Variable, head_of, read_template
 
 # The limits of docs/LANGUAGE.md.
 BYTES, NAME_BYTES, SECTIONS, LETTERS, RULES, ROWS, ATOMS, GUARDS, PUSHED = 1 << 20, 32, 16, 256, 256, 32, 32, 4, 4
@@ -41,7 +41,7 @@ class Written:
         told = [(line, []) for line in (*comments, f"# from {self.title()}")]
         for comment, words in lines:
             told += [(comment, [])] if comment else []
-            told.append(laid_out(words))
+            told += [laid_out(words)] if words else []
         self.text, self.places = "".join(f"{line}\n" for line, _ in told), [places for _, places in told]
 
     def title(self):
@@ -154,8 +154,15 @@ class Expander:
             raise self.fault(tree.place, f"{tree.name} is a {'name' if isinstance(found, str) else 'list of names'}, and no number")
         return found
 
+    def sides(self, tree):
+        """The values of both sides of a comparison. A word that no variable has is a name where the other side is one."""
+        def written(side, other):
+            return isinstance(side, Variable) and side.name not in self.values and isinstance(other, Variable) and isinstance(self.values.get(other.name), str)
+        left, right = tree.left, tree.right
+        return left.name if written(left, right) else self.value(left), right.name if written(right, left) else self.value(right)
+
     def holds(self, tree):
-        left, right = self.value(tree.left), self.value(tree.right)
+        left, right = self.sides(tree)
         if is_list(left) or type(left) is not type(right):
             raise self.fault(tree.sign.place, "two numbers or two names are compared, and no other values")
         if isinstance(left, str) and tree.sign.text not in ("==", "!="):
@@ -215,12 +222,16 @@ class Expander:
 
     # Names.
 
-    def name(self, tree):
+    def name(self, tree, hint=""):
         """One name: the value of the variable where it is one, or the pieces with the values of their holes."""
         found = self.name_or_list(tree)
         if is_list(found):
-            raise self.fault(tree.place, f"{tree.pieces[0]} is a list of names, and one name is wanted")
+            raise self.fault(tree.place, f"{tree.pieces[0]} is a list of names, and one name is wanted{hint}")
         return found
+
+    def letter(self, tree):
+        """A name where a set might stand too."""
+        return self.name(tree, f": write {{ {tree.pieces[0]} }}")
 
     def name_or_list(self, tree):
         """The name of a tree as a word, or the list that its variable is."""
@@ -308,12 +319,15 @@ class Expander:
         return self.top
 
     def captured(self):
-        """A letter or a section that is named as a variable would be taken for it."""
+        """A letter, a section or a rule that is named as a variable would be taken for it."""
         for section, letters in self.sections.items():
             for name in (section, *letters):
                 if name in self.bound:
                     what = f"section {name}" if name == section else f"letter {name} of {section}"
                     raise Fault(self.bound[name], f"the variable {name} is named as the {what}")
+        for name in self.rules:
+            if name in self.bound:
+                raise Fault(self.bound[name], f"the variable {name} is named as the rule {name}")
 
     def item(self, item):
         kinds = [isinstance(item, Section), isinstance(item, Row) and item.word == "init", isinstance(item, Rule), True]
@@ -352,7 +366,7 @@ class Expander:
             places[section.text] = section.place
             words.extend([section, Word(":", section.place), *self.pattern(tree), Word(";", section.place)])
         self.each(item.parts, part)
-        self.line([*words, Word("}", item.place)])
+        self.line([*words, Word("}", item.place)], self.origin(item))
 
     def pattern(self, part):
         words, count = [], itertools.count(1)
@@ -369,7 +383,7 @@ class Expander:
         """The words of a letter, a set or `any` that stays as it is."""
         if isinstance(tree, Set):
             return self.set(tree.place, tree.names)
-        return [Word("any", tree.place) if isinstance(tree, Any) else self.name(tree)]
+        return [Word("any", tree.place) if isinstance(tree, Any) else self.letter(tree)]
 
     # Rules.
 
@@ -377,7 +391,8 @@ class Expander:
         """Writes a rule for each choice of letters, in the order in which they stand."""
         name, words, choices = self.name(item.name), [], []
         self.each(item.steps, lambda step: words.extend(self.moved(step, choices)))
-        comment = f"# from {self.shown}:{item.place.line}"
+        if not all(choices):
+            self.lines.append((f"{self.origin(item)}: no rule {name.text} (an empty set)", []))
         for chosen in itertools.product(*choices):
             self.step(item.place)
             self.count(item.place, "rules", RULES)
@@ -388,7 +403,11 @@ class Expander:
                 raise self.fault(name.place, f"duplicate rule {text}{first_at(self.rules[text])}")
             self.rules[text] = name.place
             moves = [Word(chosen[word.number].text, word.place) if isinstance(word, Choice) else word for word in words]
-            self.line([Word("rule", item.place), Word(text, name.place), Word("{", item.place), *moves, Word("}", item.place)], comment)
+            self.line([Word("rule", item.place), Word(text, name.place), Word("{", item.place), *moves, Word("}", item.place)], self.origin(item))
+
+    def origin(self, item):
+        """The comment that tells where a row or a rule comes from."""
+        return f"# from {self.shown}:{item.place.line}"
 
     def moved(self, step, choices):
         """The words of a move, where choices are numbered; the letters of each are added to the choices."""
@@ -409,7 +428,7 @@ class Expander:
     def chosen(self, tree, section, choices):
         """A letter, or a choice of several."""
         if not isinstance(tree, (Set, Any)):
-            return self.name(tree)
+            return self.letter(tree)
         choices.append(self.letters_of(tree, section))
         return Choice(len(choices) - 1, tree.place)
 
@@ -437,7 +456,7 @@ class Expander:
         words, places = [], {}
 
         def entry(tree):
-            lefts = self.letters_of(tree.left, section) if isinstance(tree.left, (Set, Any)) else [self.name(tree.left)]
+            lefts = self.letters_of(tree.left, section) if isinstance(tree.left, (Set, Any)) else [self.letter(tree.left)]
             for left in lefts:
                 self.step(tree.place)
                 if left.text in places:
@@ -514,12 +533,14 @@ def values_of_cases(tree, cases):
         steps = expander.steps
 
 
-def expand(name, data, given=()):
-    """The protocol that the bytes of a template write with the given values in the place of its own."""
+def expand(name, data, given=(), case=None):
+    """The protocol that the bytes of a template write with the given values in the place of its own. The comments are those of a case of the head:
+    the one of this number, or the first one of the same values."""
     tree, (general, cases) = read_template(data), head_of(data.decode("utf-8", "replace"))
     expander, known = Expander(titled(name, {}), dict(given)), list(values_of_cases(tree, cases))
     expander.template(tree)
-    own = cases[known.index(expander.top)].lines if expander.top in known else []
+    case = known.index(expander.top) if case is None and expander.top in known else case
+    own = [] if case is None else cases[case].lines
     keys = {keyed(line) for line in own}
     comments = [line for line in general if keyed(line) not in keys] + own
     written = Written(name, expander.lines, told_values(tree, expander.given, expander.top), comments)
@@ -529,20 +550,35 @@ def expand(name, data, given=()):
 
 
 def chosen_cases(data, given):
-    """The values with which a template is looked at: the given ones that it has variables for, or else those of each case of its head, or its own."""
-    tree = read_template(data)
+    """The values with which a template is looked at, each with the number of its case in the head or None: the given ones that it has variables for,
+    or else those of each case, or its own. Of the given ones there are as many as cases with the same values."""
+    tree, cases = read_template(data), head_of(data.decode("utf-8", "replace"))[1]
     own = {name: value for name, value in given.items() if name in names_at_top(tree)}
-    return [own] if own else [case.values for case in head_of(data.decode("utf-8", "replace"))[1]] or [{}]
+    if not own:
+        return [(case.values, k) for k, case in enumerate(cases)] or [({}, None)]
+    try:
+        wanted = Expander("", own).values_at_top(tree)
+        return [(own, k) for k, known in enumerate(values_of_cases(tree, cases)) if known == wanted] or [(own, None)]
+    except (Fault, Unknown):
+        # (it is told where the template is written out)
+        return [(own, None)]
+
+
+def named_cases(data, given):
+    """The chosen cases, each with the words that name it: its values, and the line of the head where several cases have these."""
+    found, cases = chosen_cases(data, given), head_of(data.decode("utf-8", "replace"))[1]
+    counts = collections.Counter(tuple(pairs(values)) for values, _ in found)
+    return [(pairs(values) + ([f"(line {cases[k].place.line})"] if counts[tuple(pairs(values))] > 1 else []), values, k) for values, k in found]
 
 
 def expanded_cases(name, data, given):
-    """What a template writes for each case: pairs of its values, as they are given, and the protocol, or the text of its refusal."""
-    def written(values):
+    """What a template writes for each case: the words that name it, as its values are given, and the protocol, or the text of its refusal."""
+    def written(values, case):
         try:
-            return expand(name, data, values)
+            return expand(name, data, values, case)
         except (Fault, Unknown) as fault:
             return f"template: {fault}"
     try:
-        return [(pairs(values), written(values)) for values in chosen_cases(data, given)]
+        return [(words, written(values, case)) for words, values, case in named_cases(data, given)]
     except Fault as fault:
         return [([], f"template: {fault}")]

@@ -16,7 +16,7 @@ import tempfile
 
 from .expansion import Unknown, expand, pairs
 from .memory import share
-from .templates import BYTES, Fault, value_of
+from .templates import BYTES, Fault, not_value, value_of
 
 HERE = os.path.dirname(os.path.abspath(__file__))
 # The folder of the tools: `tools` of the repository, or `share/armc/tools` where they are installed.
@@ -188,7 +188,7 @@ class Source:
     """The protocol that a tool is given: a file that has it, or a template (docs/TEMPLATES.md) that writes it with the values of --set."""
 
     def __init__(self, name, values=()):
-        self.name, self.values, self.written = name, dict(values), None
+        self.name, self.values, self.written = name, values_given(values), None
         if name.endswith(".armct"):
             self.written = written_by(name, self.values)
         elif values:
@@ -231,6 +231,8 @@ class Words(argparse.ArgumentParser):
                           help="of a template: a number, or names in braces, for a variable at its top; may be given more than once")
 
     def error(self, message):
+        if re.match(r"unrecognized arguments: \w+=", message):
+            message += " (a value of a template is given by --set)"
         self.exit(USAGE, f"{self.prog}: {message}; {' '.join(self.format_usage().split())}\n")
 
 
@@ -247,7 +249,16 @@ def value(word):
     """The type of a value for a template: its variable and a number or names."""
     found = value_of(word)
     if not found:
-        raise argparse.ArgumentTypeError(f"'{word}' is no value: NAME=NUMBER or NAME={{NAME ..}}")
+        raise argparse.ArgumentTypeError(not_value(word))
+    return found
+
+
+def values_given(values):
+    """The given values by their names, each of which is given once."""
+    found = dict(values)
+    for name in found:
+        if sum(1 for each, _ in values if each == name) > 1:
+            raise Refused(USAGE, f"{name} is given two values")
     return found
 
 

@@ -65,7 +65,7 @@ def tokens_of(text):
     for match in TOKEN.finditer(text):
         place = Place(line, match.start() - begin + 1)
         if match.lastgroup == "bad":
-            raise Fault(place, "bad byte")
+            raise Fault(place, f"bad byte {shown_byte(match[0])}")
         if match.lastgroup:
             found.append(Token(match.lastgroup, match[0], place, match.start() == end))
             end = match.end()
@@ -74,27 +74,41 @@ def tokens_of(text):
     return [*found, Token("end", "the end of the text", Place(line, len(text) - begin + 1), False)]
 
 
+def shown_byte(byte):
+    """A byte as it stands, or by its number where it is no sign of ASCII."""
+    return f"'{byte}'" if "!" <= byte <= "~" else f"0x{ord(byte):02x}"
+
+
 def continues_name(token):
     """Whether a name goes on with this token: a hole, or a word that is not reserved, right behind the one before."""
     return token.glued and (token.text == "{" or (token.kind == "word" and token.text not in RESERVED))
 
 
 class Reader:
-    """The tokens of a template, and how many of them are read."""
+    """The tokens of a template, how many of them are read, the braces and parentheses that are open, and what ends the list of items that is read."""
 
     def __init__(self, text):
-        self.tokens, self.at, self.depth = tokens_of(text), 0, 0
+        self.tokens, self.at, self.open, self.ends = tokens_of(text), 0, [], ()
 
     @property
     def next(self):
         return self.tokens[self.at]
 
-    def wrong(self, wanted):
+    def wrong(self, wanted, hint=""):
         """The fault of a token in the place of what is wanted."""
         shown = self.next.text if self.next.kind == "end" else f"'{self.next.text[:40]}'"
         if self.next.text in RESERVED and "name" in wanted:
             shown += ", which is a word of the language"
-        return Fault(self.next.place, f"unexpected {shown}: {wanted} is wanted")
+        if self.next.kind == "end" and self.open:
+            hint = f" (the '{self.open[-1].text}' of line {self.open[-1].place.line} is open)"
+        elif self.next.text in ("(", "+", "-", "*", "%") and wanted.endswith(("';'", "'}'")) and not hint:
+            hint = " (a computed number is given a name before, by 'let v = ..')"
+        return Fault(self.next.place, f"unexpected {shown}: {wanted} is wanted{hint}")
+
+    def or_end(self, *wanted):
+        """The words for one more item of the list that is read, or its end."""
+        *first, last = [*wanted, *(f"'{end}'" for end in self.ends)]
+        return f"{', '.join(first)} or {last}"
 
     def met(self, *texts):
         """Takes the next token where it is one of these, and gives it; else nothing."""
@@ -118,11 +132,12 @@ class Reader:
 
     def deeper(self, read):
         """What is read within braces or parentheses, which may not stand in each other too deep."""
-        self.depth += 1
-        if self.depth > DEPTH:
+        self.open.append(self.tokens[self.at - 1])
+        if len(self.open) > DEPTH:
             raise Fault(self.next.place, f"blocks and parentheses stand in each other more than {DEPTH} deep")
         found = read()
-        self.depth -= 1
+        if self.next.text in ("}", ")"):
+            self.open.pop()
         return found
 
     # Names and numbers.
@@ -137,6 +152,8 @@ class Reader:
     def hole(self):
         self.take("{")
         found = self.deeper(self.expression)
+        if self.next.kind == "word":
+            raise self.wrong("'}'", " (between a set and a name there is a space)")
         self.take("}")
         return found
 
@@ -174,7 +191,7 @@ class Reader:
             self.take(")")
             return found
         if not (self.next.kind == "word" and self.next.text not in RESERVED):
-            raise self.wrong("a number, a variable or '('")
+            raise self.wrong("a number, a variable or '('", " (0 - 1 is the number below 0)" if self.next.text == "-" else "")
         found = self.next
         self.at += 1
         if not found.text.isdigit():
@@ -188,9 +205,10 @@ class Reader:
 
     def items(self, read, ends=("}",)):
         """Items, loops, conditions and variables up to one of the ends, which is left; or to the end of the text where there are none."""
-        found = []
+        found, before, self.ends = [], self.ends, ends
         while not (self.next.text in ends if ends else self.next.kind == "end"):
             found.append(self.around(read) or read())
+        self.ends = before
         return found
 
     def around(self, read):
@@ -260,7 +278,7 @@ class Reader:
             return Row(begun.place, begun.text, self.block(self.part))
         if self.met("rule"):
             return Rule(begun.place, self.name(), self.block(self.step))
-        raise self.wrong("a section, a row, a rule, 'let', 'for' or 'if'")
+        raise self.wrong(self.or_end("a section", "a row", "a rule", "'let'", "'for'", "'if'"))
 
     def part(self):
         section = self.name("the name of a section or '}'")
@@ -272,7 +290,7 @@ class Reader:
         return Part(section.place, section, atoms)
 
     def atom(self):
-        base = self.base("a letter, a set, 'any' or ';'")
+        base = self.base(self.or_end("a letter", "a set", "'any'"))
         repeat = self.met("*", "+")
         return Atom(base.place, base, repeat)
 
@@ -314,7 +332,7 @@ class Reader:
         """The letters that a move pushes."""
         def letter():
             same = self.met("same")
-            return Same(same.place) if same else self.name("a letter or ';'")
+            return Same(same.place) if same else self.name(self.or_end("a letter"))
         if self.next.text == ";":
             raise self.wrong("a letter")
         return self.items(letter, ends=(";",))
@@ -322,11 +340,12 @@ class Reader:
     def guard(self):
         place = self.next.place
         if not self.met("when"):
-            raise self.wrong("'when', 'map' or ';'")
+            raise self.wrong(self.or_end("'when'"))
         quantifier, region = self.take("all", "some"), self.take("left", "right", "others")
         self.take("in")
         if self.next.text != "{":
-            raise self.wrong("'{'")
+            name = self.next.kind == "word" and self.next.text not in RESERVED
+            raise self.wrong("'{'", f": write {{ {self.next.text[:40]} }}" if name else "")
         return Guard(place, quantifier, region, self.set().names)
 
     def entry(self):
@@ -361,14 +380,20 @@ def value_of(text):
     return found["name"], int(found["number"]) if found["number"] else names
 
 
+def not_value(text):
+    """Why a text is no value."""
+    word = next((word for word in re.findall(r"\w+", text, re.A) if word in RESERVED), None) if VALUE.fullmatch(text) else None
+    return f"'{text[:40]}' is no value: {f'{word} is a word of the language' if word else 'NAME=NUMBER or NAME={NAME ..}'}"
+
+
 def values_of(line, place):
     """The values of the rest of a line `# values: ..`."""
     values, rest = {}, line.strip()
-    while rest:
+    while rest or not values:
         found = VALUE.match(rest)
         pair = value_of(found[0]) if found else None
-        if not pair:
-            raise Fault(place, f"'{rest[:40]}' is no value: NAME=NUMBER or NAME={{NAME ..}}")
+        if not pair or pair[0] in values:
+            raise Fault(place, f"there are two values of {pair[0]}" if pair else not_value(found[0] if found else rest))
         values[pair[0]] = pair[1]
         rest = rest[found.end():].lstrip()
     return values
@@ -384,6 +409,9 @@ def head_of(text):
                 break
             continue
         found = re.fullmatch(r"#[ \t]*values:(.*)", line)
+        near = re.fullmatch(r"#[ \t]*value:[ \t]*(.*)", line)
+        if near and VALUE.match(near[1]):
+            raise Fault(Place(number, line.index("value:") + 1), "'value:' is no word of a head, but 'values:'")
         if found:
             place = Place(number, line.index("values:") + 1)
             cases.append(Case(values_of(found[1], place), [], place))
