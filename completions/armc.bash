@@ -49,7 +49,7 @@ _armc_tools() {
         armc-explain:-*) words='--method --start --budget --width --svg --html --why --plain --configurations --states --set --program --help' ;;
         armc-walk:-*) words='--random --seed --letters --set --program --help' ;;
         armc-properties:-*) words='--seconds --memory --jobs --budget --certificates --set --program --help' ;;
-        armc-expand:-*) words='--check --output --program --help' ;;
+        armc-expand:-*) words='--check --output --set --program --help' ;;
         armc-second-opinion:-*) words='--but --help' ;;
         armc-export:-*) words='--to --judge --seconds --out --parts --rules --properties --property --set --help' ;;
         armc-search-one:-*) words='--first --needs-answer --print --help' ;;

@@ -71,7 +71,7 @@ for option in 'seconds:the time for all of it' 'memory:megabytes for each search
 end
 complete -c armc-expand -l check -d 'let the program read what is written'
 complete -c armc-expand -l output -r -d 'write into a file'
-for tool in armc-portfolio armc-coverage armc-explain armc-walk armc-properties armc-export armc-check-folder
+for tool in armc-portfolio armc-coverage armc-explain armc-walk armc-properties armc-expand armc-export armc-check-folder
     complete -c $tool -l set -x -d 'of a template: a value'
 end
 for tool in armc-portfolio armc-coverage armc-explain armc-walk armc-properties armc-expand armc-check-folder

@@ -715,9 +715,26 @@ def tools(program):
                                        (["--set", "n=0", path], 5, f"{tool}: template: line"), ([os.path.join(folder, "no.armct")], 4, "read fault: ")):
                 found = call(tool, *asked, *more)
                 wrong += differs(f"{tool} {more}", (found.returncode, found.stdout, said in found.stderr), (status, "", True))
+        wrong += hints(asked[:2], path, folder)
         page_of, picture = (os.path.join(folder, name) for name in ("p.html", "p.svg"))
         call("armc-explain", "--program", program, "--set", "n=2", "--plain", "--html", page_of, "--svg", picture, path)
         wrong += [] if "counter.armct with n=2, wraps=1" in read(page_of) and "<b>rule</b> enter_0" in read(page_of) else ["the page of a template does not name its values"]
+    return wrong
+
+
+def hints(asked, path, folder):
+    """What armc-explain adds to its refusals: the values of the template, options that its head has, and how values are given."""
+    wrong, certificate, large = [], os.path.join(folder, "certificate"), os.path.join(folder, "large.armct")
+    for name, text in ((certificate, call("armc-portfolio", *asked, "--jobs", "1", "--one-order", "--set", "n=1", example("permits.armct")).stdout),
+                       (large, "# options: --method length\n" + read(path))):
+        with open(name, "w") as file:
+            file.write(text)
+    for words, status, said in ((["--set", "n=3", example("permits.armct"), certificate], 7, "(permits.armct with n=3)\n"),
+                                (["--budget", "1", large], 2, "reached its budget (its head says `options: --method length`)\n"),
+                                ([path, "n=3"], 4, "read fault: n=3 (a value of a template is given by --set)\n"),
+                                ([path, "n=3", "n=4"], 3, "unrecognized arguments: n=4 (a value of a template is given by --set); usage: ")):
+        found = call("armc-explain", *asked, *words)
+        wrong += differs(f"armc-explain {words}", (found.returncode, found.stdout, said in found.stderr), (status, "", True))
     return wrong
 
 

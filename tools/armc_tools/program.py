@@ -150,7 +150,8 @@ def read_bytes(name, most=-1):
         with open(name, "rb") as file:
             return file.read(most)
     except OSError:
-        raise Refused(READ, f"read fault: {name}") from None
+        hint = " (a value of a template is given by --set)" if value_of(name) else ""
+        raise Refused(READ, f"read fault: {name}{hint}") from None
 
 
 def read_text(name):
