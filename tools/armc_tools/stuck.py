@@ -6,7 +6,6 @@ long as each of their configurations is stuck. Where no configuration is left, t
 after section, by automata. What patterns cannot say, or not in few rows, is refused.
 """
 import collections
-import itertools
 import re
 
 from .automata import NONE, language, union
