@@ -39,6 +39,7 @@ class Browser:
         self.session = self.ask("Target.attachToTarget", targetId=page["targetId"], flatten=True)["sessionId"]
         for domain in ("Page", "Runtime", "Log", "Network"):
             self.ask(f"{domain}.enable")
+        self.ask("Performance.enable", timeDomain="threadTicks")
         self.window(width, height)
 
     def close(self):
@@ -80,14 +81,14 @@ class Browser:
         self.ask("Emulation.setEmulatedMedia", media=media, features=[{"name": "prefers-color-scheme", "value": "dark" if dark else "light"}])
 
     def open(self, path, scripts=True):
-        """Opens a file, and gives the seconds until it is there."""
+        """Opens a file, and gives the seconds of processor time that its page took, since the machine may do other work."""
         self.ask("Emulation.setScriptExecutionDisabled", value=not scripts)
-        self.told, began = [], time.monotonic()
+        self.told = []
         self.ask("Page.navigate", url=f"file://{os.path.abspath(path)}")
         while not any(each.get("method") == "Page.loadEventFired" for each in self.told):
             self.told.append(self.message())
         self.value("document.body.offsetHeight")
-        return time.monotonic() - began
+        return next(each["value"] for each in self.ask("Performance.getMetrics")["metrics"] if each["name"] == "TaskDuration")
 
     def value(self, expression):
         """The value of an expression in the page."""
