@@ -84,15 +84,28 @@ function applied(list, edit) {
 
 // The rows of the protocol's text.
 
-function markRows(kind, names, follow = true) {
+// The box of the protocol ends above the lower edge of the window, also while the head of the page is above it.
+function fitProtocol() {
+  const pane = one(document, "aside"), above = Math.max(16, pane.getBoundingClientRect().top);
+  pane.style.setProperty("--room", `${Math.max(160, window.innerHeight - above - 16)}px`);
+}
+
+function rowsNamed(names) {
+  return names.map((name) => one(document, `.source [data-row="${name}"]`)).filter(Boolean);
+}
+
+function markRows(kind, names) {
   all(document, ".source .row").forEach((row) => row.classList.remove("fired", "met", "begun"));
-  const rows = names.map((name) => one(document, `.source [data-row="${name}"]`)).filter(Boolean);
-  rows.forEach((row) => row.classList.add(kind));
-  const pane = one(document, "aside");
-  if (follow && rows.length && pane.scrollHeight > pane.clientHeight + 4) {
-    const [top, height] = [rows[0].getBoundingClientRect().top - pane.getBoundingClientRect().top, pane.clientHeight];
-    if (top < 0 || top > height - 40) pane.scrollTop += top - height / 3;
-  }
+  rowsNamed(names).forEach((row) => row.classList.add(kind));
+}
+
+// Scrolls the box of the protocol, so that the first of these rows is in it.
+function followRows(names) {
+  const [row] = rowsNamed(names), pane = one(document, "aside");
+  fitProtocol();
+  if (!row || pane.scrollHeight <= pane.clientHeight) return;
+  const [inner, outer] = [row.getBoundingClientRect(), pane.getBoundingClientRect()];
+  if (inner.top < outer.top + 8 || inner.bottom > outer.bottom - 8) pane.scrollTop += inner.top - outer.top - Math.max(8, (pane.clientHeight - inner.height) / 3);
 }
 
 // A run.
@@ -133,8 +146,10 @@ function player() {
     const now = one(document, "tr.now"), next = one(document, `tr[data-step="${at}"]`);
     if (now) now.classList.remove("now");
     if (next) next.classList.add("now");
-    if (at) markRows("fired", [`rule-${data.steps[at - 1][0]}`], follow); else markRows("begun", data.inits.map((k) => `init-${k}`), follow);
-    if (at === last) data.met.forEach((each) => { const row = one(document, `.source [data-row="bad-${each[0]}"]`); if (row) row.classList.add("met"); });
+    const rows = at ? [`rule-${data.steps[at - 1][0]}`] : data.inits.map((k) => `init-${k}`), bad = at === last ? data.met.map((each) => `bad-${each[0]}`) : [];
+    markRows(at ? "fired" : "begun", rows);
+    rowsNamed(bad).forEach((row) => row.classList.add("met"));
+    if (follow) followRows([...bad, ...rows]);
   }
 
   function go(to, fresh = true) {
@@ -355,11 +370,16 @@ function picturedArrows() {
 
 function rulesOfTable() {
   all(document, ".closure tbody").forEach((body) => {
-    body.addEventListener("mouseenter", () => markRows("fired", [`rule-${body.dataset.rule}`]));
+    body.addEventListener("mouseenter", () => {
+      markRows("fired", [`rule-${body.dataset.rule}`]);
+      followRows([`rule-${body.dataset.rule}`]);
+    });
     body.addEventListener("mouseleave", () => markRows("fired", []));
   });
 }
 
+["scroll", "resize"].forEach((what) => window.addEventListener(what, fitProtocol, { passive: true }));
+fitProtocol();
 if (one(document, ".player")) player();
 if (one(document, ".member")) member();
 rulesOfTable();
