@@ -364,11 +364,17 @@ def folder_page(program):
                 file.write(f"# expect: {head}\n{read(example(text))}")
         with open(os.path.join(below, "x<i>.armc"), "w") as file:
             file.write("# expect: safe\nprotocol p\narray P { a a }\n")
+        with open(os.path.join(below, "a.armc"), "w") as file:
+            file.write(read(example("tutorial/lock")).replace("# expect:", "# expected:"))
         found = call(program, "check-folder", "--html", report, os.path.dirname(below))
         text = read(report)
+        order = re.findall(r"<tr( class=\w+)?><td><a[^>]*>(?:[^<]*/)?(\S+).armc", text)
         page = Elements(text)
         links = [html.unescape(attributes["href"]) for tag, attributes in page.found if tag == "a"]
-        wrong = differs("the report", (found.returncode, text.count('class=wrong'), len(links)), (1, 2, 4))
+        wrong = differs("the report", (found.returncode, text.count('class=wrong'), text.count("<b>, not as"), text.count("<b>, expects nothing"), len(links)), (1, 2, 2, 1, 6))
+        wrong += differs("the order of the report", order, [(" class=wrong", "door"), (" class=silent", "a"), ("", "lock")])
+        marks = {line.split(".armc")[0].split("/")[-1]: line.partition("<-- ")[2] for line in found.stdout.splitlines()[1:-1]}
+        wrong += differs("the table", marks, {"a": "expects nothing", "door": "not as expected", "lock": "", "x<i>": "not as expected"})
         wrong += [f"no page {link}" for link in links if not os.path.exists(os.path.join(folder, urllib.parse.unquote(link)))]
         wrong += [f"the report has {tag}" for tag, _ in page.found if tag not in TAGS] + ([] if "<i>" not in text else ["a name is markup in the report"])
         # (of a template each of its cases has a page)

@@ -1,7 +1,10 @@
-// Sorts the table of a report by the column whose head is clicked: by numbers where its cells have them, or else by their texts.
+// Sorts the table of a report by the column whose head is clicked: by numbers or keys where its cells have them, or else by their texts.
 "use strict";
 const table = document.querySelector(".report");
-const valueOf = (row, column) => row.cells[column].dataset.value === undefined ? row.cells[column].textContent : Number(row.cells[column].dataset.value);
+const valueOf = (row, column) => {
+  const cell = row.cells[column];
+  return cell.dataset.value === undefined ? cell.dataset.key || cell.textContent : Number(cell.dataset.value);
+};
 
 function sortBy(head, column) {
   const down = head.getAttribute("aria-sort") === "ascending";

@@ -38,16 +38,21 @@ def written_page(words, case, certificate):
 
 def row_html(report, folder, pages, row):
     path, wanted, answer, seconds, shown, right = row
-    size, shown = re.search(r"\d+", shown) if answer != "no answer" else None, html.escape(shown)
+    size, kind, shown = re.search(r"\d+", shown) if answer != "no answer" else None, html.escape(re.sub(r"\d+", "", shown)), html.escape(shown)
     name = html.escape(os.path.relpath(path, folder))
     if path in pages:
         link = urllib.parse.quote(os.path.relpath(pages[path], os.path.dirname(os.path.abspath(report))))
         name, shown = (f'<a href="{html.escape(link)}">{text}</a>' for text in (name, shown))
-    wrong = not right and wanted != "(nothing)"
-    found = f'<span class="{html.escape(answer)}">{html.escape(answer)}</span>{"<b>, not as expected</b>" if wrong else ""}'
-    times, number = f'class="number" data-value="{seconds.split()[0]}"', size[0] if size else -1
-    cells = [f"<td>{name}</td>", f"<td>{html.escape(wanted)}</td>", f"<td>{found}</td>", f"<td {times}>{html.escape(seconds)}</td>"]
-    return f'<tr{" class=wrong" if wrong else ""}>{"".join(cells)}<td data-value="{number}">{shown}</td></tr>'
+    rank = rank_of(row)
+    found = f'<span class="{html.escape(answer)}">{html.escape(answer)}</span>{("<b>, not as expected</b>", "<b>, expects nothing</b>", "")[rank]}'
+    times = f'class="number" data-value="{seconds.split()[0]}"'
+    cells = [f"<td>{name}</td>", f"<td>{html.escape(wanted)}</td>", f'<td data-key="{rank} {html.escape(answer)}">{found}</td>', f"<td {times}>{html.escape(seconds)}</td>"]
+    return f'<tr{(" class=wrong", " class=silent", "")[rank]}>{"".join(cells)}<td data-key="{kind} {size[0] if size else "":0>12}">{shown}</td></tr>'
+
+
+def rank_of(row):
+    """0 where the answer is not as expected, 1 where the file expects nothing, 2 else."""
+    return 2 if row[5] else int(row[1] == "(nothing)")
 
 
 def report(name, folder, pages, rows):
@@ -60,6 +65,6 @@ def report(name, folder, pages, rows):
     title = os.path.basename(os.path.abspath(folder))
     body = ["<header>", f"<h1>{html.escape(title)}</h1>", f'<p class="verdict {"bad" if wrong else "good" if not silent else ""}">{said}</p>',
             f'<p class="soft">{len(rows)} protocols, each checked by <code>armc check</code>; each proof and run is judged again by <code>armc verify</code>.</p>', "</header>",
-            f'<main><div class="wide"><table class="report"><thead><tr>{head}</tr></thead><tbody>', *(row_html(name, folder, pages, row) for row in rows),
+            f'<main><div class="wide"><table class="report"><thead><tr>{head}</tr></thead><tbody>', *(row_html(name, folder, pages, row) for row in sorted(rows, key=rank_of)),
             "</tbody></table></div></main>", '<footer class="soft">Written by <code>armc-check-folder</code>.</footer>']
     return document(f"{title}: {said}", body, "report.js", kind="folder")
