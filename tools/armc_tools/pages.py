@@ -308,8 +308,7 @@ def proof_main(told):
 def automaton_html(told, least, left_out):
     automaton = told.certificate
     between = ", with <code>|</code> between two sections" if len(told.protocol.sections) > 1 else ""
-    which = "This is the automaton of the certificate. It" if told.given.states else "This is the smallest automaton of the configurations of the proof. It"
-    yield f"<p>{which} reads the letters of a configuration from left to right{between}, from state 0, and accepts in the states with two circles.</p>"
+    yield f"<p>{which_automaton(told)} It reads the letters of a configuration from left to right{between}, from state 0, and accepts in the states with two circles.</p>"
     if automaton.states <= DRAWN:
         picture, wide = bare(drawing.automaton(told.protocol, automaton, told.given.plain))
         yield f'<div class="picture" style="--wide: {wide}px">{with_edges(picture, drawing.labels_of(told.protocol, automaton))}</div>'
@@ -317,6 +316,15 @@ def automaton_html(told, least, left_out):
     else:
         yield f'<p class="note">The picture of {size_of(automaton)} is left out here; <code>armc-explain --svg</code> draws it.</p>'
     yield from states_table(automaton, told.protocol.sections, least, left_out)
+
+
+def which_automaton(told):
+    """Whether the automaton is that of the certificate, with both numbers of states where it is not."""
+    given = re.search(r"automaton of (\d+ states?)", told.lines[1])
+    if told.given.states or not given:
+        return "This is the automaton of the certificate."
+    return (f"The automaton of the certificate has {given[1]}. The smallest one that keeps the sections apart has {told.certificate.states}, "
+            "with numbers of their own, and is shown here.")
 
 
 def bare(picture):
