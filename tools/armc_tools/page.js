@@ -216,7 +216,9 @@ function readConfiguration(text) {
   for (const [k, section] of sections.entries()) {
     const part = parts[k] || [];
     if (!part.length) return `${section.name} has no part: it is written ${example()}.`;
+    if (part[0] === section.name && part[1] !== ":") return `A colon is missing behind ${section.name}: it is written ${example()}.`;
     if (part[0] !== section.name || part[1] !== ":") return `${section.name}: must come where ${part.slice(0, 2).join(" ")} stands; the sections stand in the order of the protocol.`;
+    if (part.includes(":", 2)) return `The parts of the sections are separated by semicolons: it is written ${example()}.`;
     const letters = part.length === 3 && part[2] === "empty" ? [] : part.slice(2);
     if (part.length === 2) return `${section.name} has no letters: an empty list is written ${section.name}: empty.`;
     const unknown = letters.find((letter) => !section.letters.includes(letter));
@@ -228,8 +230,10 @@ function readConfiguration(text) {
   return parts.length > sections.length ? `More stands behind ${sections[sections.length - 1].name} than a configuration has.` : word;
 }
 
+// How a configuration is written: one of the proof, where there is one.
 function example() {
-  return sections.map((section) => `${section.name}: ${section.kind === "cell" ? section.letters[0] : section.letters.slice(0, 2).join(" ")}`).join("; ");
+  const [known] = data.examples.filter((each) => each[0] === "one of the proof");
+  return known ? known[1] : sections.map((section) => `${section.name}: ${section.kind === "cell" ? section.letters[0] : section.letters.slice(0, 2).join(" ")}`).join("; ");
 }
 
 function member() {
