@@ -94,6 +94,8 @@ def in_layers(certificate, labels):
         if p in place:
             straight = layer_of[q] == layer_of[p] + 1 and (q, p) not in labels
             body += loop(place[p], label) if p == q else edge(place[p], place[q], label, 0 if straight else 36, layer_of[q] < layer_of[p])
+    # (no arrow runs over a label)
+    body.sort(key=lambda part: part.startswith("<text"))
     for state, (x, y) in place.items():
         body.append(f'<circle class="state" cx="{x:.0f}" cy="{y:.0f}" r="{RADIUS}"/>')
         if state in certificate.finals:
