@@ -205,7 +205,7 @@ rule isPrototypeOf {{ {LONG}: at {LONG[:-1]}a -> {LONG[:-1]}b; }}
 bad {{ {LONG}: any* UNTIL any*; }}
 """
 TAGS = set("html head meta title style body header h1 h2 p code div main section aside pre i b span form label input button svg path select option table thead tbody tr "
-           "th td footer script br ins del li a g circle text marker defs ellipse polygon".split())
+           "th td footer script br wbr ins del li a g circle text marker defs ellipse polygon".split())
 
 
 class Elements(html.parser.HTMLParser):
@@ -337,7 +337,7 @@ def wrong_long_pages(program):
     """Where a page of much is larger than a megabyte, or does not say what it leaves out."""
     wrong = []
     with tempfile.TemporaryDirectory() as folder:
-        for words, told in zip(long_texts(folder), (["2701 rows are left out"], ["The picture of 1000 states is left out", "800 states more are left out"])):
+        for words, told in zip(long_texts(folder), (["2701 rows are left out"], ["The picture of 1000 states is left out", "armc-explain --svg picture.svg /", "The list has 200 states and scrolls.", "800 states more are left out"])):
             text, page = written(program, *words)
             wrong += [] if page and len(text) < 1_000_000 and all(each in text for each in told) else [f"the page of {words} has {len(text)} bytes, {text[-300:]!r}"]
     return wrong
@@ -368,7 +368,7 @@ def folder_page(program):
             file.write(read(example("tutorial/lock")).replace("# expect:", "# expected:"))
         found = call(program, "check-folder", "--html", report, os.path.dirname(below))
         text = read(report)
-        order = re.findall(r"<tr( class=\w+)?><td><a[^>]*>(?:[^<]*/)?(\S+).armc", text)
+        order = re.findall(r"<tr( class=\w+)?><td><a[^>]*>(?:[^<]*/)?(\S+).armc", text.replace("<wbr>", ""))
         page = Elements(text)
         links = [html.unescape(attributes["href"]) for tag, attributes in page.found if tag == "a"]
         wrong = differs("the report", (found.returncode, text.count('class=wrong'), text.count("<b>, not as"), text.count("<b>, expects nothing"), len(links)), (1, 2, 2, 1, 6))

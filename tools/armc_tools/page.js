@@ -364,6 +364,12 @@ function picturedStates() {
   return found;
 }
 
+// Says below a picture that is wider than its place that it scrolls.
+function tellWide() {
+  const picture = one(document, ".picture"), hint = one(document, ".wider");
+  if (picture && hint) hint.hidden = picture.scrollWidth <= picture.clientWidth + 2;
+}
+
 // The arrows in the picture, by the states between which they lead.
 function picturedArrows() {
   const found = new Map();
@@ -386,4 +392,6 @@ function rulesOfTable() {
 fitProtocol();
 if (one(document, ".player")) player();
 if (one(document, ".member")) member();
+window.addEventListener("resize", tellWide);
+tellWide();
 rulesOfTable();

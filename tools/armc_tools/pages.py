@@ -10,10 +10,12 @@ import html
 import json
 import os
 import re
+import shlex
 
 from . import drawing, source
 from .certificate import Automaton, size_of
 from .closure import Told, configuration
+from .expansion import pairs
 from .protocol import configuration_of
 from .ways import least_words
 
@@ -22,6 +24,8 @@ HERE = os.path.dirname(os.path.abspath(__file__))
 STEPS, LAST, RUN_BYTES = 300, 50, 20_000_000
 # Of a proof so many lines are told, states drawn and listed, and edges given to the script; of a rule so many ways.
 LINES, DRAWN, STATES, EDGES, WAYS = 400, 40, 200, 200_000, 200
+# The list of states shows so many without scrolling.
+ROWS = 9
 # The least words through its states have at most so many letters together, and the one to begin with so many, where there is such a one.
 LETTERS, SHORT = 200_000, 12
 
@@ -164,7 +168,7 @@ PLAYER = """<div class="controls" role="group" aria-label="Steps">
 </div>
 <p class="caption" aria-live="polite"></p>
 <div class="stage"></div>
-<p class="soft hint">Arrow keys step, Home and End go to the ends, the space bar plays.</p>"""
+<p class="soft hint">Each letter of a section has a colour of its own. Arrow keys step, Home and End go to the ends, the space bar plays.</p>"""
 
 
 def run_main(told):
@@ -312,9 +316,12 @@ def automaton_html(told, least, left_out):
     if automaton.states <= DRAWN:
         picture, wide = bare(drawing.automaton(told.protocol, automaton, told.given.plain))
         yield f'<div class="picture" style="--wide: {wide}px">{with_edges(picture, drawing.labels_of(told.protocol, automaton))}</div>'
+        yield '<p class="wider soft hint" hidden>The picture is wider than its place: scroll it sideways.</p>'
         yield '<p class="picked soft" hidden>Click on a state to see the least configuration through it.</p>'
     else:
-        yield f'<p class="note">The picture of {size_of(automaton)} is left out here; <code>armc-explain --svg</code> draws it.</p>'
+        yield f'<p class="note">The picture of {size_of(automaton)} is left out here; <code>{html.escape(command_of_picture(told.given))}</code> draws it.</p>'
+    if automaton.states > ROWS:
+        yield f'<p class="soft">The list has {min(automaton.states, STATES)} states and scrolls.</p>'
     yield from states_table(automaton, told.protocol.sections, least, left_out)
 
 
@@ -325,6 +332,14 @@ def which_automaton(told):
         return "This is the automaton of the certificate."
     return (f"The automaton of the certificate has {given[1]}. The smallest one that keeps the sections apart has {told.certificate.states}, "
             "with numbers of their own, and is shown here.")
+
+
+def command_of_picture(given):
+    """The command line that draws the automaton."""
+    # (a certificate from standard input belongs to a file that another tool has written, and that is gone)
+    file = os.path.basename(given.file) if given.certificate == "-" else given.file
+    states = ["--states"] if given.states else []
+    return shlex.join(["armc-explain", "--svg", "picture.svg", *states, *given.options, *(f"--set={pair}" for pair in pairs(dict(given.set))), file, *filter(None, [given.certificate])])
 
 
 def bare(picture):

@@ -39,7 +39,8 @@ def written_page(words, case, certificate):
 def row_html(report, folder, pages, row):
     path, wanted, answer, seconds, shown, right = row
     size, kind, shown = re.search(r"\d+", shown) if answer != "no answer" else None, html.escape(re.sub(r"\d+", "", shown)), html.escape(shown)
-    name = html.escape(os.path.relpath(path, folder))
+    # (a name breaks behind _ and . and / alone)
+    name = re.sub(r"(?<=[_./])(?=\w)", "<wbr>", html.escape(os.path.relpath(path, folder)))
     if path in pages:
         link = urllib.parse.quote(os.path.relpath(pages[path], os.path.dirname(os.path.abspath(report))))
         name, shown = (f'<a href="{html.escape(link)}">{text}</a>' for text in (name, shown))
