@@ -1,5 +1,5 @@
-"""What armc-explain says of why a proof is closed, and the pages that it and armc-check-folder write. Each check is a pair of a name and a list of
-lines that say what is wrong. A browser opens such pages in tests/browser, which is no part of this. Usage: tests/explained.py PROGRAM
+"""What armc-explain says of why a proof is closed, and the pages that it and armc-check-folder write. A browser opens such pages in tests/browser, which
+is no part of this. Usage: tests/explained.py [PROGRAM] [NAME..]
 """
 import glob
 import html
@@ -8,45 +8,18 @@ import json
 import os
 import re
 import shutil
-import subprocess
 import sys
 import tempfile
 import urllib.parse
 
-sys.dont_write_bytecode = True
-TOP = os.path.dirname(os.path.dirname(os.path.abspath(__file__)))
-TOOLS = os.path.join(TOP, "tools")
-sys.path.insert(0, TOOLS)
-import definitions  # noqa: E402, beside this file
-from armc_tools import closure, pages, proofs, source, ways  # noqa: E402
-from armc_tools.certificate import Automaton, read_certificate  # noqa: E402
-from armc_tools.protocol import Protocol, Section, configuration_of, configuration_text  # noqa: E402
+from support import SYSTEMS, call, canonical, differs, example, main, printed, read, without_comments, write, write_all
+import definitions
+from armc_tools import closure, pages, rows, source, ways
+from armc_tools.certificate import Automaton, read_certificate
+from armc_tools.protocol import Protocol, Section, configuration_of, configuration_text
 
-SECONDS = 120
 # Proofs that are told and compared: of cells, arrays that grow, tables, rings, channels, lossy channels and stacks.
 PROVED = ("tutorial/lock", "tickets", "peterson2", "token_ring", "msi", "patterns/crowd", "patterns/lossy_channel", "patterns/loses_and_repeats", "recursive_lock", "handoff")
-
-
-def example(name):
-    return os.path.join(TOP, "examples", *f"{name}.armc".split("/"))
-
-
-def call(program, tool, *words):
-    words = [sys.executable, os.path.join(TOOLS, tool), "--program", program, *words]
-    return subprocess.run(words, capture_output=True, text=True, timeout=SECONDS, stdin=subprocess.DEVNULL)
-
-
-def asked(program, *words):
-    return subprocess.run([program, *words], capture_output=True, text=True, timeout=SECONDS, stdin=subprocess.DEVNULL).stdout
-
-
-def read(path):
-    with open(path, encoding="utf-8") as file:
-        return file.read()
-
-
-def differs(what, found, wanted):
-    return [] if found == wanted else [f"{what}: {str(found)[:300]!r}, and must be {str(wanted)[:300]!r}"]
 
 
 # Why a proof is closed.
@@ -77,11 +50,11 @@ def everything(sections):
 def wrong_sets_of_moves():
     """Where the sets that a rule reads and writes among all configurations are not those of the definitions: each kind of move, in the systems of the tests."""
     wrong = []
-    for path in sorted(glob.glob(os.path.join(TOP, "tests", "systems", "*.armc"))):
+    for path in sorted(glob.glob(os.path.join(SYSTEMS, "*.armc"))):
         text = read(path)
-        steps, protocol = definitions.Steps(text), Protocol("\n".join(line for line in text.splitlines() if line and not line.startswith("#")))
+        steps, protocol = definitions.Steps(text), Protocol(without_comments(text))
         sections = protocol.sections
-        told = closure.closure_of(protocol, proofs.trimmed(everything(sections), sections))
+        told = closure.closure_of(protocol, rows.trimmed(everything(sections), sections))
         most = 3 if len(sections) == 1 else 2 if len(sections) == 2 else 1
         for r, (rule, found) in enumerate(told):
             before = configurations(sections, most + 1)
@@ -156,15 +129,15 @@ def wrong_ways(program):
     """Where what --why prints, put together, is not what `armc steps` says of all small configurations of a proof."""
     wrong = []
     for name in PROVED:
-        protocol = Protocol(asked(program, "show", example(name)))
-        sections, certificate = protocol.sections, read_certificate(asked(program, "check", example(name)))
-        words = proofs.trimmed(certificate, sections)
-        told = call(program, "armc-explain", "--why", example(name)).stdout.partition("where it leads:\n\n")[2].splitlines()
+        protocol = Protocol(canonical(program, example(f"{name}.armc")))
+        sections, certificate = protocol.sections, read_certificate(printed(program, "check", example(f"{name}.armc")))
+        words = rows.trimmed(certificate, sections)
+        told = call(program, "armc-explain", "--why", example(f"{name}.armc")).stdout.partition("where it leads:\n\n")[2].splitlines()
         said, exact = said_of(told, [rule.name for rule in protocol.rules]), dict((rule.name, found) for rule, found in closure.closure_of(protocol, words))
         most = 3 if sum(len(each.letters) for each in sections if each.kind != "cell") < 5 else 2
         for c in configurations(sections, most):
             if accepts(words, sections, c):
-                steps = [line.split(" -> ", 1) for line in asked(program, "steps", example(name), configuration_text(sections, c)).splitlines()]
+                steps = [line.split(" -> ", 1) for line in printed(program, "steps", example(f"{name}.armc"), configuration_text(sections, c)).splitlines()]
                 wrong += [f"{name}: {line}" for line in wrong_way(c, steps, said, exact, sections)]
     return wrong
 
@@ -187,8 +160,8 @@ LOCK = "take:  L free -> L held\n         P: i+ -> i* c i*\nleave: L held -> L f
 
 def why(program):
     """The lock and a rule that fires nowhere; the sets of each kind of move; and what is said, put together."""
-    wrong = differs("the lock", call(program, "armc-explain", "--why", example("tutorial/lock")).stdout.partition("where it leads:\n\n")[2], LOCK)
-    told = call(program, "armc-explain", "--why", example("patterns/lossy_channel")).stdout
+    wrong = differs("the lock", call(program, "armc-explain", "--why", example("tutorial/lock.armc")).stdout.partition("where it leads:\n\n")[2], LOCK)
+    told = call(program, "armc-explain", "--why", example("patterns/lossy_channel.armc")).stdout
     wrong += [] if re.search("^get_a_late: +fires nowhere$", told, re.M) else [f"a rule that fires nowhere: {told[-200:]}"]
     return wrong + wrong_sets_of_moves() + wrong_ways(program)
 
@@ -251,9 +224,7 @@ def hostile_pages(program):
     wrong = []
     with tempfile.TemporaryDirectory() as folder:
         for kind, until in (("safe", "valueOf"), ("unsafe", f"{LONG[:-1]}b")):
-            path = os.path.join(folder, f"<b> & 'p' {kind}.armc")
-            with open(path, "w", encoding="utf-8") as file:
-                file.write(HOSTILE.replace("UNTIL", until))
+            path = write(os.path.join(folder, f"<b> & 'p' {kind}.armc"), HOSTILE.replace("UNTIL", until))
             text, page = written(program, path)
             if page is None:
                 wrong.append(f"the page of a hostile {kind} protocol: {text}")
@@ -269,11 +240,11 @@ def hostile_pages(program):
 def wrong_runs_of_pages(program):
     """Where the edits that a page has of a run do not lead through its configurations."""
     wrong = []
-    for path in sorted(glob.glob(example("*"))):
-        run = read_certificate(asked(program, "check", path, "--budget", "3000"))
+    for path in sorted(glob.glob(example("*.armc"))):
+        run = read_certificate(printed(program, "check", path, "--budget", "3000"))
         if run is None or run.kind != "unsafe":
             continue
-        protocol = Protocol(asked(program, "show", path))
+        protocol = Protocol(canonical(program, path))
         lists = configuration_of(run.start)
         for (rule, text), (number, edits) in zip(run.steps, pages.steps_of(run, protocol)):
             for k, edit in edits:
@@ -294,6 +265,18 @@ def wrong_places():
     section = Section("array", "P", ["a", "b"])
     return [f"{pattern}: {letters}" for pattern in definitions.PATTERNS for letters in definitions.lists("ab", 4)
             if (source.places_of(pattern, letters, section) is not None) != bool(re.fullmatch(definitions.expression(pattern, "ab"), "".join(letters)))]
+
+
+def wrong_short_ones(program):
+    """Where a short configuration of a bad row does not meet it, or there is none."""
+    wrong = []
+    for name in PROVED:
+        protocol = Protocol(canonical(program, example(f"{name}.armc")))
+        for row in protocol.bads:
+            found = source.short_ones(row, protocol.sections, 8)
+            wrong += [f"{name}: {text} does not meet {row}" for text in found if source.letters_met(row, text, protocol.sections) is None]
+            wrong += [] if found else [f"{name}: nothing short meets {row}"]
+    return wrong
 
 
 def wrong_least_words():
@@ -327,10 +310,8 @@ def long_texts(folder):
              "run.cert": "\n".join(["armc 1 unsafe", f"start A: a; P: {row}; C: empty", *steps, "end", ""]),
              "proof.armc": "protocol long\narray P { a b }\ninit { P: empty; }\nrule go { P: at a -> b; }\n",
              "proof.cert": "\n".join(["armc 1 safe", "states 1000", *(f"final {k}" for k in range(1000)), *(f"edge {k} P.{a} {k + 1}" for k in range(999) for a in "ab"), "end", ""])}
-    for name, text in texts.items():
-        with open(os.path.join(folder, name), "w") as file:
-            file.write(text)
-    return [[os.path.join(folder, f"{name}.{ending}") for ending in ("armc", "cert")] for name in ("run", "proof")]
+    paths = write_all(folder, texts)
+    return paths[:2], paths[2:]
 
 
 def wrong_long_pages(program):
@@ -345,13 +326,13 @@ def wrong_long_pages(program):
 
 def html_pages(program):
     """What the pages of proofs and runs have."""
-    text, page = written(program, example("tutorial/lock"))
+    text, page = written(program, example("tutorial/lock.armc"))
     wrong = wrong_elements("the page of the lock", page) + [f"the page of the lock has no {part!r}" for part in ("Where L is held:", "P: <code>i+</code>", "data-row=\"rule-1\"") if part not in text]
-    text, page = written(program, example("open_door"))
+    text, page = written(program, example("open_door.armc"))
     wrong += differs("the end of the door", json.loads(page.data)["met"], [[0, "bad { P: any* c any* c any*; }", [[0, [0, 1]]]]])
-    found = call(program, "armc-explain", "--html", os.path.join(TOP, "no", "page.html"), example("first"))
+    found = call(program, "armc-explain", "--html", os.path.join(os.devnull, "page.html"), example("first.armc"))
     wrong += differs("a page that cannot be written", found.returncode, 8)
-    return wrong + hostile_pages(program) + wrong_runs_of_pages(program) + wrong_places() + wrong_least_words() + wrong_long_pages(program)
+    return wrong + hostile_pages(program) + wrong_runs_of_pages(program) + wrong_places() + wrong_short_ones(program) + wrong_least_words() + wrong_long_pages(program)
 
 
 def folder_page(program):
@@ -359,13 +340,10 @@ def folder_page(program):
     with tempfile.TemporaryDirectory() as folder:
         report, below = os.path.join(folder, "report.html"), os.path.join(folder, "of <all>", "it's below")
         os.makedirs(below)
-        for name, head, text in (("lock", "safe", "tutorial/lock"), ("door", "safe", "open_door")):
-            with open(os.path.join(below, f"{name}.armc"), "w", encoding="utf-8") as file:
-                file.write(f"# expect: {head}\n{read(example(text))}")
-        with open(os.path.join(below, "x<i>.armc"), "w") as file:
-            file.write("# expect: safe\nprotocol p\narray P { a a }\n")
-        with open(os.path.join(below, "a.armc"), "w") as file:
-            file.write(read(example("tutorial/lock")).replace("# expect:", "# expected:"))
+        for name, head, text in (("lock", "safe", "tutorial/lock.armc"), ("door", "safe", "open_door.armc")):
+            write(os.path.join(below, f"{name}.armc"), f"# expect: {head}\n{read(example(text))}")
+        write(os.path.join(below, "x<i>.armc"), "# expect: safe\nprotocol p\narray P { a a }\n")
+        write(os.path.join(below, "a.armc"), read(example("tutorial/lock.armc")).replace("# expect:", "# expected:"))
         found = call(program, "check-folder", "--html", report, os.path.dirname(below))
         text = read(report)
         order = re.findall(r"<tr( class=\w+)?><td><a[^>]*>(?:[^<]*/)?(\S+).armc", text.replace("<wbr>", ""))
@@ -379,7 +357,7 @@ def folder_page(program):
         wrong += [f"the report has {tag}" for tag, _ in page.found if tag not in TAGS] + ([] if "<i>" not in text else ["a name is markup in the report"])
         # (of a template each of its cases has a page)
         os.makedirs(os.path.join(folder, "templates"))
-        shutil.copy(os.path.join(TOP, "examples", "templates", "filter.armct"), os.path.join(folder, "templates"))
+        shutil.copy(example("templates", "filter.armct"), os.path.join(folder, "templates"))
         call(program, "check-folder", "--html", report, "--set", "n=2", os.path.join(folder, "templates"))
         title = read(os.path.join(folder, "report-pages", "filter.armct n=2.html"))
         wrong += [] if "<h1>filter.armct n=2</h1>" in title else [f"the page of a template: {title[:300]}"]
@@ -387,13 +365,7 @@ def folder_page(program):
         return wrong + differs("a report that cannot be written", (found.returncode, "Traceback" in found.stderr), (126, False))
 
 
-def checks(program):
-    """Each check with its name."""
-    yield "why a proof is closed", why(program)
-    yield "pages of proofs and runs", html_pages(program)
-    yield "page of a folder", folder_page(program)
-
+CHECKS = {"why a proof is closed": why, "pages of proofs and runs": html_pages, "page of a folder": folder_page}
 
 if __name__ == "__main__":
-    for name, lines in checks(os.path.abspath(sys.argv[1])):
-        print(f"{name}: {'ok' if not lines else lines[:5]}", flush=True)
+    sys.exit(main(CHECKS))

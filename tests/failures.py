@@ -1,25 +1,29 @@
 """Cut texts, texts as long as they may be, standard output and error that take only a part, reads that fail, and running out of memory: what the program
-answers is the determined answer, or the one that the fault has, and a sink that failed has a beginning of its text. Each check is a pair of a name
-and a list of lines that say what is wrong.
+answers is the determined answer, or the one that the fault has, and a sink that failed has a beginning of its text. Usage: tests/failures.py [PROGRAM] [NAME..]
 """
+import functools
 import os
 import re
-import resource
-import signal
 import subprocess
 import sys
 import tempfile
 
-TOP = os.path.dirname(os.path.dirname(os.path.abspath(__file__)))
-SECONDS = 120
+from support import differs, main, read_bytes, run, write, write_all
+
 MEGABYTE = 1 << 20
 REPORT = ["check", "f", "--report"]
+# Runs words in its place under a limit of the system.
+LIMITED = """import os, resource, signal, sys
+kind, most, *words = sys.argv[1:]
+signal.signal(signal.SIGXFSZ, signal.SIG_IGN)
+resource.setrlimit(resource.RLIMIT_AS if kind == "memory" else resource.RLIMIT_FSIZE, (int(most), int(most)))
+os.execv(words[0], words)
+"""
 
 
 def example(name):
     """The text of an example without its comments."""
-    with open(os.path.join(TOP, "examples", name), "rb") as file:
-        return b"".join(line for line in file if not line.startswith(b"#"))
+    return b"".join(line for line in read_bytes("examples", name).splitlines(True) if not line.startswith(b"#"))
 
 
 class Folder:
@@ -29,42 +33,28 @@ class Folder:
         self.program, self.path = program, path
 
     def put(self, **files):
-        for name, text in files.items():
-            with open(os.path.join(self.path, name), "wb") as file:
-                file.write(text)
+        write_all(self.path, files)
 
     def run(self, words, **limit):
         """Status, standard output and standard error. `out` or `err` is the most bytes that this one takes, `memory` the address space."""
         # The limit is one of files, so a text that is not limited goes through a pipe.
         with tempfile.TemporaryFile() as short:
-            out, err = (short if name in limit else subprocess.PIPE for name in ("out", "err"))
-            before = [sys.executable, "-S", "-E", os.path.abspath(__file__), *map(str, *limit.items())] if limit else []
-            run = subprocess.run([*before, self.program, *words], cwd=self.path, stdin=subprocess.DEVNULL, stdout=out, stderr=err, timeout=SECONDS)
+            sinks = {name: short if limited in limit else subprocess.PIPE for name, limited in (("stdout", "out"), ("stderr", "err"))}
+            before = [sys.executable, "-S", "-E", "-c", LIMITED, *map(str, *limit.items())] if limit else []
+            found = run([*before, self.program, *words], cwd=self.path, text=False, **sinks)
             short.seek(0)
             taken = short.read()
-        return run.returncode, taken if "out" in limit else run.stdout, taken if "err" in limit else run.stderr
+        return found.returncode, taken if "out" in limit else found.stdout, taken if "err" in limit else found.stderr
 
 
-def run_limited(name, most, *words):
-    """The program in place of this process, under the limit."""
-    kind = resource.RLIMIT_AS if name == "memory" else resource.RLIMIT_FSIZE
-    signal.signal(signal.SIGXFSZ, signal.SIG_IGN)
-    resource.setrlimit(kind, (int(most), int(most)))
-    os.execv(words[0], words)
-
-
-def differs(what, found, wanted):
-    return [] if found == wanted else [f"{what}: {str(found)[:200]}, and must be {str(wanted)[:200]}"]
-
-
-def cut_protocols(folder, pool):
+def cut_protocols(folder):
     """Of the prefixes of a protocol those are taken that end with the last brace of the section or of a later item, or with the line feed after it."""
     text = example("tickets.armc")
     ends = [match.end() for match in re.finditer(rb"\}\n", text)]
     whole = {end for each in ends for end in (each - 1, each)}
     names = [f"prefix{size}" for size in range(len(text) + 1)]
     folder.put(**{name: text[:size] for size, name in enumerate(names)})
-    found = list(pool.map(lambda name: folder.run(["show", name]), names))
+    found = [folder.run(["show", name]) for name in names]
     wrong = differs("how many prefixes are taken", sum(1 for status, _, _ in found if status == 0), 12)
     for size, (status, out, err) in enumerate(found):
         wrong += differs(f"the prefix of {size} bytes", status, 0 if size in whole else 5)
@@ -73,18 +63,18 @@ def cut_protocols(folder, pool):
     return wrong
 
 
-def cut_certificates(folder, pool):
+def cut_certificates(folder):
     """A certificate of either version that is cut anywhere is truncated, at the line after the last line feed that is left."""
     folder.put(f=example("tickets.armc"))
     folder.put(c=folder.run(["check", "f"])[1])
-    return [line for version in (1, 2) for line in cut_certificate(folder, pool, version)]
+    return [line for version in (1, 2) for line in cut_certificate(folder, version)]
 
 
-def cut_certificate(folder, pool, version):
+def cut_certificate(folder, version):
     text = folder.run(["check", "f"] if version == 1 else ["migrate", "f", "c"])[1]
     names = [f"cut{version}_{size}" for size in range(len(text) + 1)]
     folder.put(**{name: text[:size] for size, name in enumerate(names)})
-    found = list(pool.map(lambda name: folder.run(["verify", "f", name]), names))
+    found = [folder.run(["verify", "f", name]) for name in names]
     wrong = differs(f"the whole, version {version}", found.pop(), (0, b"valid\n", b""))
     for size, answer in enumerate(found):
         line = text[:size].count(b"\n") + 1
@@ -92,21 +82,22 @@ def cut_certificate(folder, pool, version):
     return wrong
 
 
-def cut_properties(folder, pool):
+def cut_properties(folder):
     """Of the prefixes of a text of properties those are taken that end with the last brace of a block, or with the line feed after it."""
     text = b"bad none { P: n*; }\nbad pairs { P: any* t any* t any*; }\nbad none { P: empty; }\n"
     whole = {end for match in re.finditer(rb"\}\n", text) for end in (match.end() - 1, match.end())}
     names = [f"properties{size}" for size in range(len(text) + 1)]
     folder.put(f=example("token.armc"), **{name: text[:size] for size, name in enumerate(names)})
     wrong = []
-    for size, (status, out, err) in enumerate(pool.map(lambda name: folder.run(["checkall", "f", name]), names)):
+    for size, name in enumerate(names):
+        status, out, err = folder.run(["checkall", "f", name])
         wrong += differs(f"the prefix of {size} bytes", status, 0 if size in whole else 6)
         if status == 6 and (out or not re.fullmatch(rb"armc: properties: line \d+ column \d+: unexpected token\n", err)):
             wrong.append(f"the prefix of {size} bytes: {out} and {err}")
     return wrong
 
 
-def long_texts(folder, _):
+def long_texts(folder):
     """Protocols of 1 MiB, certificates of 1,000,000 states and of a number of 23 digits, and a bad letter 13 places before the end."""
     token = example("token.armc")
     deep = b"protocol deep\narray P { a b }\ninit { P: b; }\nbad { P: any* a" + b" any" * 12 + b"; }\n"
@@ -122,7 +113,7 @@ def long_texts(folder, _):
     return wrong + ([] if b'"counted":4,' in err else [f"its report is {err}"])
 
 
-def long_words(folder, _):
+def long_words(folder):
     """A configuration in one word of 131,071 bytes, which are all that the system takes, and in a run of 1 MiB."""
     folder.put(f=example("token.armc"), run=b"armc 1 unsafe\nstart P: t" + b" n" * ((MEGABYTE - 4) // 2) + b"\nend\n")
     letters = b" n" * ((131_071 - 4) // 2)
@@ -130,16 +121,13 @@ def long_words(folder, _):
     return wrong + differs("a run of 1 MiB", folder.run(["verify", "f", "run"]), (7, b"not valid: not bad\n", b""))
 
 
-def words_without_text(folder, pool):
+def words_without_text(folder):
     """Words of which one is no UTF-8, the name of a command, of a file that is there, an option or a word too many, mean no command: the usage comes."""
-    with open(os.path.join(TOP, "tests", "usage"), "rb") as file:
-        usage = file.read()
     folder.put(f=example("token.armc"))
-    with open(os.path.join(os.fsencode(folder.path), b"f\xff"), "wb") as file:
-        file.write(example("token.armc"))
+    write(os.path.join(os.fsencode(folder.path), b"f\xff"), example("token.armc"))
     lists = [[b"\xff"], [b"show\xc3"], [b"show", b"f\xff"], [b"show", b"f", b"\x80"], [b"check", b"f", b"--budget\xe2\x82", b"9"],
              [b"check", b"f", b"--budget", b"9\xf8"], [b"steps", b"f", b"P: t\xed\xa0\x80"], [b"verify", b"f", b"\xc0\xaf"]]
-    return [line for words, answer in zip(lists, pool.map(folder.run, lists)) for line in differs(words, answer, (3, b"", usage))]
+    return [line for words in lists for line in differs(words, folder.run(words), (3, b"", read_bytes("tests", "usage")))]
 
 
 def calls():
@@ -167,7 +155,7 @@ def calls():
     yield "usage", ["show"], {}
 
 
-def short_sinks(folder, pool):
+def short_sinks(folder):
     """Each text of each kind of answer is cut: the status is 8 then, and the sink has exactly what it takes."""
     wrong = []
     for title, words, files in calls():
@@ -176,16 +164,15 @@ def short_sinks(folder, pool):
         sizes = lambda text: sorted({0, 1, 3, 5, len(text) // 2, len(text) - 1} & set(range(len(text))))
         tries = [("out", size, (8, out[:size], b"")) for size in sizes(out)] + [("err", size, (8, out, err[:size])) for size in sizes(err)]
         tries += [("out", len(out), (status, out, err)), ("err", len(err), (status, out, err))]
-        found = pool.map(lambda each: folder.run(words, **{each[0]: each[1]}), tries)
-        for (sink, size, wanted), answer in zip(tries, found):
-            wrong += differs(f"{title}, {sink} takes {size} bytes", answer, wanted)
+        for sink, size, wanted in tries:
+            wrong += differs(f"{title}, {sink} takes {size} bytes", folder.run(words, **{sink: size}), wanted)
         with open("/dev/full", "wb") as full:
-            run = subprocess.run([folder.program, *words], cwd=folder.path, stdin=subprocess.DEVNULL, stdout=full, stderr=subprocess.PIPE, timeout=SECONDS)
-        wrong += differs(f"{title}, a full device", (run.returncode, run.stderr), (8, b"") if out else (status, err))
+            found = run([folder.program, *words], cwd=folder.path, text=False, stdout=full)
+        wrong += differs(f"{title}, a full device", (found.returncode, found.stderr), (8, b"") if out else (status, err))
     return wrong
 
 
-def failed_reads(folder, _):
+def failed_reads(folder):
     """The name that is told is the one whose read failed, and the first of two."""
     folder.put(f=example("first.armc"), c=b"")
     fault = lambda name: (4, b"", b"armc: read fault: %s\n" % name)
@@ -196,7 +183,7 @@ def failed_reads(folder, _):
     return wrong
 
 
-def little_memory(folder, _):
+def little_memory(folder):
     """Two automata that do not fit into the address space: that of the bad words, and a certificate's."""
     folder.put(f=example("token.armc"), c=b"armc 1 safe\nstates 1000000\n" + b"".join(b"edge %d P.n 0\n" % q for q in range(300_000)) + b"end\n",
                deep=b"protocol deep\narray P { a b }\ninit { P: b; }\nbad { P: any* a" + b" any" * 24 + b"; }\n")
@@ -204,6 +191,11 @@ def little_memory(folder, _):
     for words in (["check", "deep"], ["verify", "f", "c"]):
         wrong += differs(" ".join(words), folder.run(words, memory=24 * MEGABYTE), (9, b"", b"armc: out of memory\n"))
     return wrong
+
+
+def in_folder(check, program):
+    with tempfile.TemporaryDirectory() as path:
+        return check(Folder(program, path))
 
 
 CHECKS = {
@@ -217,19 +209,7 @@ CHECKS = {
     "reads that fail": failed_reads,
     "little memory": little_memory,
 }
-
-
-def checks(program, pool):
-    """Each check with its name."""
-    for name, check in CHECKS.items():
-        with tempfile.TemporaryDirectory() as path:
-            yield name, check(Folder(program, path), pool)
-
+CHECKS = {name: functools.partial(in_folder, check) for name, check in CHECKS.items()}
 
 if __name__ == "__main__":
-    if len(sys.argv) > 2:
-        run_limited(*sys.argv[1:])
-    from concurrent.futures import ThreadPoolExecutor
-    with ThreadPoolExecutor(4) as workers:
-        for title, lines in checks(os.path.abspath(sys.argv[1]), workers):
-            print(f"{title}: {'ok' if not lines else lines[:5]}", flush=True)
+    sys.exit(main(CHECKS))

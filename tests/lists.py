@@ -1,5 +1,5 @@
 """Lists of searches for many machines, run here by bash and by make: answers as without a list, results that are refused, and ends by force.
-`checks` is called by tests/run; tests/cluster, outside the gate, runs lists by GNU parallel over ssh and by Slurm.
+tests/cluster, outside the gate, runs lists by GNU parallel over ssh and by Slurm. Usage: tests/lists.py [PROGRAM] [NAME..]
 """
 import contextlib
 import json
@@ -10,22 +10,14 @@ import signal
 import subprocess
 import sys
 import tempfile
-import time
 import xml.etree.ElementTree as xml
-from concurrent.futures import ThreadPoolExecutor
 
-import tools
-from tools import differs, example
+from support import SECONDS, call, differs, example, main, on_terminal, read, run, till, to_full_device, tool_words, write, wrong_refusal
 from armc_tools import results
 
-SECONDS = 240
 PORTFOLIO, FOLDER = "armc-portfolio", "check-folder"
 # A search that goes on for long.
-ENDLESS = [os.path.join(tools.TOP, *tools.ENDLESS), "--budget", "1000000"]
-
-
-def call(program, tool, *words, **how):
-    return tools.call(program, tool, *map(str, words), **how)
+ENDLESS = [example("tutorial", "equal_counters.armc"), "--budget", "1000000"]
 
 
 @contextlib.contextmanager
@@ -39,12 +31,12 @@ def made(program, tool, *words):
 
 
 def lines_of(folder):
-    return tools.read(os.path.join(folder, "list")).splitlines()
+    return read(os.path.join(folder, "list")).splitlines()
 
 
 def run_lines(folder, lines):
     """Runs lines by bash, in the folder."""
-    return subprocess.run(["bash"], cwd=folder, input="".join(f"{line}\n" for line in lines), capture_output=True, text=True, timeout=SECONDS)
+    return run(["bash"], cwd=folder, input="".join(f"{line}\n" for line in lines))
 
 
 def without_times(text):
@@ -62,7 +54,7 @@ def portfolio(program):
             wrong += [line for line in [run_lines(folder, lines[:count]).stderr] if line]
             found = call(program, PORTFOLIO, "--collect", folder, "--rest", rest, "--reordered", os.devnull)
             told = f"{len(lines) - count} of {len(lines)} searches have no result" in found.stderr
-            wrong += differs(f"{count} results", (tools.read(rest).splitlines(), told), (lines[count:], count < len(lines)))
+            wrong += differs(f"{count} results", (read(rest).splitlines(), told), (lines[count:], count < len(lines)))
             wrong += differs(f"{count} results", (found.returncode, found.stdout), (alone.returncode, alone.stdout) if count == len(lines) else (10, ""))
         wrong += differs("what is told", without_times(found.stderr), without_times(alone.stderr))
         before = os.stat(results.path_of("00000", folder)).st_mtime_ns
@@ -90,8 +82,7 @@ def folders(program):
         found = call(program, FOLDER, "--collect", folder)
         wrong = differs("no result", (found.returncode, found.stdout.count("no result yet")), (10, len(lines_of(folder))))
         for _ in range(2):
-            made_by = subprocess.run(["make", "-C", folder, "-s", "-k", "-j", "2"], capture_output=True, text=True, timeout=SECONDS) if shutil.which("make") else run_lines(
-                folder, lines_of(folder))
+            made_by = run(["make", "-C", folder, "-s", "-k", "-j", "2"]) if shutil.which("make") else run_lines(folder, lines_of(folder))
             wrong += differs("make", (made_by.returncode, re.sub(r"^make: Nothing .*\n", "", made_by.stdout)), (0, ""))
         reports = [os.path.join(folder, name) for name in ("alone.xml", "collected.xml")]
         alone = call(program, FOLDER, "--jobs", "2", "--junit", reports[0], *words)
@@ -114,8 +105,7 @@ def heads(program):
     with tempfile.TemporaryDirectory() as place:
         shutil.copy(example("patterns", "several_properties.props"), os.path.join(place, "many.props"))
         for name, (head, path) in HEADS.items():
-            with open(os.path.join(place, name), "w") as file:
-                file.write(head + re.sub(r"(?m)^# expect:.*\n", "", tools.read(example(path))))
+            write(os.path.join(place, name), head + re.sub(r"(?m)^# expect:.*\n", "", read(example(path))))
         alone = call(program, FOLDER, "--jobs", "2", place)
         with made(program, FOLDER, place) as folder:
             wrong = differs("lines with tools", run_lines(folder, lines_of(folder)).stderr, "")
@@ -126,8 +116,7 @@ def heads(program):
             name = next(name for name, text in whole["files"].items() if text.startswith("armc 1 safe"))
             protocol = next(name for name in whole["files"] if name.endswith(".armc"))
             for change in ({name: "armc 1 safe\nstates 0\nend\n"}, {protocol: re.sub(r"(?m)^init.*\n", "", whole["files"][protocol])}):
-                with open(path, "w") as file:
-                    file.write(results.sealed({**whole, "files": {**whole["files"], **change}}))
+                write(path, results.sealed({**whole, "files": {**whole["files"], **change}}))
                 found = call(program, FOLDER, "--collect", folder)
                 wrong += differs(f"a forged {list(change)}", (found.returncode, found.stderr.count("is refused: ")), (10, 1))
     return wrong
@@ -136,39 +125,34 @@ def heads(program):
 def refused_results(program, folder):
     """Half a file, an empty one, a forged proof, and results of another program or list are refused, told, and put aside."""
     paths = [results.path_of(f"{at:05d}", folder) for at in range(5)]
-    whole = tools.read(paths[0])
+    whole = read(paths[0])
     proof = next(each for each in map(results.read, paths) if each["judged"] == "valid")
     at = int(proof["task"])
     broken = {at: results.sealed({**proof, "out": "armc 1 safe\nstates 0\nend\n"}), (at + 1) % 5: whole[:len(whole) // 2], (at + 2) % 5: "",
-              (at + 3) % 5: results.sealed({**results.read(paths[(at + 3) % 5]), "program": "0" * 64}), (at + 4) % 5: whole if at != 1 else tools.read(paths[2])}
+              (at + 3) % 5: results.sealed({**results.read(paths[(at + 3) % 5]), "program": "0" * 64}), (at + 4) % 5: whole if at != 1 else read(paths[2])}
     for number, text in broken.items():
-        with open(paths[number], "w") as file:
-            file.write(text)
+        write(paths[number], text)
     rest = os.path.join(folder, "rest")
     found = call(program, FOLDER, "--collect", folder, "--rest", rest)
     said = [len(re.findall(words, found.stderr)) for words in ("is not whole", "is of another list", "is refused: not valid: initial missing")]
     count = 5 - (broken[0] == whole if 0 in broken else 0)
-    wrong = differs("broken results", (found.returncode, said, len(tools.read(rest).splitlines())), (10, [2, count - 3, 1], count))
-    run_lines(folder, tools.read(rest).splitlines())
+    wrong = differs("broken results", (found.returncode, said, len(read(rest).splitlines())), (10, [2, count - 3, 1], count))
+    run_lines(folder, read(rest).splitlines())
     found = call(program, FOLDER, "--collect", folder, "--rest", rest)
-    return wrong + differs("broken results, run again", (found.returncode, found.stderr, tools.read(rest)), (1, "", ""))
+    return wrong + differs("broken results, run again", (found.returncode, found.stderr, read(rest)), (1, "", ""))
 
 
 def terminal(program, folder):
     """A terminal shows what a pipe gets; a full device."""
-    words = [sys.executable, os.path.join(tools.TOOLS, FOLDER), "--program", program, "--collect", folder]
-    shown, status = tools.on_terminal(words)
-    piped = subprocess.run(words, capture_output=True, text=True)
-    wrong = differs("a list on a terminal", (status, shown.replace("\r\n", "\n")), (piped.returncode, piped.stdout + piped.stderr))
-    with open("/dev/full", "w") as full:
-        found = subprocess.run(words, stdout=full, stderr=subprocess.PIPE, text=True)
-    wrong += differs("a list to a full device", (found.returncode, "Traceback" in found.stderr), (126, False))
-    log = os.path.join(folder, "log")
-    with open(log, "w") as file:
-        file.write("".join(f"12:00 {tools.read(results.path_of(f'{at:05d}', folder))}" for at in range(2)) + "12:01 armc-result {} 0\n")
+    words = tool_words(FOLDER, "--program", program, "--collect", folder)
+    shown, status = on_terminal(words)
+    piped = run(words)
+    wrong = differs("a list on a terminal", (status, shown), (piped.returncode, piped.stdout + piped.stderr))
+    wrong += differs("a list to a full device", to_full_device(words), (126, False))
+    log = write(os.path.join(folder, "log"), "".join(f"12:00 {read(results.path_of(f'{at:05d}', folder))}" for at in range(2)) + "12:01 armc-result {} 0\n")
     for at in range(2):
         os.remove(results.path_of(f"{at:05d}", folder))
-    found = subprocess.run([*words, "--from", log], capture_output=True, text=True)
+    found = run([*words, "--from", log])
     return wrong + differs("results out of a log", (found.returncode, found.stdout, found.stderr), (piped.returncode, piped.stdout, piped.stderr))
 
 
@@ -176,10 +160,7 @@ def faults(program):
     """Words that do not go together, folders that are there or are no lists, and a program that is a script."""
     wrong, file = [], example("first.armc")
     with made(program, PORTFOLIO, "--one-order", "--budget", "9", file) as folder:
-        script = os.path.join(folder, "script")
-        with open(script, "w") as text:
-            text.write(f'#!/bin/sh\nexec "{program}" "$@"\n')
-        os.chmod(script, 0o755)
+        script = write(os.path.join(folder, "script"), f'#!/bin/sh\nexec "{program}" "$@"\n', script=True)
         for tool, words, status, said in (
             (PORTFOLIO, [file, "--list", folder], 8, "cannot be made"), (PORTFOLIO, [], 3, "usage: "), (PORTFOLIO, [file, "--collect", folder], 3, "usage: "),
             (PORTFOLIO, [file, "--rest", "x"], 3, "usage: "), (PORTFOLIO, [file, "--first"], 3, "usage: "), (PORTFOLIO, ["--collect", os.path.join(folder, "no")], 4, "read fault: "),
@@ -187,10 +168,8 @@ def faults(program):
             (PORTFOLIO, ["--collect", folder, "--rest", os.path.join(folder, "list", "x")], 8, "cannot be written"),
             (PORTFOLIO, ["--program", script, file, "--list", os.path.join(folder, "x")], 126, "needs the program itself"),
         ):
-            found = call(program, tool, *words)
-            if (found.returncode, found.stdout) != (status, "") or said not in found.stderr or "Traceback" in found.stderr:
-                wrong.append(f"{tool} {words}: {found.returncode}, {found.stdout!r}, {found.stderr!r}")
-        plan = json.loads(tools.read(os.path.join(folder, "plan.json")))
+            wrong += wrong_refusal(f"{tool} {words}", call(program, tool, *words), status, said)
+        plan = json.loads(read(os.path.join(folder, "plan.json")))
         wrong += differs("the plan", [words[:1] for words in plan["tasks"]], [[words.split()[5]] for words in lines_of(folder)])
     return wrong
 
@@ -208,14 +187,6 @@ def program_runs(folder):
     return bool(found)
 
 
-def till(holds):
-    """Waits till it holds, and says whether it does."""
-    end = time.monotonic() + SECONDS
-    while not holds() and time.monotonic() < end:
-        time.sleep(0.05)
-    return holds()
-
-
 def one_search(program):
     """The limits of one search, a full disk, a deadlock's proof, and signals: a search never outlives its line."""
     with made(program, PORTFOLIO, "--one-order", *ENDLESS) as folder:
@@ -228,7 +199,7 @@ def one_search(program):
             ([60, 2048, name, "deadlock"], {"why": "", "status": 0, "judged": "valid"}),
             ([60, 2048, name, "verify"], {"why": "", "status": 3, "judged": ""}),
         )):
-            ended = subprocess.run(line(folder, "--print", f"9{at:04d}", *words), cwd=folder, capture_output=True, text=True, timeout=SECONDS)
+            ended = run(line(folder, "--print", f"9{at:04d}", *words), cwd=folder)
             found = results.read(results.path_of(f"9{at:04d}", folder))
             wrong += differs(f"the search {words}", (ended.returncode, ended.stdout, {key: found[key] for key in wanted}), (0, results.sealed(found), wanted))
         for number, status in ((signal.SIGTERM, 75), (signal.SIGKILL, -9)):
@@ -238,21 +209,13 @@ def one_search(program):
             ended = (process.wait(SECONDS), till(lambda: not program_runs(folder)), os.path.exists(results.path_of("98000", folder)))
             wrong += differs(f"a line with signal {number}", (begun, *ended), (True, status, True, False))
         shutil.rmtree(os.path.join(folder, "results"))
-        open(os.path.join(folder, "results"), "w").close()
-        ended = subprocess.run(line(folder, "98001", 60, 2048, name, "check", "--budget", "9"), cwd=folder, capture_output=True, text=True, timeout=SECONDS)
+        write(os.path.join(folder, "results"), "")
+        ended = run(line(folder, "98001", 60, 2048, name, "check", "--budget", "9"), cwd=folder)
         return wrong + differs("a result that cannot be written", (ended.returncode, "Traceback" in ended.stderr), (75, False))
 
 
 CHECKS = {"lists of a portfolio": portfolio, "lists of a folder": folders, "lists of heads": heads, "lists, with faults": faults, "armc-search-one": one_search}
 
 
-def checks(program):
-    """Each check with its name; they are made side by side."""
-    with ThreadPoolExecutor(4) as pool:
-        found = [(name, pool.submit(check, program)) for name, check in CHECKS.items()]
-        yield from ((name, lines.result()) for name, lines in found)
-
-
 if __name__ == "__main__":
-    for name, lines in checks(os.path.abspath(sys.argv[1])):
-        print(f"{name}: {'ok' if not lines else lines[:5]}", flush=True)
+    sys.exit(main(CHECKS))

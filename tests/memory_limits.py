@@ -1,19 +1,15 @@
-"""The limit of memory under which the launcher and the tools run the program. `checks` is called by tests/run."""
+"""The limit of memory under which the launcher and the tools run the program. Usage: tests/memory_limits.py [PROGRAM] [NAME..]"""
 import os
 import re
 import shutil
-import subprocess
 import sys
 import tempfile
-from concurrent.futures import ThreadPoolExecutor
 
 import surroundings
-import tools
-from tools import differs, example
+from support import call, differs, example, main, read, run, write
 
-SECONDS = 120
 # What the system has in all, in kilobytes.
-ALL = int(re.search(r"^MemTotal: +(\d+)", tools.read("/proc/meminfo"), re.M)[1]) if os.path.exists("/proc/meminfo") else None
+ALL = int(re.search(r"^MemTotal: +(\d+)", read("/proc/meminfo"), re.M)[1]) if os.path.exists("/proc/meminfo") else None
 
 
 def environment(**changed):
@@ -31,33 +27,28 @@ def launcher(program):
         tree, wrong = surroundings.Tree(folder), []
         built = tree.out("armc", "armc")
         os.makedirs(os.path.dirname(built))
-        with open(built, "w") as file:
-            file.write("#!/bin/sh\nulimit -v\n")
-        os.chmod(built, 0o755)
+        write(built, "#!/bin/sh\nulimit -v\n", script=True)
         for before, given, wanted in (("", {}, None), ("", {"ARMC_MEMORY": "100"}, "102400"), ("", {"ARMC_MEMORY": "0"}, "unlimited"),
                                       ("ulimit -v 90000;", {"ARMC_MEMORY": "100"}, "90000"), ("ulimit -v 90000;", {}, "90000")):
             words = ["bash", "-c", f"{before} exec {tree.top}/armc"]
-            found = subprocess.run(words, env=environment(**given), capture_output=True, text=True, timeout=SECONDS).stdout.strip()
+            found = run(words, env=environment(**given)).stdout.strip()
             wrong += [] if found == wanted or (wanted is None and is_default(found)) else [f"with {before!r} and {given} the limit is {found!r}"]
-        found = subprocess.run([f"{tree.top}/armc"], env=environment(ARMC_MEMORY="2x"), capture_output=True, text=True)
+        found = run([f"{tree.top}/armc"], env=environment(ARMC_MEMORY="2x"))
         told = "armc: ARMC_MEMORY is no number of megabytes: 2x\n"
         wrong += differs("a word that is no number", (found.returncode, found.stdout, found.stderr), (126, "", told))
         shutil.copy(program, built)
         words = [f"{tree.top}/armc", "check", example("hard", "ticket_wrap.armc")]
-        found = subprocess.run(words, env=environment(ARMC_MEMORY="48"), capture_output=True, text=True, timeout=SECONDS)
+        found = run(words, env=environment(ARMC_MEMORY="48"))
         return wrong + differs("a search in 48 MB", (found.returncode, found.stdout, found.stderr), (9, "", "armc: out of memory\n"))
 
 
 def limits_of_tool(program, tool, words, given):
     """The limits under which a tool runs the searches of the program, and how the tool ended."""
     with tempfile.TemporaryDirectory() as folder:
-        script, told = os.path.join(folder, "program"), os.path.join(folder, "told")
-        with open(script, "w") as file:
-            file.write(f'#!/bin/sh\necho "$1 $(ulimit -v)" >>"{told}"\nexec "{program}" "$@"\n')
-        os.chmod(script, 0o755)
-        words = [sys.executable, os.path.join(tools.TOOLS, tool), "--program", script, *words]
-        found = subprocess.run(words, env=environment(**given), capture_output=True, text=True, timeout=SECONDS)
-        lines = tools.read(told).splitlines() if os.path.exists(told) else []
+        told = os.path.join(folder, "told")
+        script = write(os.path.join(folder, "program"), f'#!/bin/sh\necho "$1 $(ulimit -v)" >>"{told}"\nexec "{program}" "$@"\n', script=True)
+        found = call(script, tool, *words, env=environment(**given))
+        lines = read(told).splitlines() if os.path.exists(told) else []
         return {line.split(" ")[1] for line in lines if line.split(" ")[0] in ("check", "checkall")}, found
 
 
@@ -87,13 +78,5 @@ def of_tools(program):
 CHECKS = {"memory of the launcher": launcher, "memory of the tools": of_tools}
 
 
-def checks(program):
-    """Each check with its name; they are made side by side."""
-    with ThreadPoolExecutor(4) as pool:
-        found = [(name, pool.submit(check, program)) for name, check in CHECKS.items()]
-        yield from ((name, lines.result()) for name, lines in found)
-
-
 if __name__ == "__main__":
-    for name, lines in checks(os.path.abspath(sys.argv[1])):
-        print(f"{name}: {'ok' if not lines else lines[:5]}", flush=True)
+    sys.exit(main(CHECKS))

@@ -1,5 +1,5 @@
-"""What armc-export does, and what MONA says of proofs and of mutated ones beside the program and armc-second-opinion. `checks` is called by
-tests/run; tests/third-opinion, outside the gate, goes on with all examples, 1,000 mutated proofs and the commands of OpenFst.
+"""What armc-export does, and what MONA says of proofs and of mutated ones beside the program and armc-second-opinion. tests/third-opinion, outside the
+gate, goes on with all examples, 1,000 mutated proofs and the commands of OpenFst. Usage: tests/opinions.py [PROGRAM] [NAME..]
 """
 import functools
 import glob
@@ -7,21 +7,18 @@ import os
 import random
 import re
 import shutil
-import subprocess
 import sys
 import tempfile
-from concurrent.futures import ThreadPoolExecutor
 
+import support
+from support import SYSTEMS, canonical, differs, example, main, on_terminal, opinion, printed, read, run, to_full_device, tool_words, write, write_all, wrong_refusal
 import refusals
-import tools
-from tools import differs, example, on_terminal, read
 from armc_tools import texts
 from armc_tools.mona import Question
 from armc_tools.mona_answers import judged
 from armc_tools.program import Refused
 from armc_tools.protocol import Protocol
 
-EXPORT = [sys.executable, os.path.join(tools.TOOLS, "armc-export")]
 SECONDS = 120
 MUTANTS = 10
 # Proofs of few states, so that MONA is quick; each is mutated twice.
@@ -32,13 +29,11 @@ LOOKS_BACK = "protocol p\narray P { a b }\ninit { P: a; }\nbad { P: any* b " + "
 
 
 def export(*words, text="", **how):
-    """Status, standard output and standard error of armc-export."""
-    return subprocess.run([*EXPORT, *words], **{"capture_output": True, "text": True, "timeout": SECONDS, "input": text, **how})
+    """How armc-export ends, and what it prints."""
+    return run(tool_words("armc-export", *words), input=text, **how)
 
 
-@functools.lru_cache(maxsize=None)
-def second_checker():
-    return tools.second_checker()
+second_checker = functools.lru_cache(maxsize=None)(support.second_checker)
 
 
 # Mutated proofs
@@ -75,7 +70,7 @@ class Judges:
     def __init__(self, program, path, bads=None):
         self.program, self.text = program, read(path)
         if bads is not None:
-            self.text = Protocol(tools.read_canonical(program, path)).text(bads=bads)
+            self.text = Protocol(canonical(program, path)).text(bads=bads)
         self.system = texts.read_system(self.text)
         self.second = second_checker()
         self.machines = self.second.Reader(self.text).protocol()
@@ -83,11 +78,11 @@ class Judges:
     def told(self, certificate):
         """What the program says, or armc-second-opinion of what the program does not judge."""
         if certificate.startswith("deadlock"):
-            return tools.opinion(self.second, self.machines, certificate)[1]
+            return opinion(self.second, self.machines, certificate)[1]
         with tempfile.NamedTemporaryFile("w", suffix=".armc") as file:
             file.write(self.text)
             file.flush()
-            found = subprocess.run([self.program, "verify", file.name, "-"], input=certificate, capture_output=True, text=True, timeout=SECONDS)
+            found = run([self.program, "verify", file.name, "-"], input=certificate)
         return (found.stdout or found.stderr).strip()
 
     def asked(self, certificate, seconds=SECONDS):
@@ -141,8 +136,8 @@ def accepts(system, proof, configuration):
 def readers(program):
     """The reader of protocols reads what `show` prints as it reads the text itself, and refuses what the program refuses, at the same line."""
     wrong = []
-    for path in sorted(glob.glob(example("*.armc")) + glob.glob(os.path.join(tools.TOP, "tests", "systems", "*.armc"))):
-        both = read(path), tools.read_canonical(program, path)
+    for path in sorted(glob.glob(example("*.armc")) + glob.glob(os.path.join(SYSTEMS, "*.armc"))):
+        both = read(path), canonical(program, path)
         found = [re.sub(r"\bline=\d+, ", "", str(texts.read_system(text))) for text in both]
         wrong += differs(f"the reader of {os.path.basename(path)}", *found)
     for cell, told in refusals.rows():
@@ -166,25 +161,18 @@ def faults(_):
     """Words that mean nothing, missing files, refused texts, a full device, no mona, and one that gives up."""
     wrong, lock = [], [example("tickets.armc"), example("tickets.cert")]
     with tempfile.TemporaryDirectory() as folder:
-        refused, unknown, run = (os.path.join(folder, name) for name in ("refused.armc", "unknown.cert", "run.cert"))
-        for path, text in ((refused, "protocol p\narray P { a a }\n"), (unknown, "armc 1 unknown\n"), (run, "armc 1 unsafe\n")):
-            with open(path, "w") as file:
-                file.write(text)
+        refused, unknown, unsafe = write_all(folder, {"refused.armc": "protocol p\narray P { a a }\n", "unknown.cert": "armc 1 unknown\n", "run.cert": "armc 1 unsafe\n"})
         for words, status, said in (
             ([], 3, "usage: "), (lock, 3, "usage: "), (["--to", "word", *lock], 3, "usage: "), (["--to", "mona", "--parts", *lock], 3, "--out"),
             (["--to", "mona", os.path.join(folder, "nowhere"), lock[1]], 4, "read fault: "), (["--to", "mona", lock[0], os.path.join(folder, "nowhere")], 4, "read fault: "),
             (["--to", "mona", refused, lock[1]], 5, "protocol: line 2 column 13: duplicate a"), (["--to", "mona", lock[0], refused], 6, "certificate: line 1: bad line"),
-            (["--judge", lock[0], unknown], 6, "line 1: nothing to verify"), (["--judge", lock[0], run], 6, "line 1: a run, and MONA judges automata"),
+            (["--judge", lock[0], unknown], 6, "line 1: nothing to verify"), (["--judge", lock[0], unsafe], 6, "line 1: a run, and MONA judges automata"),
             (["--to", "dot", "--out", os.path.join(refused, "x"), *lock], 8, "cannot be made"),
         ):
-            found = export(*words)
-            if (found.returncode, found.stdout) != (status, "") or said not in found.stderr or "Traceback" in found.stderr:
-                wrong.append(f"armc-export {words}: {found.returncode}, {found.stdout!r}, {found.stderr!r}")
+            wrong += wrong_refusal(f"armc-export {words}", export(*words), status, said)
         wrong += silent_mona(folder, lock)
     for words in (["--to", "mona"], ["--to", "dot"]):
-        with open("/dev/full", "w") as full:
-            found = export(*words, *lock, capture_output=False, stdout=full, stderr=subprocess.PIPE)
-        wrong += differs(f"armc-export {words} with a full device", (found.returncode, "Traceback" in found.stderr), (8, False))
+        wrong += differs(f"armc-export {words} with a full device", to_full_device(tool_words("armc-export", *words, *lock)), (8, False))
     found = export("--help")
     return wrong + differs("armc-export --help", (found.returncode, found.stdout.startswith("usage: ")), (0, True))
 
@@ -199,9 +187,7 @@ def silent_mona(folder, lock):
     ):
         path = os.path.join(folder, "mona")
         if text:
-            with open(path, "w") as file:
-                file.write(f"#!/bin/sh\n{text.replace('sleep', 'exec sleep')}\n")
-            os.chmod(path, 0o755)
+            write(path, f"#!/bin/sh\n{text.replace('sleep', 'exec sleep')}\n", script=True)
         os.makedirs(os.path.join(folder, "tools"), exist_ok=True)
         for name in ("sh", "sleep", "stdbuf"):
             if shutil.which(name) and not os.path.exists(os.path.join(folder, "tools", name)):
@@ -236,8 +222,8 @@ def formats(_):
     wrong, words = [], [example("tickets.armc"), example("tickets.cert")]
     for to, text in (("openfst", OPENFST), ("dot", DOT), ("mata", MATA)):
         wrong += differs(f"the tickets to {to}", export("--to", to, *words).stdout, text)
-        shown, status = on_terminal([*EXPORT, "--to", to, *words])
-        wrong += differs(f"the tickets to {to} on a terminal", (status, shown.replace("\r\n", "\n").expandtabs()), (0, text.expandtabs()))
+        shown, status = on_terminal(tool_words("armc-export", "--to", to, *words))
+        wrong += differs(f"the tickets to {to} on a terminal", (status, shown.expandtabs()), (0, text.expandtabs()))
     with tempfile.TemporaryDirectory() as folder:
         rules = [f"rule-{name}" for name in ("enter", "leave", "request")]
         parts = [f"rule-{number}-{name}" for number, name in enumerate(("request", "enter", "leave"), 1)]
@@ -259,11 +245,11 @@ def judgements(program):
         return "mona is not there"
     wrong, cases = [], (("tickets.armc", "check"), ("german.armc", "check"), ("tickets.armc", "deadlock"), ("tutorial/lock.armc", "deadlock"))
     for name, command in cases:
-        text = subprocess.run([program, command, example(name)], capture_output=True, text=True).stdout
+        text = printed(program, command, example(name))
         found = export("--judge", example(name), "-", text=text)
         wrong += differs(f"MONA on {command} {name}", (found.returncode, found.stdout, found.stderr), (0, "valid\n", ""))
     wrong += judged_properties(program) + told_example()
-    shown, status = on_terminal([*EXPORT, "--judge", example("tickets.armc"), example("tickets.cert")])
+    shown, status = on_terminal(tool_words("armc-export", "--judge", example("tickets.armc"), example("tickets.cert")))
     wrong += differs("MONA on a terminal", (status, shown), (0, "valid\r\n"))
     with tempfile.NamedTemporaryFile("w", suffix=".armc") as file:
         file.write(LOOKS_BACK)
@@ -275,7 +261,7 @@ def judgements(program):
 
 def told_example():
     """What the page of the tools shows of a proof that lacks an edge: the part that fails, whatever counterexample MONA takes."""
-    told = re.search(r"--judge\n(not valid: .*\n.*\n)", read(os.path.join(tools.TOP, "docs", "TOOLS.md")))[1]
+    told = re.search(r"--judge\n(not valid: .*\n.*\n)", read("docs", "TOOLS.md"))[1]
     proof = read(example("tickets.cert")).replace("edge 1 P.i 1\n", "")
     found = export("--judge", example("tickets.armc"), "-", text=proof)
     return differs("the page's example", (found.returncode, part_of(found.stdout), found.stdout.split("\n")[1:]), (7, part_of(told), told.split("\n")[1:]))
@@ -284,7 +270,7 @@ def told_example():
 def judged_properties(program):
     """What `checkall` prints, one of its proofs alone, and a proof that says nothing of a property."""
     words = [example("patterns", f"several_properties.{ending}") for ending in ("armc", "props")]
-    text = subprocess.run([program, "checkall", *words], capture_output=True, text=True).stdout
+    text = printed(program, "checkall", *words)
     names = re.findall(r"^property (\w+)\n", text, re.M)
     found = export("--judge", words[0], "-", "--properties", words[1], text=text)
     told = [line for line in found.stdout.splitlines() if not line.startswith("property ")]
@@ -308,20 +294,12 @@ def mutants(program, searches, count, seed):
 
 def proof_of(program, path, command, *words):
     """The automaton that a search prints, or nothing."""
-    found = subprocess.run([program, command, path, *words], stdin=subprocess.DEVNULL, capture_output=True, text=True, timeout=SECONDS)
+    found = run([program, command, path, *words])
     return found.stdout if found.returncode == 0 else ""
 
 
 CHECKS = {"armc-export, its reader": readers, "armc-export, with faults": faults, "armc-export, its formats": formats, "armc-export, judged by MONA": judgements}
 
 
-def checks(program):
-    """Each check with its name; they are made side by side."""
-    with ThreadPoolExecutor(4) as pool:
-        found = [(name, pool.submit(check, program)) for name, check in CHECKS.items()]
-        yield from ((name, lines.result()) for name, lines in found)
-
-
 if __name__ == "__main__":
-    for name, lines in checks(os.path.abspath(sys.argv[1])):
-        print(f"{name}: skipped, since {lines}" if isinstance(lines, str) else f"{name}: {'ok' if not lines else lines[:5]}", flush=True)
+    sys.exit(main(CHECKS))

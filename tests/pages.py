@@ -1,19 +1,14 @@
 """Whether pages, manual pages, syntax files and completions have the words of the language and of the program: the reserved words as the
 sources have them, the productions as the definition of the grammar has them beside it, and the commands with their options as the
-program's usage line has them.
+program's usage line has them. Usage: tests/pages.py [PROGRAM] [NAME..]
 """
 import glob
 import json
 import os
 import re
-import subprocess
+import sys
 
-TOP = os.path.dirname(os.path.dirname(os.path.abspath(__file__)))
-
-
-def read(*parts):
-    with open(os.path.join(TOP, *parts), encoding="utf-8") as file:
-        return file.read()
+from support import TOP, main, read, run
 
 
 def source_with(folders, what):
@@ -61,7 +56,7 @@ def textmate_words():
     return grouped.split("|"), listed.split("|")
 
 
-def wrong_reserved_words():
+def wrong_reserved_words(_):
     """Where a page or a syntax file does not have exactly the reserved words."""
     words = reserved_words()
     lines = differences("docs/LANGUAGE.md", language_page_words(), words)
@@ -74,12 +69,11 @@ def wrong_reserved_words():
 def told_productions():
     """The productions of the language page: each with its alternatives, one a line."""
     block = re.search(r"^## Grammar$.*?^```\n(.*?)^```$", read("docs", "LANGUAGE.md"), re.M | re.S)[1]
-    found = {}
+    found, name = {}, None
     for line in block.splitlines():
-        name, alternative = re.match(r"(\w*) +[=|] (.*)", line).groups()
-        name = name or last
+        new, alternative = re.match(r"(\w*) +[=|] (.*)", line).groups()
+        name = new or name
         found.setdefault(name, []).append(alternative)
-        last = name
     return found
 
 
@@ -95,7 +89,7 @@ def is_defined(name, alternative, comments):
     return any(comment.startswith(start) or f" {name} = {alternative}" in comment for comment in comments for start in starts)
 
 
-def wrong_productions():
+def wrong_productions(_):
     """Where the language page has a production that the definition of the grammar does not have so, or a word that is not reserved."""
     comments, words, lines = defined_productions(), reserved_words(), []
     for name, alternatives in told_productions().items():
@@ -109,7 +103,7 @@ def wrong_productions():
 
 def usage(program):
     """The commands of the program's usage line: each with its words, as they stand there."""
-    told = subprocess.run([program], stdin=subprocess.DEVNULL, capture_output=True, text=True).stderr
+    told = run([program]).stderr
     return re.fullmatch(r"armc: usage: (.*)\n", told)[1].split("; ")
 
 
@@ -136,17 +130,40 @@ def wrong_commands(program):
     return lines
 
 
+def headings(text):
+    """What a page can be referred to by: its headings, and the bold words that begin a paragraph."""
+    return [heading.replace("`", "") for pair in re.findall(r"^#+ (.*)$|^\*\*(.*?)\.?\*\*", text, re.M) for heading in pair if heading]
+
+
+def wrong_references(_):
+    """Where a page refers to a heading, as `(docs/TOOLS.md, A release)`, that the other page has not, to no page, or by a link to none of its own."""
+    names = ["README.md", "CONTRIBUTING.md", "CHANGELOG.md", *sorted(os.path.relpath(path, TOP) for path in glob.glob(os.path.join(TOP, "docs", "*.md")))]
+    pages, lines = {name: read(name) for name in names}, []
+    for name, text in pages.items():
+        for page, heading in re.findall(r"`?(docs/\w+\.md|\bREADME\b)`?(?:, ([A-Z][^,;.()|\n]*))?", text):
+            other = pages.get(page.replace("README", "README.md"))
+            there = other and (not heading or any(heading.replace("`", "").startswith(each) for each in headings(other)))
+            lines += [] if there else [f"{name} refers to {page}, {heading}, which is not there"]
+        anchors = [re.sub(r"[^\w -]", "", heading.lower()).replace(" ", "-") for heading in headings(text)]
+        lines += [f"{name} has no heading for the link #{link}" for link in re.findall(r"\]\(#([\w-]+)\)", text) if link not in anchors]
+    return lines
+
+
 def told_by(script):
     """What the script says where it fails."""
-    found = subprocess.run([os.path.join(TOP, "tests", script)], capture_output=True, text=True)
+    found = run([os.path.join(TOP, "tests", script)])
     return (found.stdout + found.stderr).splitlines() if found.returncode else []
 
 
-def checks(program):
-    """Each check with its name."""
-    yield "definitions page", told_by("definitions-page")
-    yield "public calls on pages", told_by("public-calls")
-    yield "reserved words on pages", wrong_reserved_words()
-    yield "productions on pages", wrong_productions()
-    if program:
-        yield "commands on pages", wrong_commands(program)
+CHECKS = {
+    "definitions page": lambda _: told_by("definitions-page"),
+    "picture and table of crates": lambda _: told_by("crate-picture"),
+    "public calls on pages": lambda _: told_by("public-calls"),
+    "reserved words on pages": wrong_reserved_words,
+    "productions on pages": wrong_productions,
+    "commands on pages": wrong_commands,
+    "references of pages": wrong_references,
+}
+
+if __name__ == "__main__":
+    sys.exit(main(CHECKS))

@@ -1,21 +1,19 @@
 """What the tools do that put many questions to the program: deadlocks by every method, properties side by side, coverage with limits, the commands
-in heads of protocols of a folder, and walks. Each check is a pair of a name and a list of lines that say what is wrong. Usage: tests/search_tools.py PROGRAM
+in heads of protocols of a folder, and walks. Usage: tests/search_tools.py [PROGRAM] [NAME..]
 """
 import glob
 import os
 import random
 import re
 import signal
-import subprocess
 import sys
 import tempfile
 import time
 
-sys.dont_write_bytecode = True
-import definitions  # noqa: E402, beside this file
-from tools import TOOLS, TOP, call, differs, example, interrupted, judged, on_terminal, read, read_canonical  # noqa: E402
-from armc_tools.protocol import Protocol  # noqa: E402
-from armc_tools.stuck import Stuck, Unsaid  # noqa: E402
+from support import SYSTEMS, TOP, call, canonical, differs, example, interrupted, judged, main, on_terminal, printed, read, run, to_full_device, tool_words, without_comments, write, wrong_refusal
+import definitions
+from armc_tools.protocol import Protocol
+from armc_tools.stuck import Stuck, Unsaid
 
 # An end that is meant, without a rule that says so.
 ENDS = """protocol ends
@@ -29,10 +27,6 @@ bad { C: closed; P: any* w any*; }
 END = "C: closed; P: d*"
 # How many protocols are made by chance.
 MADE = 40
-
-
-def without_comments(text):
-    return "\n".join(line for line in text.splitlines() if line and not line.startswith("#"))
 
 
 def made_protocol(chance):
@@ -72,10 +66,10 @@ def wrong_stuck(text, most, ends=()):
     return wrong
 
 
-def stuck_rows():
+def stuck_rows(_):
     """The rows of what is stuck against the definitions, on the systems and on protocols made by chance; refused where patterns cannot say it."""
     wrong, chance = [], random.Random(66)
-    for path in sorted(glob.glob(os.path.join(TOP, "tests", "systems", "*.armc"))):
+    for path in sorted(glob.glob(os.path.join(SYSTEMS, "*.armc"))):
         text = read(path)
         sections = definitions.Steps(text).sections
         for ends in ([], [{sections[0][0]: f"{sections[0][2][0]} any*"}]):
@@ -95,7 +89,7 @@ def deadlock_answer(program, path, *words):
     """The answer of the portfolio, and what the second checker says of it."""
     found = call(program, "armc-portfolio", "--deadlock", "--jobs", "2", *words, path)
     buts = [word for at, word in enumerate(words) if "--but" in (word, words[at - 1])]
-    told = subprocess.run([sys.executable, os.path.join(TOOLS, "armc-second-opinion"), path, "/dev/stdin", *buts], input=found.stdout, capture_output=True, text=True)
+    told = run(tool_words("armc-second-opinion", path, "/dev/stdin", *buts), input=found.stdout)
     return found, told.stdout.strip()
 
 
@@ -103,57 +97,47 @@ def deadlocks(program):
     """Answers that agree with `deadlock`, by rows where that alone has none, and ends that are meant."""
     wrong = []
     for name in ("tickets", "open_door", "two_phase_commit", "queue_lock", "peterson2", "tutorial/lock", "philosophers", "handoff", "readers_writers"):
-        alone = subprocess.run([program, "deadlock", example(f"{name}.armc")], capture_output=True, text=True)
+        alone = run([program, "deadlock", example(f"{name}.armc")])
         found, told = deadlock_answer(program, example(f"{name}.armc"), "--one-order")
         wrong += differs(f"deadlocks of {name}", (found.returncode, found.stdout.partition("\n")[0], told), (alone.returncode, alone.stdout.partition("\n")[0], "valid"))
     hard = example("hard", "queued_spinlock.armc")
     found, told = deadlock_answer(program, hard, "--one-order")
     wrong += differs("deadlocks by rows", (found.returncode, found.stdout[:14], told, "where STUCK is what" in found.stderr), (0, "deadlock free\n", "valid", True))
-    wrong += differs("the kept rows", without_comments(read(example("hard", "queued_spinlock_stuck.armc"))) + "\n", call(program, "armc-portfolio", "--stuck", hard).stdout)
+    wrong += differs("the kept rows", without_comments(read(example("hard", "queued_spinlock_stuck.armc"))), call(program, "armc-portfolio", "--stuck", hard).stdout)
     wrong += deadlock_faults(program, hard)
     with tempfile.TemporaryDirectory() as folder:
-        path, bare = (os.path.join(folder, f"{name}.armc") for name in ("ends", "bare"))
-        with open(path, "w") as file:
-            file.write(ENDS)
+        path, bare = write(os.path.join(folder, "ends.armc"), ENDS), os.path.join(folder, "bare.armc")
         found, told = deadlock_answer(program, path)
         wrong += differs("an end that is not meant", (found.returncode, found.stdout[-20:], told), (1, "C: closed; P: d\nend\n", "valid"))
         found, told = deadlock_answer(program, path, "--but", END)
         wrong += differs("an end that is meant", (found.returncode, found.stdout[:14], told), (0, "deadlock free\n", "valid"))
         wrong += wrong_stuck_protocol(program, path, bare)
-        with open(path, "w") as file:
-            file.write(f"# may end: {END};\n{ENDS}")
+        write(path, f"# may end: {END};\n{ENDS}")
         found, _ = deadlock_answer(program, path)
         wrong += differs("an end that the head means", (found.returncode, f"--but '{END};'" in found.stderr), (0, True))
         for row, said in (("C: shut", "unknown shut"), ("C: open; C: open", "duplicate C"), ("P: d* }", "unexpected token")):
-            found = call(program, "armc-portfolio", "--deadlock", "--but", row, path)
-            wrong += differs(f"--but {row}", (found.returncode, found.stdout, said in found.stderr), (3, "", True))
-        found = call(program, "armc-portfolio", "--but", END, path)
-        wrong += differs("--but alone", (found.returncode, found.stdout), (3, ""))
-    return wrong
+            wrong += wrong_refusal(f"--but {row}", call(program, "armc-portfolio", "--deadlock", "--but", row, path), 3, said)
+        return wrong + wrong_refusal("--but alone", call(program, "armc-portfolio", "--but", END, path), 3, "")
 
 
 def deadlock_faults(program, hard):
     """No answer with a small budget, a full device, an interrupt and a terminal."""
     found = call(program, "armc-portfolio", "--deadlock", "--one-order", "--jobs", "2", "--budget", "100", hard)
     wrong = differs("no deadlock found", (found.returncode, found.stdout, bool(re.search(r"^  check --method length of what is stuck +counted 1\d\d$", found.stderr, re.M))), (2, "", True))
-    with open("/dev/full", "w") as full:
-        found = call(program, "armc-portfolio", "--deadlock", example("open_door.armc"), capture_output=False, stdout=full, stderr=subprocess.PIPE)
-    wrong += differs("deadlocks to a full device", (found.returncode, "Traceback" in found.stderr), (8, False))
-    shown, status = on_terminal([sys.executable, os.path.join(TOOLS, "armc-portfolio"), "--program", program, "--deadlock", example("open_door.armc")])
-    wrong += differs("deadlocks on a terminal", (status, "deadlock\r\nstart P: i\r\n" in shown), (1, True))
+    wrong += differs("deadlocks to a full device", to_full_device(tool_words("armc-portfolio", "--program", program, "--deadlock", example("open_door.armc"))), (8, False))
+    shown, status = on_terminal(tool_words("armc-portfolio", "--program", program, "--deadlock", example("open_door.armc")))
+    wrong += differs("deadlocks on a terminal", (status, "deadlock\nstart P: i\n" in shown), (1, True))
     status, out, err, left = interrupted(program, "armc-portfolio", ["--deadlock", "--budget", "1000000", hard], signal.SIGTERM, "deadlock")
     return wrong + differs("an interrupt", (status, out, "interrupted; tried" in err, "Traceback" in err, left), (130, "", True, False, []))
 
 
 def wrong_stuck_protocol(program, path, bare):
     """What --stuck prints is the protocol with rows, of which `check` gives the answer; and a refusal where there are none."""
-    printed = call(program, "armc-portfolio", "--stuck", "--but", END, path)
-    with open(bare, "w") as file:
-        file.write(printed.stdout)
-    found = subprocess.run([program, "check", bare], capture_output=True, text=True)
+    rows = call(program, "armc-portfolio", "--stuck", "--but", END, path)
+    found = run([program, "check", write(bare, rows.stdout)])
     text = found.stdout.replace("armc 1 safe", "deadlock free", 1)
-    told = subprocess.run([sys.executable, os.path.join(TOOLS, "armc-second-opinion"), path, "/dev/stdin", "--but", END], input=text, capture_output=True, text=True)
-    wrong = differs("the proof for the rows", (printed.returncode, found.returncode, told.stdout), (0, 0, "valid\n"))
+    told = run(tool_words("armc-second-opinion", path, "/dev/stdin", "--but", END), input=text)
+    wrong = differs("the proof for the rows", (rows.returncode, found.returncode, told.stdout), (0, 0, "valid\n"))
     found = call(program, "armc-portfolio", "--stuck", example("patterns", "queue_of_nodes.armc"))
     return wrong + differs("--stuck that is not said", (found.returncode, found.stdout, "what is stuck is not said" in found.stderr), (2, "", True))
 
@@ -172,9 +156,7 @@ bad { P: any* x any*; }
 def coverage(program):
     """Limits of time and memory, rows as they come and a table at the end, proofs of the protocol that show what never comes, and open rows."""
     with tempfile.TemporaryDirectory() as folder:
-        path = os.path.join(folder, "open.armc")
-        with open(path, "w") as file:
-            file.write(OPEN)
+        path = write(os.path.join(folder, "open.armc"), OPEN)
         found = call(program, "armc-coverage", "--jobs", "2", path)
         table = re.search(r"^letter  P.x +never +proof with \d states?  <-- dead$", found.stdout, re.M)
         rows = found.stdout.partition("\nAt the start anything may stand where an init row leaves out a section:\n")[2].splitlines()
@@ -197,7 +179,7 @@ def rows_of_table(text):
 
 
 def asked_names(program, path):
-    protocol = Protocol(read_canonical(program, path))
+    protocol = Protocol(canonical(program, path))
     return sum(len(section.letters) for section in protocol.sections) + len(protocol.rules)
 
 
@@ -215,12 +197,10 @@ def properties(program):
     """The table, the certificates of a folder, what a given certificate shows, and what is refused."""
     wrong, tickets = [], example("tickets.armc")
     with tempfile.TemporaryDirectory() as folder:
-        path, kept = os.path.join(folder, "props"), os.path.join(folder, "kept")
-        with open(path, "w") as file:
-            file.write(PROPS)
+        path, kept = write(os.path.join(folder, "props"), PROPS), os.path.join(folder, "kept")
         found = call(program, "armc-properties", "--jobs", "2", "--certificates", kept, tickets, path)
         rows = {row[0]: row[1:] for row in (line.split() for line in found.stdout.splitlines()[1:])}
-        alone = subprocess.run([program, "checkall", tickets, path], capture_output=True, text=True).stdout
+        alone = printed(program, "checkall", tickets, path)
         told = dict(re.findall(r"^property (\w+)\narmc 1 (\w+)$", alone, re.M))
         wrong += differs("the answers", (found.returncode, {name: row[0] for name, row in rows.items()}), (1, told))
         for name, row in rows.items():
@@ -234,55 +214,41 @@ def properties(program):
         wrong += differs("what a run shows", (found.returncode, "waiting                  unsafe" in found.stdout), (1, True))
         found = call(program, "armc-properties", tickets, path, "-", text="armc 1 unknown\n")
         wrong += differs("no certificate", (found.returncode, found.stderr), (6, "armc: certificate: line 1: nothing to verify\n"))
-        wrong += wrong_properties(program, path) + one_proof_for_many(program, folder)
-    for words, told in re.findall(r"^\$ armc-properties (.*)\n((?:.*\n)*?)```$", read(os.path.join(TOP, "docs", "TOOLS.md")), re.M):
+        wrong += wrong_properties(program, path)
+        # (where each search alone reaches its budget, one check of all together answers)
+        found = call(program, "armc-properties", "--jobs", "2", "--budget", "3", "--seconds", "20", tickets, path)
+        wrong += differs("by the portfolio", (found.returncode, "unknown" in found.stdout), (1, False))
+    for words, told in re.findall(r"^\$ armc-properties (.*)\n((?:.*\n)*?)```$", read("docs", "TOOLS.md"), re.M):
         found = call(program, "armc-properties", *words.split(), cwd=TOP)
         wrong += differs(f"armc-properties {words}", found.stdout, told)
     return wrong
-
-
-def one_proof_for_many(program, folder):
-    """Where each search alone reaches its budget, one check of all together answers."""
-    path = os.path.join(folder, "many")
-    with open(path, "w") as file:
-        file.write(PROPS)
-    found = call(program, "armc-properties", "--jobs", "2", "--budget", "3", "--seconds", "20", example("tickets.armc"), path)
-    return differs("by the portfolio", (found.returncode, "unknown" in found.stdout), (1, False))
 
 
 def wrong_properties(program, path):
     """Faults: a text of properties that is refused, missing files, a refused protocol, a full device, an interrupt."""
     wrong, tickets = [], example("tickets.armc")
     with tempfile.TemporaryDirectory() as folder:
-        refused = os.path.join(folder, "refused")
-        with open(refused, "w") as file:
-            file.write("bad one { P: any* z; }\n")
+        refused = write(os.path.join(folder, "refused"), "bad one { P: any* z; }\n")
         for words, status, said in (([tickets], 3, "usage: "), ([tickets, refused], 6, "armc: properties: line 1 column 19: unknown z\n"),
                                     ([tickets, os.path.join(folder, "nowhere")], 4, "read fault"), ([os.path.join(folder, "nowhere"), path], 4, "read fault"),
                                     ([refused, path], 5, "armc: protocol: line 1 column 1: unexpected token\n"), ([tickets, "-", "-"], 3, "one text alone")):
-            found = call(program, "armc-properties", *words)
-            wrong += differs(f"armc-properties {words}", (found.returncode, found.stdout, said in found.stderr, "Traceback" in found.stderr), (status, "", True, False))
-        with open("/dev/full", "w") as full:
-            found = call(program, "armc-properties", tickets, path, capture_output=False, stdout=full, stderr=subprocess.PIPE)
-        wrong += differs("a full device", (found.returncode, "Traceback" in found.stderr), (8, False))
-    tool = [sys.executable, os.path.join(TOOLS, "armc-properties"), "--program", program, "--jobs", "1", tickets, path]
+            wrong += wrong_refusal(f"armc-properties {words}", call(program, "armc-properties", *words), status, said)
+        wrong += differs("a full device", to_full_device(tool_words("armc-properties", "--program", program, tickets, path)), (8, False))
+    tool = tool_words("armc-properties", "--program", program, "--jobs", "1", tickets, path)
     shown, status = on_terminal(tool)
-    piped = subprocess.run(tool, capture_output=True, text=True)
-    wrong += differs("on a terminal", (status, shown.replace("\r\n", "\n")), (piped.returncode, piped.stdout))
+    piped = run(tool)
+    wrong += differs("on a terminal", (status, shown), (piped.returncode, piped.stdout))
     with tempfile.TemporaryDirectory() as folder:
-        hard = os.path.join(folder, "hard")
-        with open(hard, "w") as file:
-            file.write("bad both { P: any* { c cy cx cxy } any* { c cy cx cxy } any*; }\n")
+        hard = write(os.path.join(folder, "hard"), "bad both { P: any* { c cy cx cxy } any* { c cy cx cxy } any*; }\n")
         status, out, err, left = interrupted(program, "armc-properties", [example("hard", "lamport_fast.armc"), hard], signal.SIGINT)
     return wrong + differs("an interrupt", (status, out.split()[:2], "Traceback" in err, left), (130, ["property", "answer"], False, []))
 
 
 def head_commands(program):
     """The commands in heads of protocols of a folder, ends that are meant, sizes of proofs, and words that mean nothing."""
-    bare = "\n".join(line for line in read(example("tickets.armc")).splitlines() if not line.startswith("#"))
+    bare = without_comments(read(example("tickets.armc")))
     with tempfile.TemporaryDirectory() as folder:
-        with open(os.path.join(folder, "p.props"), "w") as file:
-            file.write(PROPS)
+        write(os.path.join(folder, "p.props"), PROPS)
         for name, head, text in (
             ("back", "# command: back\n# expect: safe\n", bare), ("past", "# command: past\n# options: --bound 1\n# expect: safe\n", bare),
             ("check", "# expect: safe\n", bare), ("free", "# command: deadlock\n# expect: deadlock free\n", bare),
@@ -290,8 +256,7 @@ def head_commands(program):
             ("properties", "# command: properties p.props\n# expect: unsafe\n", bare), ("none", "# command: backward\n# expect: safe\n", bare),
             ("options", "# options: --methods length\n# expect: safe\n", bare),
         ):
-            with open(os.path.join(folder, f"{name}.armc"), "w") as file:
-                file.write(f"{head}{text}\n")
+            write(os.path.join(folder, f"{name}.armc"), f"{head}{text}\n")
         found = call(program, "check-folder", "--jobs", "2", folder)
     shown = {os.path.basename(line.split()[0])[:-5]: re.sub(r"^.*\d s +| +<-- .*", "", line) for line in found.stdout.splitlines()[1:-1]}
     wrong = differs("commands of heads", (found.returncode, found.stdout.splitlines()[-1]), (1, "7 as expected, 2 not, 0 expect nothing"))
@@ -300,15 +265,13 @@ def head_commands(program):
     return wrong + differs("a proof, a run and properties", (shown["free"], shown["end"], shown["properties"]), ("proof with 2 states", "run of 2 steps", "2 safe, 2 unsafe"))
 
 
-def checks(program):
-    """Each check with its name."""
-    yield "rows of what is stuck", stuck_rows()
-    yield "deadlocks by every method", deadlocks(program)
-    yield "coverage with limits", coverage(program)
-    yield "armc-properties", properties(program)
-    yield "commands in heads", head_commands(program)
-
+CHECKS = {
+    "rows of what is stuck": stuck_rows,
+    "deadlocks by every method": deadlocks,
+    "coverage with limits": coverage,
+    "armc-properties": properties,
+    "commands in heads": head_commands,
+}
 
 if __name__ == "__main__":
-    for name, lines in checks(os.path.abspath(sys.argv[1])):
-        print(f"{name}: skipped, since {lines}" if isinstance(lines, str) else f"{name}: {'ok' if not lines else lines[:5]}", flush=True)
+    sys.exit(main(CHECKS))

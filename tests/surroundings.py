@@ -1,8 +1,7 @@
 """What stands around the program: the launcher and its build, install, manual pages, completions, syntax files for editors, the check of a
-folder, and the pages for newcomers. Each check is a pair of a name and a list of lines that say what is wrong, or a word that says why it
-was skipped: a checker (mandoc, zsh, fish, vim) that is not on this machine.
+folder, and the pages for newcomers. A checker (mandoc, zsh, fish, vim) that is not on this machine leaves its case out.
+Usage: tests/surroundings.py [PROGRAM] [NAME..]
 """
-import functools
 import glob
 import json
 import os
@@ -12,10 +11,8 @@ import signal
 import subprocess
 import sys
 import tempfile
-import time
 
-TOP = os.path.dirname(os.path.dirname(os.path.abspath(__file__)))
-SECONDS = 300
+from support import SECONDS, TOP, call, example, main, read, run, till, tool_words, write
 
 # A toolchain that proves nothing. `rattle` writes the crate that it was asked for to a list and wants the libraries below, and `rattle-link` makes
 # a program that prints its words.
@@ -53,15 +50,6 @@ chmod +x "$2"
 CRATES = "low:\nmiddle: low io\nother: low\ntop: middle other\narmc: top\ntests: top\n"
 
 
-def read(*parts):
-    with open(os.path.join(TOP, *parts), encoding="utf-8") as file:
-        return file.read()
-
-
-def run(words, **how):
-    return subprocess.run(words, stdin=subprocess.DEVNULL, capture_output=True, text=True, timeout=SECONDS, **how)
-
-
 def differences(found, wanted):
     return [f"{name} is {f!r}, and must be {w!r}" for name, (f, w) in {name: (found.get(name), wanted[name]) for name in wanted}.items() if f != w]
 
@@ -78,29 +66,24 @@ class Tree:
             shutil.copytree(os.path.join(TOP, name), os.path.join(self.top, name))
         for name in ("first.armc", "first.cert"):
             shutil.copy(os.path.join(TOP, "examples", name), os.path.join(self.top, "examples"))
-        with open(os.path.join(self.top, "crates.txt"), "w") as file:
-            file.write(CRATES)
+        write(os.path.join(self.top, "crates.txt"), CRATES)
         for line in CRATES.splitlines():
             os.makedirs(os.path.join(self.top, "crates", line.partition(":")[0], "src"))
-        with open(os.path.join(self.top, "HANDLES"), "w") as file:
-            file.write("Handles allowed: none.\n")
+        write(os.path.join(self.top, "HANDLES"), "Handles allowed: none.\n")
         self.kit = os.path.join(folder, "kit")
         self.bin = os.path.join(self.kit, "bin")
         for name in ("bin", "rlibs/std.rlib", "rlibs/io.rlib"):
             os.makedirs(os.path.join(self.kit, name))
         for name, text in (("rt", RT), ("rattle", RATTLE), ("rattle-link", LINKER)):
-            with open(os.path.join(self.bin, name), "w") as file:
-                file.write(text)
-            os.chmod(os.path.join(self.bin, name), 0o755)
+            write(os.path.join(self.bin, name), text, script=True)
         self.environment = {**os.environ, "PATH": f"{self.bin}:{os.environ['PATH']}", "FAKE_TOP": self.kit, "FAKE_LIST": self.list}
         self.environment.update(FAKE_KIT="rattle-kit-13b", FAKE_SLOW="", FAKE_FAULT="", FAKE_EDIT="", FAKE_KILL="", TMPDIR=folder, ARMC_JOBS="2")
         self.environment.pop("ARMC_TRY", None)
 
     def call(self, *words, program="armc", **changed):
-        open(self.list, "w").close()
+        write(self.list, "")
         found = run([os.path.join(self.top, program), *words], env={**self.environment, **changed}, cwd=self.top)
-        with open(self.list) as file:
-            return {"status": found.returncode, "stdout": found.stdout, "stderr": found.stderr, "asked": file.read().split()}
+        return {"status": found.returncode, "stdout": found.stdout, "stderr": found.stderr, "asked": read(self.list).split()}
 
     def out(self, name, *parts):
         return os.path.join(self.top, "crates", name, "out", *parts)
@@ -109,11 +92,11 @@ class Tree:
         shutil.rmtree(self.out("armc"), ignore_errors=True)
 
     def change(self, name):
-        with open(os.path.join(self.top, "crates", name, "src", "lib.rt"), "a") as file:
-            file.write("//\n")
+        path = os.path.join(self.top, "crates", name, "src", "lib.rt")
+        write(path, (read(path) if os.path.exists(path) else "") + "//\n")
 
 
-def launcher():
+def launcher(_):
     """The launcher over the toolchain above: what it asks of it, what it says, and its status."""
     with tempfile.TemporaryDirectory() as folder:
         tree, wrong = Tree(folder), []
@@ -125,8 +108,7 @@ def launcher():
             wrong.append(f"it says {found['stderr']!r}")
         wrong += ["its logs are left"] if any(name.startswith("armc-build-") for name in os.listdir(folder)) else []
         for name, jobs in (("low", 2), ("middle", 1), ("other", 1), ("top", 2)):
-            with open(tree.out(name, "statements", f"{name}.rlib", "words")) as file:
-                words = file.read()
+            words = read(tree.out(name, "statements", f"{name}.rlib", "words"))
             wrong += [] if f" --jobs {jobs} --statements -o " in words else [f"words for {name}: {words}"]
         for proved in ({}, {"ARMC_TRY": "0"}):
             wrong += differences(tree.call("x", **proved), {"status": 3, "stdout": "words: x\n", "stderr": "", "asked": []})
@@ -164,7 +146,7 @@ def launcher_faults(tree):
     return wrong
 
 
-def launcher_unproved():
+def launcher_unproved(_):
     """ARMC_TRY=1: the words reach `rt try`, with the files' whole paths, the status is the program's, and it says that nothing is proved."""
     with tempfile.TemporaryDirectory() as folder:
         tree = Tree(folder)
@@ -181,12 +163,9 @@ def launcher_unproved():
 def stopped_build(tree, number):
     """Status and standard error of a build that a signal reaches while it proves the last of the libraries."""
     # (a program that a shell started in the background is handed a SIGINT that is ignored)
-    answering = functools.partial(signal.signal, signal.SIGINT, signal.SIG_DFL)
-    words = [os.path.join(tree.top, "tools", "build-program")]
-    build = subprocess.Popen(words, env={**tree.environment, "FAKE_SLOW": "top"}, stderr=subprocess.PIPE, text=True, preexec_fn=answering)
-    end = time.monotonic() + 60
-    while time.monotonic() < end and not (os.path.exists(tree.list) and "top" in read(tree.list)):
-        time.sleep(0.1)
+    signal.signal(signal.SIGINT, signal.default_int_handler)
+    build = subprocess.Popen([os.path.join(tree.top, "tools", "build-program")], env={**tree.environment, "FAKE_SLOW": "top"}, stderr=subprocess.PIPE, text=True)
+    till(lambda: os.path.exists(tree.list) and "top" in read(tree.list))
     build.send_signal(number)
     try:
         said = build.communicate(timeout=SECONDS)[1]
@@ -196,7 +175,7 @@ def stopped_build(tree, number):
     return build.returncode, said
 
 
-def launcher_interrupted():
+def launcher_interrupted(_):
     """An interrupt ends what runs, what is proved stays, and the next call goes on; so it does after a build that was killed."""
     wrong = []
     for number, status, words in ((signal.SIGINT, 130, "interrupted; what is proved is kept"), (signal.SIGKILL, -signal.SIGKILL, "")):
@@ -208,7 +187,7 @@ def launcher_interrupted():
     return wrong
 
 
-def installed():
+def installed(_):
     """install puts what tools/install-list names under a prefix, and takes all of it away."""
     with tempfile.TemporaryDirectory() as folder:
         tree, prefix = Tree(folder), os.path.join(folder, "prefix")
@@ -235,7 +214,7 @@ def lint_pages(folder):
     return lines + ([] if len(pages) == 4 else [f"the pages are {pages}"])
 
 
-def manual_pages():
+def manual_pages(_):
     if not shutil.which("mandoc"):
         return "mandoc is not there"
     with tempfile.TemporaryDirectory() as folder:
@@ -254,7 +233,7 @@ def wrong_words(shell, told, wanted):
     return [] if sorted(told.split()) == sorted(wanted.split()) else [f"{shell} offers {told.split()}, and must offer {wanted.split()}"]
 
 
-def completions_of_bash():
+def completions_of_bash(_):
     ask = (
         'source completions/armc.bash; for line in "armc |" "armc check |--" "armc check f --method|" "armc gen |--w" "armc show |examples/tick"; do '
         'read -ra COMP_WORDS <<<"${line/|/}"; [ "${line: -1}" = "|" ] && COMP_WORDS+=(""); COMP_CWORD=$((${#COMP_WORDS[@]}-1)); '
@@ -279,12 +258,12 @@ def offered_for(tool):
         yield "fish", " ".join(["--help", *(line.split("\t")[0] for line in told.splitlines())])
 
 
-def completions_of_tools():
+def completions_of_tools(_):
     """The options that the shells offer for each tool are those of its help, and the manual page names them all."""
     wrong, page = [], (read("man", "armc-tools.1") + read("man", "armc-expand.1")).replace("Fl -", "--")
     for tool in ("armc-portfolio", "armc-coverage", "armc-explain", "armc-walk", "armc-properties", "armc-expand", "armc-second-opinion", "armc-export",
                  "armc-search-one", "armc-check-folder"):
-        told = run([sys.executable, os.path.join(TOP, "tools", tool.replace("armc-check", "check")), "--help"]).stdout
+        told = run(tool_words(tool.replace("armc-check", "check"), "--help")).stdout
         options = set(re.findall(r"(?<![\w-])--[\w-]+", told))
         for shell, offered in offered_for(tool):
             wrong += wrong_words(f"{shell}, for {tool},", offered, " ".join(options))
@@ -292,7 +271,7 @@ def completions_of_tools():
     return wrong
 
 
-def completions_of_zsh():
+def completions_of_zsh(_):
     if not shutil.which("zsh"):
         return "zsh is not there"
     # The functions of zsh that offer words are replaced by ones that print what they are given.
@@ -304,7 +283,7 @@ def completions_of_zsh():
     return wrong + wrong_words("zsh", " ".join(re.findall(r"^--\w+", told[2].stdout, re.M)), "--workers")
 
 
-def completions_of_fish():
+def completions_of_fish(_):
     if not shutil.which("fish"):
         return "fish is not there"
     wrong = []
@@ -367,7 +346,7 @@ def kinds_of(line, template=False):
 
 def protocols():
     """The protocols, the texts of properties and the templates below examples."""
-    return sorted(path for ending in ("armc", "props", "armct") for path in glob.glob(os.path.join(TOP, "examples", "**", f"*.{ending}"), recursive=True))
+    return sorted(path for ending in ("armc", "props", "armct") for path in glob.glob(example("**", f"*.{ending}"), recursive=True))
 
 
 def scopes_of(grammar, line, other=None):
@@ -398,18 +377,17 @@ def scopes_of(grammar, line, other=None):
     return scopes
 
 
-def syntax_of_textmate():
+def syntax_of_textmate(_):
     wrong, (grammar, templates) = [], (json.loads(read("editors", "textmate", f"{name}.tmLanguage.json")) for name in ("armc", "armct"))
     for name in ("package.json", "language-configuration.json"):
         json.loads(read("editors", "textmate", name))
     for path in protocols():
-        with open(path, encoding="ascii") as file:
-            for number, line in enumerate(file.read().splitlines(), 1):
-                template = path.endswith(".armct")
-                scopes = scopes_of(templates, line, grammar) if template else scopes_of(grammar, line)
-                for column, text, kind in kinds_of(line, template):
-                    if set(scopes[column:column + len(text)]) != {SCOPES[kind]}:
-                        wrong.append(f"{os.path.basename(path)} line {number}: {text} is {set(scopes[column:column + len(text)])}, and must be {SCOPES[kind]}")
+        template = path.endswith(".armct")
+        for number, line in enumerate(read(path).splitlines(), 1):
+            scopes = scopes_of(templates, line, grammar) if template else scopes_of(grammar, line)
+            for column, text, kind in kinds_of(line, template):
+                if set(scopes[column:column + len(text)]) != {SCOPES[kind]}:
+                    wrong.append(f"{os.path.basename(path)} line {number}: {text} is {set(scopes[column:column + len(text)])}, and must be {SCOPES[kind]}")
     bad = scopes_of(grammar, "@ -")
     return wrong + ([] if bad[0] == bad[2] == "invalid.illegal.byte.armc" else [f"bad bytes are {bad}"])
 
@@ -431,30 +409,23 @@ qall!
 """
 
 
-def syntax_of_vim():
+def syntax_of_vim(_):
     vim = next((name for name in ("vim", "nvim") if shutil.which(name)), None)
     if not vim:
         return "vim is not there"
     with tempfile.TemporaryDirectory() as folder:
-        bad = os.path.join(folder, "bad.armc")
-        with open(bad, "w") as file:
-            file.write("@ -\n")
-        script, result, paths = os.path.join(folder, "script.vim"), os.path.join(folder, "result"), [*protocols(), bad]
-        with open(script, "w") as file:
-            file.write(VIM.format(folder=os.path.join(TOP, "editors", "vim"), paths=json.dumps(paths), result=result))
+        result, paths = os.path.join(folder, "result"), [*protocols(), write(os.path.join(folder, "bad.armc"), "@ -\n")]
+        script = write(os.path.join(folder, "script.vim"), VIM.format(folder=os.path.join(TOP, "editors", "vim"), paths=json.dumps(paths), result=result))
         words = [vim, "-es", "-i", "NONE", "-u", script] if vim == "vim" else [vim, "--headless", "-es", "-i", "NONE", "-u", script]
         found = run(words, cwd=folder, env={**os.environ, "HOME": folder})
         if not os.path.exists(result):
             # Some builds of Vim are without syntax files.
             return "vim has no syntax highlighting" if "+syntax" not in run([vim, "--version"]).stdout else [f"vim gives no answer: {found.stderr[:200]}"]
-        with open(result) as file:
-            told = file.read().split("\n")
+        told = read(result).split("\n")
     wrong, at = [], 0
     for path in paths:
         at += 1
-        with open(path, encoding="ascii") if os.path.exists(path) else open(os.devnull) as file:
-            lines = file.read().splitlines()
-        for number, line in enumerate(lines, 1):
+        for number, line in enumerate(read(path).splitlines() if os.path.exists(path) else [], 1):
             groups = told[at].split(" ")
             at += 1
             for column, text, kind in kinds_of(line, path.endswith(".armct")):
@@ -467,28 +438,23 @@ def syntax_of_vim():
 
 def check_of_folders(program):
     """tools/check-folder on all of examples, and on folders with a wrong expectation, without one, and without a protocol."""
-    tool = os.path.join(TOP, "tools", "check-folder")
-    found = run([tool, "--program", program, "--jobs", "4", os.path.join(TOP, "examples")])
+    found = call(program, "check-folder", "--jobs", "4", example())
     wrong = [] if found.returncode == 0 else [line for line in found.stdout.splitlines() + found.stderr.splitlines() if "<--" in line or "check-folder" in line]
     wrong += [f"examples: status {found.returncode}"] if found.returncode else []
     with tempfile.TemporaryDirectory() as folder:
-        if run([tool, "--program", program, folder]).returncode != 2:
+        if call(program, "check-folder", folder).returncode != 2:
             wrong.append("a folder without a protocol does not end with 2")
         protocol = read("examples", "first.armc")
         for text, wanted in ((protocol.replace("expect: safe", "expect: unsafe"), 1), (protocol.replace("expect: safe", ""), 2), (protocol, 0)):
-            with open(os.path.join(folder, "p.armc"), "w") as file:
-                file.write(text)
-            status = run([tool, "--program", program, folder]).returncode
+            write(os.path.join(folder, "p.armc"), text)
+            status = call(program, "check-folder", folder).returncode
             wrong += [] if status == wanted else [f"the status is {status}, and must be {wanted}"]
     return wrong
 
 
-def pages_for_newcomers():
+def pages_for_newcomers(_):
     """The protocols that the pages show stand in a file of examples, and the files that they name are there."""
-    wrong, shown = [], set()
-    for path in protocols():
-        with open(path, encoding="ascii") as file:
-            shown.add("".join(line for line in file if not line.startswith("#")))
+    wrong, shown = [], {"".join(line for line in read(path).splitlines(True) if not line.startswith("#")) for path in protocols()}
     for page in ("TUTORIAL.md", "MODELLING.md", "CI.md", "TOOLS.md", "HARD.md", "GALLERY.md"):
         text = read("docs", page)
         for block in re.findall(r"^```\n(protocol .*?)^```$", text, re.M | re.S):
@@ -500,37 +466,34 @@ def pages_for_newcomers():
         if page == "TUTORIAL.md":
             for name in re.findall(r"`(tutorial_\w+)`", text):
                 wrong += [] if os.path.isdir(os.path.join(TOP, "tests", "cases", name)) else [f"{page}: tests/cases has no {name}"]
-    patterns = {os.path.basename(path)[:-5] for path in glob.glob(os.path.join(TOP, "examples", "patterns", "*.armc"))}
+    patterns = {os.path.basename(path)[:-5] for path in glob.glob(example("patterns", "*.armc"))}
     named = set(re.findall(r"\(`(\w+)`[,)]", read("docs", "MODELLING.md"))) | {"pointer"}
     wrong += [f"MODELLING.md does not name {name}" for name in sorted(patterns - named)]
     return wrong + [f"there is no pattern {name}" for name in sorted(named - patterns)]
 
 
-def edits():
+def edits(_):
     """Each edit that the prover has to refuse can still be applied, also those that the gate does not try."""
     told = run([os.path.join(TOP, "tests", "edits"), "--look"])
     return [] if told.returncode == 0 else [*told.stdout.splitlines(), *told.stderr.splitlines()[-1:]]
 
 
-def checks(program):
-    """Each check with its name."""
-    yield "launcher", launcher()
-    yield "launcher, without proofs", launcher_unproved()
-    yield "launcher, interrupted", launcher_interrupted()
-    yield "install", installed()
-    yield "manual pages", manual_pages()
-    yield "completions of bash", completions_of_bash()
-    yield "completions of the tools", completions_of_tools()
-    yield "completions of zsh", completions_of_zsh()
-    yield "completions of fish", completions_of_fish()
-    yield "syntax file of Vim", syntax_of_vim()
-    yield "syntax file of TextMate", syntax_of_textmate()
-    yield "pages for newcomers", pages_for_newcomers()
-    yield "edits can be applied", edits()
-    if program:
-        yield "check of folders", check_of_folders(program)
-
+CHECKS = {
+    "launcher": launcher,
+    "launcher, without proofs": launcher_unproved,
+    "launcher, interrupted": launcher_interrupted,
+    "install": installed,
+    "manual pages": manual_pages,
+    "completions of bash": completions_of_bash,
+    "completions of the tools": completions_of_tools,
+    "completions of zsh": completions_of_zsh,
+    "completions of fish": completions_of_fish,
+    "syntax file of Vim": syntax_of_vim,
+    "syntax file of TextMate": syntax_of_textmate,
+    "pages for newcomers": pages_for_newcomers,
+    "edits can be applied": edits,
+    "check of folders": check_of_folders,
+}
 
 if __name__ == "__main__":
-    for name, lines in checks(os.path.abspath(sys.argv[1]) if len(sys.argv) > 1 else None):
-        print(f"{name}: skipped, since {lines}" if isinstance(lines, str) else f"{name}: {'ok' if not lines else lines[:5]}", flush=True)
+    sys.exit(main(CHECKS))

@@ -1,48 +1,31 @@
 """What armc-expand and the tools do with templates: each production, each refusal with its place, the page, random templates beside a second
-expansion by plain recursion, and whole runs. Usage: tests/templates.py PROGRAM [COUNT [SEED]], with so many random templates.
+expansion by plain recursion, and whole runs. Usage: tests/templates.py [PROGRAM] [NAME..], or PROGRAM COUNT [SEED] for so many random templates.
 """
 import glob
 import itertools
+import operator
 import os
-import pty
 import random
 import re
 import signal
 import subprocess
 import sys
 import tempfile
-import time
 
-sys.dont_write_bytecode = True
-TOP = os.path.dirname(os.path.dirname(os.path.abspath(__file__)))
-TOOLS = os.path.join(TOP, "tools")
-sys.path.insert(0, TOOLS)
-from armc_tools.expansion import Unknown, Written, expand, expanded_cases  # noqa: E402
-from armc_tools.templates import RESERVED, Fault, value_of  # noqa: E402
+import support
+from support import SECONDS, TOOLS, call, differs, main, on_terminal, read, run, till, to_full_device, tool_words, without_comments, write, write_all, wrong_refusal
+from refusals import text_of
+from armc_tools.expansion import Unknown, Written, expand, expanded_cases
+from armc_tools.templates import RESERVED, Fault, value_of
 
-SECONDS = 120
 # In the gate so many random templates are tried, and none may take longer than this.
 RANDOM, LONGEST = 300, 30
 HEAD = "protocol p\narray P { a b }\n"
+UNKNOWN = HEAD + "for i in 0 .. 2 { rule r{i} { P: at x{i} -> a; } }\n"
 
 
 def example(name):
-    return os.path.join(TOP, "examples", "templates", name)
-
-
-def read(path):
-    with open(path, encoding="utf-8") as file:
-        return file.read()
-
-
-def differs(what, found, wanted):
-    return [] if found == wanted else [f"{what}: {str(found)[:300]!r}, and must be {str(wanted)[:300]!r}"]
-
-
-def call(tool, *words, **how):
-    """Status, standard output and standard error of a tool."""
-    how = {"capture_output": True, "text": True, "timeout": SECONDS, "stdin": subprocess.DEVNULL, **({} if "input" not in how else {"stdin": None}), **how}
-    return subprocess.run([sys.executable, os.path.join(TOOLS, tool), *words], **how)
+    return support.example("templates", name)
 
 
 def answer(text, **given):
@@ -118,7 +101,7 @@ PRODUCTIONS_2 = (
 )
 
 
-def productions():
+def productions(_):
     """Each production, variables before the head, values that are given, and the grammar of the page in the examples above."""
     wrong = []
     for head, rows in ((HEAD, PRODUCTIONS), (HEAD.replace("protocol p", "protocol p language 2"), PRODUCTIONS_2)):
@@ -136,24 +119,15 @@ def productions():
     return wrong
 
 
-def page_text():
-    return read(os.path.join(TOP, "docs", "TEMPLATES.md"))
-
-
-def text_of(cell):
-    """The text that a cell of a table describes (tests/refusals.py)."""
-    line = "".join(piece * int(times or 1) for times, piece in re.findall(r"(?:(\d+) × )?`([^`]*)`", cell))
-    return line + ("" if cell.endswith("(no line feed)") else "\n")
-
-
 def spent():
     """The processor time of this process and of those that it has ended, in seconds: a busy machine does not change it."""
     return sum(os.times()[:4])
 
 
-def refusals():
-    """Each row of the page's table; that it has each refusal of the sources; and that none takes long."""
-    wrong, table = [], re.findall(r"^\| (.*) \| `(template: line \d+ column \d+: .*)` \|$", page_text(), re.M)
+def refusals(_):
+    """Each row of the page's table and of tests/rows; that they have each refusal of the sources; and that none takes long."""
+    rows = read("docs", "TEMPLATES.md") + read("tests", "rows", "templates.md")
+    wrong, table = [], re.findall(r"^\| (.*) \| `(template: line \d+ column \d+: .*)` \|$", rows, re.M)
     for cell, told in table:
         began = spent()
         wrong += differs(cell, answer(HEAD + text_of(cell)), told)
@@ -164,7 +138,7 @@ def refusals():
     shown = [told for _, told in table] + [message for message in messages if message.startswith(kept)]
     for message in set(messages):
         pattern = re.escape(message.strip()).replace(r"\{what\}", r"[a-z ]+")
-        wrong += [] if any(re.search(pattern, told) for told in shown) else [f"the page has no refusal {message!r}"]
+        wrong += [] if any(re.search(pattern, told) for told in shown) else [f"no row has the refusal {message!r}"]
     wrong += differs("no section", answer("# nothing\nlet n = 0\nprotocol p\nfor i in 0 .. n { cell S { x } }\ninit { }\n"), "template: line 3 column 1: there is no section, and a protocol has at least one")
     long = "let L = { " + "n" * 32 + " } let R = { " + "L " * 256 + "}\ninit { P: { " + "R " * 130 + "}; }\n"
     wrong += differs("a text that is too long", answer(HEAD + long), "template: line 4 column 1: too many bytes: a protocol has at most 1048576")
@@ -173,22 +147,22 @@ def refusals():
     return wrong + differs("long comments", answer(comments), "template: line 1 column 1: too many bytes with the comments: a protocol has at most 1048576")
 
 
-def page():
+def page(_):
     """The page's templates write what stands below them, its example is the file, its list of examples is the folder, and its words are reserved."""
-    text, wrong = page_text(), []
+    text, wrong = read("docs", "TEMPLATES.md"), []
     blocks = [block for block in re.findall(r"^```\n(.*?)^```$", text, re.M | re.S) if re.search(r"^protocol \w", block, re.M)]
     for template, written in zip(blocks[::2], blocks[1::2]):
-        wrong += differs(template, answer(template), "".join(line for line in written.splitlines(True) if not line.startswith("#")))
+        wrong += differs(template, answer(template), without_comments(written))
     kept = read(example("permits.armct"))
     wrong += [] if kept.endswith(blocks[0]) else ["the first template of the page is not examples/templates/permits.armct"]
     told = expand("permits.armct", kept.encode(), {}).text
     wrong += differs("what the first template writes", told[told.index("# from"):], blocks[1])
     named = re.findall(r"^\| `(\w+)` \|", text.partition("## Examples")[2].partition("\n## ")[0], re.M)
     wrong += differs("the examples", sorted(named), sorted(os.path.basename(path)[:-6] for path in glob.glob(example("*.armct"))))
-    language = re.search(r"The reserved words are (.*?)\.(?: |$)", read(os.path.join(TOP, "docs", "LANGUAGE.md")), re.M)[1]
+    language = re.search(r"The reserved words are (.*?)\.(?: |$)", read("docs", "LANGUAGE.md"), re.M)[1]
     more = re.search(r"The words (.*?) are reserved too", text)[1]
     wrong += differs("the reserved words", RESERVED, frozenset(re.findall(r"`(\w+)`", language + more)))
-    listed = re.findall(r"\(\?!\(\?:([\w|]+)\)", read(os.path.join(TOP, "editors", "textmate", "armct.tmLanguage.json")))[0].split("|")
+    listed = re.findall(r"\(\?!\(\?:([\w|]+)\)", read("editors", "textmate", "armct.tmLanguage.json"))[0].split("|")
     wrong += differs("the words of the TextMate file", frozenset(listed), RESERVED)
     grammar = re.search(r"^## Grammar$.*?^```\n(.*?)^```$", text, re.M | re.S)[1]
     unused = [word for word in re.findall(r'"([a-z]+)"', grammar) if word not in RESERVED]
@@ -198,7 +172,7 @@ def page():
     return wrong + [f"the grammar of the page: {words}" for words in (unused, unmet, untried) if words]
 
 
-def places():
+def places(_):
     """What armc refuses of a written protocol is told of the place in the template: the first letter of each word comes from its word."""
     wrong = []
     for path in sorted(glob.glob(example("*.armct"))):
@@ -277,70 +251,93 @@ def begins_name(tokens, at, listed):
     return tokens[end][0] == ":" or (tokens[end][1] and (tokens[end][0] == "{" or (re.match(r"\w", tokens[end][0]) and tokens[end][0] not in RESERVED)))
 
 
+SIGNS = {"==": operator.eq, "!=": operator.ne, "<": operator.lt, "<=": operator.le, ">": operator.gt, ">=": operator.ge}
+
+
 def flattened(tokens, values, given=None, listed=False):
     """The words of a template without variables, loops, conditions and holes: each pass of a loop goes over its tokens again."""
-    found, at, outer = [], 0, []
-    while at < len(tokens):
-        word = tokens[at][0]
-        if word == "let":
-            name, at = tokens[at + 1][0], at + 3
-            if tokens[at][0] == "{":
-                end = closing(tokens, at + 1) + 1
-                value = tuple(flattened(tokens[at + 1:end - 1], values, None, True))
-            else:
-                end = expression_end(tokens, at)
-                value = computed(tokens[at:end], values)
-            values, at = {**values, name: given[name] if given and not outer and name in given else value}, end
-        elif word == "for":
-            name, body, at = tokens[at + 1][0], None, at + 3
-            if tokens[at][0] == "{":
-                end = closing(tokens, at + 1) + 1
-                source = flattened(tokens[at + 1:end - 1], values, None, True)
-            else:
-                end = expression_end(tokens, at)
-                source = computed(tokens[at:end], values)
-                if tokens[end][0] == "..":
-                    last = expression_end(tokens, end + 1)
-                    source, end = range(source, computed(tokens[end + 1:last], values)), last
-            at = closing(tokens, end + 1)
-            body, at = tokens[end + 1:at], at + 1
-            for value in source:
-                found += flattened(body, {**values, name: value}, None, outer[-1][2] if outer else listed)
-        elif word == "if":
-            left = expression_end(tokens, at + 1)
-            right = expression_end(tokens, left + 1)
-            sides = side(tokens[at + 1:left], values), side(tokens[left + 1:right], values)
-            at, sign = closing(tokens, right + 1), tokens[left][0]
-            # (names have the signs == and != alone)
-            if (sides[0] == sides[1] if sign == "==" else sides[0] != sides[1] if sign == "!=" else
-                    sides[0] < sides[1] if sign == "<" else sides[0] <= sides[1] if sign == "<=" else sides[0] > sides[1] if sign == ">" else sides[0] >= sides[1]):
-                found += flattened(tokens[right + 1:at], values, None, outer[-1][2] if outer else listed)
-            at += 1
-        elif (re.match(r"\w", word) and word not in RESERVED) or (word == "{" and begins_name(tokens, at, outer[-1][2] if outer else listed)):
-            pieces, hole = [], False
-            while not pieces or (at < len(tokens) and tokens[at][1] and (tokens[at][0] == "{" or hole and re.match(r"\w", tokens[at][0]) and tokens[at][0] not in RESERVED)):
-                hole = tokens[at][0] == "{"
-                if hole:
-                    end = closing(tokens, at + 1)
-                    pieces.append(str(computed(tokens[at + 1:end], values)))
-                    at = end + 1
-                else:
-                    pieces.append(tokens[at][0])
-                    at += 1
-            value = values.get(word, word) if len(pieces) == 1 else "".join(pieces)
-            value = pieces[0] if word == "{" and len(pieces) == 1 else value
-            found += value if isinstance(value, tuple) else [str(value)]
-        else:
-            # A variable is known to the end of the list that it stands in.
-            if word in ("{", ":"):
-                block = word == ":" or found[-1:] in (["init"], ["bad"], ["map"]) or found[-2:-1] == ["rule"]
-                outer.append((word, values, not block))
-            elif word == "}" or (word == ";" and outer and outer[-1][0] == ":"):
-                values = outer.pop()[1]
-            elif word == "map":
-                values = outer[-1][1]
-            found, at = [*found, word], at + 1
-    return found
+    return Flattening(tokens, values, given or {}, listed).found
+
+
+class Flattening:
+    """The words so far, where it is, the values of variables, and for each list that it is in its sign, the values before it, and whether it is one of names."""
+
+    def __init__(self, tokens, values, given, listed):
+        self.tokens, self.values, self.given, self.listed, self.at, self.outer, self.found = tokens, values, given, listed, 0, [], []
+        steps = {"let": self.let, "for": self.loop, "if": self.condition}
+        while self.at < len(tokens):
+            word = self.word()
+            is_name = self.is_plain(self.at) or (word == "{" and begins_name(tokens, self.at, self.in_names()))
+            steps.get(word, self.name if is_name else self.sign)()
+
+    def word(self):
+        return self.tokens[self.at][0]
+
+    def is_plain(self, at):
+        return bool(re.match(r"\w", self.tokens[at][0])) and self.tokens[at][0] not in RESERVED
+
+    def in_names(self):
+        return self.outer[-1][2] if self.outer else self.listed
+
+    def value(self, at):
+        """The list or the number that begins at this token, and where it ends."""
+        if self.tokens[at][0] == "{":
+            end = closing(self.tokens, at + 1) + 1
+            return tuple(flattened(self.tokens[at + 1:end - 1], self.values, None, True)), end
+        end = expression_end(self.tokens, at)
+        return computed(self.tokens[at:end], self.values), end
+
+    def body(self, end):
+        """The tokens in the braces that begin at this token, behind which it goes on."""
+        self.at = closing(self.tokens, end + 1) + 1
+        return self.tokens[end + 1:self.at - 1]
+
+    def let(self):
+        name = self.tokens[self.at + 1][0]
+        value, self.at = self.value(self.at + 3)
+        self.values = {**self.values, name: self.given[name] if not self.outer and name in self.given else value}
+
+    def loop(self):
+        name = self.tokens[self.at + 1][0]
+        source, end = self.value(self.at + 3)
+        if self.tokens[end][0] == "..":
+            last, end = self.value(end + 1)
+            source = range(source, last)
+        body = self.body(end)
+        for value in source:
+            self.found += flattened(body, {**self.values, name: value}, None, self.in_names())
+
+    def condition(self):
+        left = expression_end(self.tokens, self.at + 1)
+        right = expression_end(self.tokens, left + 1)
+        # (names have the signs == and != alone)
+        holds = SIGNS[self.tokens[left][0]](side(self.tokens[self.at + 1:left], self.values), side(self.tokens[left + 1:right], self.values))
+        body = self.body(right)
+        self.found += flattened(body, self.values, None, self.in_names()) if holds else []
+
+    def name(self):
+        """A name of pieces, of which some are computed in holes; alone it may be a variable."""
+        begin, pieces, hole = self.word(), [], False
+        while not pieces or (self.at < len(self.tokens) and self.tokens[self.at][1] and (self.word() == "{" or hole and self.is_plain(self.at))):
+            hole = self.word() == "{"
+            end = closing(self.tokens, self.at + 1) if hole else self.at
+            pieces.append(str(computed(self.tokens[self.at + 1:end], self.values)) if hole else self.word())
+            self.at = end + 1
+        value = self.values.get(begin, begin) if len(pieces) == 1 and begin != "{" else "".join(pieces)
+        self.found += value if isinstance(value, tuple) else [str(value)]
+
+    def sign(self):
+        """A sign or a reserved word. A variable is known to the end of the list that it stands in."""
+        word = self.word()
+        if word in ("{", ":"):
+            block = word == ":" or self.found[-1:] in (["init"], ["bad"], ["map"]) or self.found[-2:-1] == ["rule"]
+            self.outer.append((word, self.values, not block))
+        elif word == "}" or (word == ";" and self.outer and self.outer[-1][0] == ":"):
+            self.values = self.outer.pop()[1]
+        elif word == "map":
+            self.values = self.outer[-1][1]
+        self.found.append(word)
+        self.at += 1
 
 
 def cut(words):
@@ -598,14 +595,14 @@ def wrong_template(program, text, given):
     lines = [line for line in written.text.splitlines() if not line.startswith("#")]
     words = re.findall(r"\w+|->|[{}:;*+]", " ".join(lines))
     wrong += differs("words", words, plain(text, given))
-    found = subprocess.run([program, "show", "-"], input=written.text, capture_output=True, text=True, timeout=SECONDS)
+    found = run([program, "show", "-"], input=written.text)
     if found.returncode:
         allowed = re.match(r"armc: protocol: line \d+ column \d+: (unknown|touched twice|wrong kind) ", found.stderr)
         return "refused by armc", wrong + differs("the program", bool(allowed) or found.stderr, True)
     return "accepted", wrong + differs("the layout", lines, found.stdout.splitlines())
 
 
-def random_templates(program, count, seed):
+def random_templates(program, count, seed=1):
     """How many came to which end, and what is wrong."""
     ends, wrong = {}, []
     for number in range(count):
@@ -619,18 +616,9 @@ def random_templates(program, count, seed):
 
 # Whole runs.
 
-def on_terminal(words):
-    """What a terminal shows of the words, and their status."""
-    process, screen = pty.fork()
-    if process == 0:
-        os.execv(words[0], words)
-    shown = b""
-    try:
-        while piece := os.read(screen, 1 << 16):
-            shown += piece
-    except OSError:
-        pass
-    return shown.decode(), os.waitstatus_to_exitcode(os.waitpid(process, 0)[1])
+def expander(*words, **how):
+    """How armc-expand ends, and what it prints."""
+    return run(tool_words("armc-expand", *words), **how)
 
 
 def runs(program):
@@ -639,10 +627,7 @@ def runs(program):
     written = expand(path, read(path).encode(), {"n": 1}).text
     asked = ["--program", program]
     with tempfile.TemporaryDirectory() as folder:
-        refused, unknown, out = (os.path.join(folder, name) for name in ("refused.armct", "unknown.armct", "out.armc"))
-        for name, text in ((refused, HEAD + "rule r { P: at x{m} -> a; }\n"), (unknown, HEAD + "for i in 0 .. 2 { rule r{i} { P: at x{i} -> a; } }\n")):
-            with open(name, "w") as file:
-                file.write(text)
+        refused, unknown, out = write_all(folder, {"refused.armct": HEAD + "rule r { P: at x{m} -> a; }\n", "unknown.armct": UNKNOWN, "out.armc": ""})
         for words, status, stdout, stderr in (
             ([path, "n=1"], 0, written, ""),
             ([*asked, "--check", path, "n=1"], 0, written, ""),
@@ -661,36 +646,28 @@ def runs(program):
             ([*asked, "--check", unknown], 5, "", "armc-expand: template: line 3 column 37: unknown x0\n"),
             (["--program", "/bin/true", "--check", path], 126, "", "does not answer as armc"),
         ):
-            found = call("armc-expand", *words)
+            found = expander(*words)
             told = (found.returncode, found.stdout, stderr in found.stderr and bool(stderr) == bool(found.stderr), "Traceback" in found.stderr)
             wrong += differs(f"armc-expand {words}", told, (status, stdout, True, False))
         wrong += differs("--output", read(out), written)
-        wrong += differs("what is refused by armc alone", call("armc-expand", unknown).returncode, 0)
-    found = call("armc-expand", "/dev/zero")
-    wrong += differs("an endless file", (found.returncode, found.stdout, "more than 1048576 bytes" in found.stderr), (5, "", True))
-    found = call("armc-expand", "-", "n=1", input=read(path))
+        wrong += differs("what is refused by armc alone", expander(unknown).returncode, 0)
+    wrong += wrong_refusal("an endless file", expander("/dev/zero"), 5, "more than 1048576 bytes")
+    found = expander("-", "n=1", input=read(path))
     wrong += differs("standard input", (found.returncode, found.stdout), (0, written.replace("permits.armct", "-")))
-    with open("/dev/full", "w") as full:
-        found = call("armc-expand", path, capture_output=False, stdout=full, stderr=subprocess.PIPE)
-    wrong += differs("a full device", (found.returncode, "Traceback" in found.stderr), (8, False))
-    shown, status = on_terminal([sys.executable, os.path.join(TOOLS, "armc-expand"), path, "n=1"])
-    wrong += differs("a terminal", (status, shown.replace("\r\n", "\n")), (0, written))
-    piped = subprocess.run(f"{sys.executable} {TOOLS}/armc-expand {path} | {program} show -", shell=True, capture_output=True, text=True)
-    plain_lines = [line for line in expand(path, read(path).encode(), {}).text.splitlines() if not line.startswith("#")]
-    return wrong + differs("a pipe", piped.stdout.splitlines(), plain_lines) + interrupts()
+    wrong += differs("a full device", to_full_device(tool_words("armc-expand", path)), (8, False))
+    shown, status = on_terminal(tool_words("armc-expand", path, "n=1"))
+    wrong += differs("a terminal", (status, shown), (0, written))
+    piped = run(f"{sys.executable} {TOOLS}/armc-expand {path} | {program} show -", shell=True)
+    return wrong + differs("a pipe", piped.stdout, answer(read(path))) + interrupts()
 
 
 def interrupts():
     """A signal while the template is read ends it with 130."""
     wrong = []
     for number in (signal.SIGINT, signal.SIGTERM):
-        process = subprocess.Popen([sys.executable, os.path.join(TOOLS, "armc-expand"), "-"], stdin=subprocess.PIPE, stdout=subprocess.PIPE, stderr=subprocess.PIPE, text=True)
+        process = subprocess.Popen(tool_words("armc-expand", "-"), stdin=subprocess.PIPE, stdout=subprocess.PIPE, stderr=subprocess.PIPE, text=True)
         # (the signals are taken over by the time that it reads)
-        end = time.monotonic() + SECONDS
-        while "SigCgt:\t0000000000000000" in read(f"/proc/{process.pid}/status") or not re.search(r"SigCgt:\t\w*[4-7c-f]\w{3}$", read(f"/proc/{process.pid}/status"), re.M):
-            if time.monotonic() > end or process.poll() is not None:
-                break
-            time.sleep(0.02)
+        till(lambda: process.poll() is not None or re.search(r"SigCgt:\t\w*[4-7c-f]\w{3}$", read(f"/proc/{process.pid}/status"), re.M))
         process.send_signal(number)
         out, err = process.communicate(timeout=SECONDS)
         wrong += differs("an interrupt", (process.returncode, out, err), (130, "", "\narmc-expand: interrupted\n"))
@@ -701,114 +678,101 @@ def tools(program):
     """The tools take a template with --set as they take the protocol that it writes, and tell its values."""
     path, wrong = example("counter.armct"), []
     with tempfile.TemporaryDirectory() as folder:
-        protocol, unknown = os.path.join(folder, "p.armc"), os.path.join(folder, "unknown.armct")
-        with open(protocol, "w") as file:
-            file.write(expand(path, read(path).encode(), {"n": 4, "wraps": 0}).text)
-        with open(unknown, "w") as file:
-            file.write(HEAD + "for i in 0 .. 2 { rule r{i} { P: at x{i} -> a; } }\n")
+        protocol, unknown = write_all(folder, {"p.armc": expand(path, read(path).encode(), {"n": 4, "wraps": 0}).text, "unknown.armct": UNKNOWN})
         for tool, words in (("armc-walk", ["--random", "4", "--seed", "3"]), ("armc-coverage", ["--jobs", "2"]), ("armc-explain", []), ("armc-portfolio", ["--jobs", "1", "--one-order"])):
-            asked = ["--program", program, *words]
-            one, two = call(tool, *asked, "--set", "n=4", "--set", "wraps=0", path), call(tool, *asked, protocol)
+            one, two = call(program, tool, *words, "--set", "n=4", "--set", "wraps=0", path), call(program, tool, *words, protocol)
             wrong += differs(tool, (one.returncode, one.stdout), (two.returncode, two.stdout.replace("p.armc:", "counter.armct with n=4, wraps=0:")))
             if tool == "armc-portfolio":
                 told = re.search(r"s: armc-expand (.*) \| armc (.*)$", one.stderr, re.M)
-                again = told and subprocess.run(f"{sys.executable} {TOOLS}/armc-expand {told[1]} | {program} {told[2]}", shell=True, capture_output=True, text=True)
+                again = told and run(f"{sys.executable} {TOOLS}/armc-expand {told[1]} | {program} {told[2]}", shell=True)
                 wrong += differs("the told command line", again and again.stdout, one.stdout)
-                wrong += judges(asked, path, folder)
+                wrong += judges(program, path, folder)
             for more, status, said in ((["--set", "k=1", path], 3, "the template has no variable k"), (["--set", "n", path], 3, "is no value"),
                                        (["--set", "n=1", protocol], 3, "--set is for a template"), ([unknown], 5, f"{tool}: template: line 3 column 37: unknown x0\n"),
                                        (["--set", "n=0", path], 5, f"{tool}: template: line"), ([os.path.join(folder, "no.armct")], 4, "read fault: ")):
-                found = call(tool, *asked, *more)
-                wrong += differs(f"{tool} {more}", (found.returncode, found.stdout, said in found.stderr), (status, "", True))
-        wrong += hints(asked[:2], path, folder)
+                wrong += wrong_refusal(f"{tool} {more}", call(program, tool, *words, *more), status, said)
+        wrong += hints(program, path, folder)
         page_of, picture = (os.path.join(folder, name) for name in ("p.html", "p.svg"))
-        call("armc-explain", "--program", program, "--set", "n=2", "--plain", "--html", page_of, "--svg", picture, path)
+        call(program, "armc-explain", "--set", "n=2", "--plain", "--html", page_of, "--svg", picture, path)
         wrong += [] if "counter.armct with n=2, wraps=1" in read(page_of) and "<b>rule</b> enter_0" in read(page_of) else ["the page of a template does not name its values"]
     return wrong
 
 
-def hints(asked, path, folder):
+def hints(program, path, folder):
     """What armc-explain adds to its refusals: the values of the template, options that its head has, and how values are given."""
-    wrong, certificate, large = [], os.path.join(folder, "certificate"), os.path.join(folder, "large.armct")
-    for name, text in ((certificate, call("armc-portfolio", *asked, "--jobs", "1", "--one-order", "--set", "n=1", example("permits.armct")).stdout),
-                       (large, "# options: --method length\n" + read(path))):
-        with open(name, "w") as file:
-            file.write(text)
-    for words, status, said in ((["--set", "n=3", example("permits.armct"), certificate], 7, "(permits.armct with n=3)\n"),
-                                (["--budget", "1", large], 2, "reached its budget (its head says `options: --method length`)\n"),
-                                ([path, "n=3"], 4, "read fault: n=3 (a value of a template is given by --set)\n"),
-                                ([path, "n=3", "n=4"], 3, "unrecognized arguments: n=4 (a value of a template is given by --set); usage: ")):
-        found = call("armc-explain", *asked, *words)
-        wrong += differs(f"armc-explain {words}", (found.returncode, found.stdout, said in found.stderr), (status, "", True))
-    return wrong
+    permits = example("permits.armct")
+    proof = call(program, "armc-portfolio", "--jobs", "1", "--one-order", "--set", "n=1", permits).stdout
+    certificate, large = write_all(folder, {"certificate": proof, "large.armct": "# options: --method length\n" + read(path)})
+    return [line for words, status, said in ((["--set", "n=3", permits, certificate], 7, "(permits.armct with n=3)\n"),
+                                             (["--budget", "1", large], 2, "reached its budget (its head says `options: --method length`)\n"),
+                                             ([path, "n=3"], 4, "read fault: n=3 (a value of a template is given by --set)\n"),
+                                             ([path, "n=3", "n=4"], 3, "unrecognized arguments: n=4 (a value of a template is given by --set); usage: "))
+            for line in wrong_refusal(f"armc-explain {words}", call(program, "armc-explain", *words), status, said)]
 
 
-def judges(asked, path, folder):
+def judges(program, path, folder):
     """The command lines by which the portfolio says that its answer about deadlocks is judged can be run on a template."""
-    found = call("armc-portfolio", *asked, "--deadlock", "--set", "n=2", path)
-    told, written, certificate = re.search(r"valid by (.*)$", found.stderr, re.M), os.path.join(folder, "P"), os.path.join(folder, "CERT")
+    found = call(program, "armc-portfolio", "--jobs", "1", "--one-order", "--deadlock", "--set", "n=2", path)
+    told = re.search(r"valid by (.*)$", found.stderr, re.M)
     if not told:
         return [f"the portfolio tells no judge: {found.stderr[:300]!r}"]
-    with open(certificate, "w") as file:
-        file.write(found.stdout)
-    line = re.sub(r"\b(P|CERT)\b", lambda match: {"P": written, "CERT": certificate}[match[0]], told[1].replace("armc-", f"{sys.executable} {TOOLS}/armc-"))
-    return differs(f"the told judge {told[1]}", subprocess.run(line, shell=True, capture_output=True, text=True, timeout=SECONDS).stdout, "valid\n")
+    places = {"P": os.path.join(folder, "P"), "CERT": write(os.path.join(folder, "CERT"), found.stdout)}
+    line = re.sub(r"\b(P|CERT)\b", lambda match: places[match[0]], told[1].replace("armc-", f"{sys.executable} {TOOLS}/armc-"))
+    return differs(f"the told judge {told[1]}", run(line, shell=True).stdout, "valid\n")
+
+
+# Templates for armc-check-folder, and the rows of the table that are due to them.
+CASES = {
+    "a.armct": "# options: --method length\n# values: n=1\n# expect: safe\n# options: --budget 500\n# values: n=2\n# expect: unsafe\nlet n = 0\nprotocol p\narray P { i c }\n"
+               "init { P: i i*; }\nif n > 0 { rule enter { P: at i -> c if n == 1 { when all others in { i } }; } }\nbad { P: any* c any* c any*; }\n",
+    "b.armct": "# expect: safe\nprotocol p\narray P { a b }\nbad { P: c; }\n",
+    "c.armct": "# values: m=1\n# expect: safe\nlet n = 1\nprotocol p\narray P { a b }\n",
+    "d.armct": "# expect: safe\nprotocol p\narray P { a a }\n",
+    "e.armct": "# values: n\nprotocol p\narray P { a }\n",
+    "f.armct": "# values: n=2\n# expect: safe\n# values: n=2\n# expect: unsafe\n# options: --budget 7\nlet n = 1\nprotocol p\narray P { a b }\nbad { P: b; }\n",
+    "g.armct": "# expect: saf\nprotocol p\narray P { a b }\n",
+    "h.armct": "# value: n=7\nlet n = 1\nprotocol p\narray P { a b }\n",
+}
+ROWS = [["a.armct n=1", "safe", "safe"], ["a.armct n=2", "unsafe", "unsafe"],
+        ["b.armct", "safe", "no answer", "template: line 4 column 10: unknown c"],
+        ["c.armct m=1", "an answer", "no answer", "template: line 1 column 3: the template has no variable m at its top, but n"],
+        ["d.armct", "an answer", "no answer", "template: line 3 column 13: duplicate letter a, first at line 3 column 11"],
+        ["e.armct", "an answer", "no answer", "template: line 1 column 3: 'n' is no value: NAME=NUMBER or NAME={NAME ..}"],
+        ["f.armct n=2 (line 1)", "safe", "safe"], ["f.armct n=2 (line 3)", "unsafe", "safe"],
+        ["g.armct", "an answer", "no answer", "'expect: saf' names no verdict: safe, unsafe, unknown"],
+        ["h.armct", "an answer", "no answer", "template: line 1 column 3: 'value:' is no word of a head, but 'values:'"]]
 
 
 def folders(program):
     """armc-check-folder: a row for each case of the head, options and expectations of each, given values, and refusals with their places."""
-    texts = {
-        "a.armct": "# options: --method length\n# values: n=1\n# expect: safe\n# options: --budget 500\n# values: n=2\n# expect: unsafe\nlet n = 0\nprotocol p\narray P { i c }\n"
-                   "init { P: i i*; }\nif n > 0 { rule enter { P: at i -> c if n == 1 { when all others in { i } }; } }\nbad { P: any* c any* c any*; }\n",
-        "b.armct": "# expect: safe\nprotocol p\narray P { a b }\nbad { P: c; }\n",
-        "c.armct": "# values: m=1\n# expect: safe\nlet n = 1\nprotocol p\narray P { a b }\n",
-        "d.armct": "# expect: safe\nprotocol p\narray P { a a }\n",
-        "e.armct": "# values: n\nprotocol p\narray P { a }\n",
-        "f.armct": "# values: n=2\n# expect: safe\n# values: n=2\n# expect: unsafe\n# options: --budget 7\nlet n = 1\nprotocol p\narray P { a b }\nbad { P: b; }\n",
-        "g.armct": "# expect: saf\nprotocol p\narray P { a b }\n",
-        "h.armct": "# value: n=7\nlet n = 1\nprotocol p\narray P { a b }\n",
-    }
     with tempfile.TemporaryDirectory() as folder:
-        for name, text in texts.items():
-            with open(os.path.join(folder, name), "w") as file:
-                file.write(text)
+        paths = write_all(folder, CASES)
         report, wrong = os.path.join(folder, "report.xml"), []
-        found = call("check-folder", "--program", program, "--junit", report, folder)
+        found = call(program, "check-folder", "--junit", report, folder)
         rows = [re.split(r"  +", line.replace(f"{folder}/", "").rstrip()) for line in found.stdout.splitlines()[1:-1]]
         told = [[row[0], row[1], row[2], row[4]] for row in rows]
-        wanted = [["a.armct n=1", "safe", "safe"], ["a.armct n=2", "unsafe", "unsafe"],
-                  ["b.armct", "safe", "no answer", "template: line 4 column 10: unknown c"],
-                  ["c.armct m=1", "an answer", "no answer", "template: line 1 column 3: the template has no variable m at its top, but n"],
-                  ["d.armct", "an answer", "no answer", "template: line 3 column 13: duplicate letter a, first at line 3 column 11"],
-                  ["e.armct", "an answer", "no answer", "template: line 1 column 3: 'n' is no value: NAME=NUMBER or NAME={NAME ..}"],
-                  ["f.armct n=2 (line 1)", "safe", "safe"], ["f.armct n=2 (line 3)", "unsafe", "safe"],
-                  ["g.armct", "an answer", "no answer", "'expect: saf' names no verdict: safe, unsafe, unknown"],
-                  ["h.armct", "an answer", "no answer", "template: line 1 column 3: 'value:' is no word of a head, but 'values:'"]]
-        wrong += differs("a folder", (found.returncode, [row[:len(each)] for row, each in itertools.zip_longest(told, wanted, fillvalue=[])]), (1, wanted))
+        wrong += differs("a folder", (found.returncode, [row[:len(each)] for row, each in itertools.zip_longest(told, ROWS, fillvalue=[])]), (1, ROWS))
         wrong += [] if 'name="a.armct n=1"' in read(report) else ["the report does not name the values"]
-        for name in texts:
-            if name != "a.armct":
-                os.remove(os.path.join(folder, name))
-        found = call("check-folder", "--program", program, "--set", "n=2", "--set", "m=3", folder)
+        for path in paths[1:]:
+            os.remove(path)
+        found = call(program, "check-folder", "--set", "n=2", "--set", "m=3", folder)
         wrong += differs("given values", (found.returncode, "a.armct n=2" in found.stdout, "n=1" in found.stdout), (0, True, False))
-        found = call("check-folder", "--program", program, "--set", "n=2", os.path.join(folder, "a.armct"))
+        found = call(program, "check-folder", "--set", "n=2", paths[0])
         wrong += differs("a file", (found.returncode, "a.armct n=2" in found.stdout), (0, True))
-        found = call("check-folder", "--program", program, "--set", "n=2", "--set", "n=3", folder)
+        found = call(program, "check-folder", "--set", "n=2", "--set", "n=3", folder)
         wrong += differs("two values", (found.returncode, "given two values" in found.stderr), (2, True))
-        found = call("check-folder", "--program", program, "--set", "n=7", folder)
+        found = call(program, "check-folder", "--set", "n=7", folder)
         wrong += differs("values without a case", (found.returncode, "(nothing)" in found.stdout), (2, True))
-        found = call("check-folder", "--program", program, "--set", "n", folder)
+        found = call(program, "check-folder", "--set", "n", folder)
         wrong += differs("no values", (found.returncode, "is no value" in found.stderr), (2, True))
         # (the script alone, without the folder of modules)
-        alone = os.path.join(folder, "check")
-        with open(alone, "w") as file:
-            file.write(read(os.path.join(TOOLS, "check-folder")))
-        found = subprocess.run([sys.executable, alone, "--program", program, folder], capture_output=True, text=True, timeout=SECONDS)
+        alone = write(os.path.join(folder, "check"), read(os.path.join(TOOLS, "check-folder")))
+        found = run([sys.executable, alone, "--program", program, folder])
         wrong += differs("the script alone", (found.returncode, "templates need the folder armc_tools" in found.stdout), (1, True))
     return wrong
 
 
-def heads():
+def heads(_):
     """What is kept of the comments in a head, and which values stand in the line that tells them."""
     text = "# One.\n# expect: safe\n# values: n=1\n# expect: unsafe\n# never: P.a\n# values: n=2 R={a b}\nlet n = 1\nlet m = n\nlet R = { a }\n# Not the head.\nprotocol p\narray P { R }\n"
     wrong = []
@@ -832,35 +796,32 @@ def heads():
     return wrong + differs("where rows come from, and a rule of an empty set", told, wanted)
 
 
-def windows():
+def windows(_):
     """What the templates of the sliding window write for the sizes that are kept."""
     wrong = []
     for name, given, kept in (("sliding_window", {"size": 2}, "patterns/sliding_window"), ("sliding_window_lossy", {"size": 2}, "window_lossy"),
                               ("sliding_window_lossy", {"size": 2, "numbers": 2}, "window_lossy_two_numbers")):
-        text = "".join(line for line in read(os.path.join(TOP, "examples", f"{kept}.armc")).splitlines(True) if not line.startswith("#"))
+        text = without_comments(read("examples", f"{kept}.armc"))
         wrong += differs(f"{name} with {given}", answer(read(example(f"{name}.armct")), **given), text)
     return wrong
 
 
-def checks(program, count=RANDOM, seed=1):
-    """Each check with its name."""
-    yield "templates, productions", productions()
-    yield "templates, refusals", refusals()
-    yield "templates, page", page()
-    yield "templates, places", places()
-    yield "templates, heads", heads()
-    yield "templates, sliding windows", windows()
-    yield "templates, at random", random_templates(program, count, seed)[1]
-    yield "armc-expand", runs(program)
-    yield "tools with templates", tools(program)
-    yield "armc-check-folder with templates", folders(program)
-
+CHECKS = {
+    "templates, productions": productions,
+    "templates, refusals": refusals,
+    "templates, page": page,
+    "templates, places": places,
+    "templates, heads": heads,
+    "templates, sliding windows": windows,
+    "templates, at random": lambda program: random_templates(program, RANDOM)[1],
+    "armc-expand": runs,
+    "tools with templates": tools,
+    "armc-check-folder with templates": folders,
+}
 
 if __name__ == "__main__":
-    words = sys.argv[1:]
-    if len(words) > 1:
-        ends, wrong = random_templates(os.path.abspath(words[0]), int(words[1]), int(words[2]) if len(words) > 2 else 1)
-        print("\n".join([*wrong[:20], str(ends)]))
-        sys.exit(1 if wrong else 0)
-    for name, lines in checks(os.path.abspath(words[0])):
-        print(f"{name}: {'ok' if not lines else lines[:8]}", flush=True)
+    if sys.argv[2:] and sys.argv[2].isdigit():
+        found, lines = random_templates(os.path.abspath(sys.argv[1]), *map(int, sys.argv[2:4]))
+        print("\n".join([*lines[:20], str(found)]))
+        sys.exit(1 if lines else 0)
+    sys.exit(main(CHECKS))

@@ -1,13 +1,10 @@
 """What the tools beside the program do: armc-walk, armc-portfolio, armc-coverage, armc-explain, armc-second-opinion, armc-check-folder, and the
-release. Each check is a pair of a name and a list of lines that say what is wrong, or a word that says why it was skipped. Usage: tests/tools.py PROGRAM
+release. Usage: tests/tools.py [PROGRAM] [NAME..]
 """
 import glob
-import importlib.machinery
-import importlib.util
 import itertools
 import json
 import os
-import pty
 import re
 import shutil
 import signal
@@ -15,73 +12,27 @@ import subprocess
 import sys
 import tarfile
 import tempfile
-import time
 import xml.etree.ElementTree as xml
 
-sys.dont_write_bytecode = True
-TOP = os.path.dirname(os.path.dirname(os.path.abspath(__file__)))
-TOOLS = os.path.join(TOP, "tools")
-sys.path.insert(0, TOOLS)
-import definitions  # noqa: E402, beside this file
-from armc_tools import automata, drawing, expressions, proofs, stuck  # noqa: E402
-from armc_tools.certificate import read_certificate  # noqa: E402
-from armc_tools.protocol import Protocol, Section  # noqa: E402
+from support import (SECONDS, SYSTEMS, TOOLS, TOP, call, canonical, differs, example, interrupted, judged, main, module_of, on_terminal, opinion, printed, read,
+                     read_bytes, run, second_checker, to_full_device, tool_words, without_comments, write, write_all, wrong_refusal)
+import definitions
+from armc_tools import automata, drawing, expressions, rows, stuck, words as in_words
+from armc_tools.certificate import read_certificate
+from armc_tools.protocol import Protocol, Section
 
-SECONDS = 120
 DEAD = "protocol dead\narray P { a b c }\ninit { P: a*; }\nrule go { P: at a -> b; }\nrule on { P: at c -> c; }\nbad { P: any* c any*; }\n"
 # How many states a search may count whose sum is tried by its budgets.
 MOST = 200
 # Two counters that have to be compared: no proof with the first letters unknown, and a budget of 1000 is soon reached.
-ENDLESS = ["examples", "tutorial", "equal_counters.armc"]
-
-
-def example(*parts):
-    return os.path.join(TOP, "examples", *parts)
-
-
-def read(path):
-    with open(path, encoding="utf-8") as file:
-        return file.read()
-
-
-def call(program, tool, *words, text="", **how):
-    """Status, standard output and standard error of a tool."""
-    how = {"capture_output": True, "text": True, "timeout": SECONDS, "input": text, **how}
-    return subprocess.run([sys.executable, os.path.join(TOOLS, tool), "--program", program, *words], **how)
-
-
-def differs(what, found, wanted):
-    return [] if found == wanted else [f"{what}: {str(found)[:300]!r}, and must be {str(wanted)[:300]!r}"]
-
-
-def judged(program, protocol, certificate):
-    """Whether `verify` judges the text valid for the protocol in a file."""
-    found = subprocess.run([program, "verify", protocol, "-"], input=certificate, capture_output=True, text=True, timeout=SECONDS)
-    return found.stdout == "valid\n"
-
-
-def on_terminal(words, typed=b""):
-    """What a terminal shows of the words, and their status."""
-    process, screen = pty.fork()
-    if process == 0:
-        os.execv(words[0], words)
-    os.write(screen, typed)
-    shown = b""
-    try:
-        while piece := os.read(screen, 1 << 16):
-            shown += piece
-    except OSError:
-        pass
-    return shown.decode(), os.waitstatus_to_exitcode(os.waitpid(process, 0)[1])
+ENDLESS = example("tutorial", "equal_counters.armc")
 
 
 def faults(program):
     """What each tool does with words that mean nothing, a missing file, a refused protocol, a program that is none, and a full device."""
     wrong = []
     with tempfile.TemporaryDirectory() as folder:
-        refused = os.path.join(folder, "refused.armc")
-        with open(refused, "w") as file:
-            file.write("protocol p\narray P { a a }\n")
+        refused = write(os.path.join(folder, "refused.armc"), "protocol p\narray P { a a }\n")
         for tool in ("armc-walk", "armc-portfolio", "armc-coverage", "armc-explain"):
             nothing = ["--random", "1"] if tool == "armc-walk" else []
             for words, status, said in (
@@ -90,14 +41,10 @@ def faults(program):
                 ([os.path.join(folder, "nowhere")], 4, "armc: read fault: "),
                 ([refused], 5, "armc: protocol: line 2 column 13: duplicate a\n"),
             ):
-                found = call(program, tool, *words)
-                if (found.returncode, found.stdout) != (status, "") or said not in found.stderr or "Traceback" in found.stderr:
-                    wrong.append(f"{tool} {words}: {found.returncode}, {found.stdout!r}, {found.stderr!r}")
+                wrong += wrong_refusal(f"{tool} {words}", call(program, tool, *words), status, said)
             found = call("/bin/true", tool, *nothing, example("first.armc"))
             wrong += differs(f"{tool} with another program", (found.returncode, "does not answer as armc" in found.stderr), (126, True))
-            with open("/dev/full", "w") as full:
-                found = call(program, tool, *nothing, example("first.armc"), capture_output=False, stdout=full, stderr=subprocess.PIPE)
-            wrong += differs(f"{tool} with a full device", (found.returncode, "Traceback" in found.stderr), (8, False))
+            wrong += differs(f"{tool} with a full device", to_full_device(tool_words(tool, "--program", program, *nothing, example("first.armc"))), (8, False))
             found = call(program, tool, "--help")
             wrong += differs(f"{tool} --help", (found.returncode, found.stdout.startswith("usage: ")), (0, True))
     return wrong
@@ -109,11 +56,11 @@ def terminals(program):
     for tool, words in (("armc-coverage", [lock]), ("armc-explain", ["--why", lock]), ("armc-second-opinion", [example("tickets.armc"), example("tickets.cert")]),
                         ("armc-walk", ["--random", "9", "--seed", "1", example("open_door.armc")]), ("check-folder", [example("tutorial")])):
         asked = [] if tool == "armc-second-opinion" else ["--program", program]
-        words = [sys.executable, os.path.join(TOOLS, tool), *asked, *words]
-        piped = subprocess.run(words, capture_output=True, text=True, timeout=SECONDS)
+        words = tool_words(tool, *asked, *words)
+        piped = run(words)
         shown, status = on_terminal(words)
         # (rows that are told as they come have no order of their own)
-        texts = [sorted(re.sub(r"\d+(\.\d s| steps a second)", "time", text.replace("\r\n", "\n")).splitlines()) for text in (shown, piped.stdout + piped.stderr)]
+        texts = [sorted(re.sub(r" *\d+(\.\d s| steps a second) *", " time ", text).splitlines()) for text in (shown, piped.stdout + piped.stderr)]
         wrong += differs(f"{tool} on a terminal", (status, texts[0]), (piped.returncode, texts[1]))
     return wrong
 
@@ -136,7 +83,7 @@ def walk(program):
     found = call(program, "armc-walk", "--random", "3", example("tickets.armc"))
     told = re.fullmatch(r"armc-walk: 3 steps in 1 walk through \d configurations, \d+ steps a second; no walk ended in a bad configuration\n", found.stderr)
     wrong += differs("a walk that is no run", (found.returncode, found.stdout[:27], bool(told)), (0, "# a walk, not judged\nstart ", True))
-    shown, status = on_terminal([sys.executable, os.path.join(TOOLS, "armc-walk"), "--program", program, example("first.armc")], b"q\n")
+    shown, status = on_terminal(tool_words("armc-walk", "--program", program, example("first.armc")), b"q\n")
     return wrong + differs("a walk on a terminal", ("step, u, r, s, p, w, ? or q: " in shown, status), (True, 0))
 
 
@@ -146,7 +93,7 @@ def portfolio(program):
     for name, status in (("tickets", 0), ("burns_no_right", 1), ("snapshot_channel", 0)):
         found = call(program, "armc-portfolio", "--jobs", "2", "--one-order", example(f"{name}.armc"))
         told = re.search(r"s: armc (.*)$", found.stderr, re.M)
-        again = subprocess.run([program, *told[1].split()], capture_output=True, text=True) if told else None
+        again = run([program, *told[1].split()]) if told else None
         if not told or (found.returncode, again.returncode, again.stdout) != (status, status, found.stdout) or not judged(program, example(f"{name}.armc"), found.stdout):
             wrong.append(f"{name}: {found}")
     found = call(program, "armc-portfolio", "--jobs", "2", "--budget", "3", example("tickets.armc"))
@@ -163,42 +110,19 @@ def portfolio_reordered(program):
         found = call(program, "armc-portfolio", "--jobs", "2", "--budget", "1000", path)
         if found.returncode or not judged(program, other, found.stdout) or f"{other} has the sections in the order K S" not in found.stderr:
             return [f"another order: {found}"]
-        wrong = differs("the other order", Protocol(read(other)).rules, Protocol(read_canonical(program, path)).rules)
+        wrong = differs("the other order", Protocol(read(other)).rules, Protocol(canonical(program, path)).rules)
         found = call(program, "armc-portfolio", "--jobs", "2", "--budget", "1000", "--reordered", os.path.join(folder, "no", "p"), path)
         told = (found.returncode, judged(program, other, found.stdout), "in the order K S" in found.stderr)
         return wrong + differs("an order that cannot be written", told, (8, True, True))
 
 
-def read_canonical(program, path):
-    return subprocess.run([program, "show", path], capture_output=True, text=True).stdout
-
-
-def interrupted(program, tool, words, number, command="check"):
-    """What a tool says that gets a signal when its first search has begun, and whether something that it started still runs."""
-    with tempfile.TemporaryDirectory() as folder:
-        script, begun = (os.path.join(folder, name) for name in ("program", "begun"))
-        with open(script, "w") as file:
-            file.write(f'#!/bin/sh\n[ "$1" = {command} ] && : >"{begun}"\n[ "$1" = checkall ] && : >"{begun}"\nexec "{program}" "$@"\n')
-        os.chmod(script, 0o755)
-        words = [sys.executable, os.path.join(TOOLS, tool), "--program", script, "--jobs", "2", *words]
-        process = subprocess.Popen(words, stdout=subprocess.PIPE, stderr=subprocess.PIPE, text=True, start_new_session=True)
-        end = time.monotonic() + SECONDS
-        while not os.path.exists(begun) and time.monotonic() < end:
-            time.sleep(0.05)
-        time.sleep(0.2)
-        os.kill(process.pid, number)
-        out, err = process.communicate(timeout=SECONDS)
-        left = subprocess.run(["ps", "-o", "pid=", "-s", str(process.pid)], capture_output=True, text=True).stdout.split() if shutil.which("ps") else []
-        return process.returncode, out, err, left
-
-
 def portfolio_interrupted(program):
     """An interrupt ends all searches, and it says what was tried; and what a terminal shows."""
-    words, wrong = ["--budget", "1000000", os.path.join(TOP, *ENDLESS)], []
+    words, wrong = ["--budget", "1000000", ENDLESS], []
     for number in (signal.SIGINT, signal.SIGTERM):
         status, out, err, left = interrupted(program, "armc-portfolio", words, number)
         wrong += differs("an interrupt", (status, out, "interrupted; tried" in err, left), (130, "", True, []))
-    tool = [sys.executable, os.path.join(TOOLS, "armc-portfolio"), "--program", program, "--one-order"]
+    tool = tool_words("armc-portfolio", "--program", program, "--one-order")
     for more, layout in ((words, r"check: budget 1000000, \d"), (words[-1:], r"check: budget 10+, 10\d+ states counted before, \d")):
         shown, _ = on_terminal([*tool, "--seconds", "2", *more])
         wrong += [] if re.search(layout, shown) else [f"a terminal shows {shown[:300]!r}"]
@@ -215,8 +139,7 @@ def coverage(program):
     with tempfile.TemporaryDirectory() as folder:
         path = os.path.join(folder, "dead.armc")
         for head, status, marks in (("", 1, ["dead", "dead"]), ("# never: P.c on\n", 0, ["as meant", "as meant"]), ("# never: P.c on P.b\n", 1, ["is meant never to come"])):
-            with open(path, "w") as file:
-                file.write(head + DEAD)
+            write(path, head + DEAD)
             found = call(program, "armc-coverage", "--jobs", "2", path)
             wrong += differs(f"with {head!r}", (found.returncode, all(found.stdout.count(mark) >= marks.count(mark) for mark in marks)), (status, True))
         found = call(program, "armc-coverage", "--show", "P.b", path)
@@ -234,14 +157,12 @@ def coverage(program):
 
 def wrong_rows_of_rules():
     """Where the rows of a rule do not match exactly the configurations, of at most three letters a section, from which the rule leads on."""
-    wrong, tool = [], {}
-    with open(os.path.join(TOOLS, "armc-coverage"), encoding="utf-8") as file:
-        exec(compile(file.read().replace("\nrun_tool(main)\n", "\n"), "armc-coverage", "exec"), tool)
-    for path in sorted(glob.glob(os.path.join(TOP, "tests", "systems", "*.armc"))):
+    wrong, tool = [], module_of(os.path.join(TOOLS, "armc-coverage"), "coverage")
+    for path in sorted(glob.glob(os.path.join(SYSTEMS, "*.armc"))):
         text = read(path)
-        steps, protocol = definitions.Steps(text), Protocol("\n".join(line for line in text.splitlines() if line and not line.startswith("#")))
+        steps, protocol = definitions.Steps(text), Protocol(without_comments(text))
         rows = {rule.name: [] for rule in protocol.rules}
-        for question in tool["rule_questions"](protocol):
+        for question in tool.rule_questions(protocol):
             rows[question.name] += [dict(re.findall(r"(\w+): ([^;]*);", row)) for row in question.rows]
         most = 3 if len(steps.sections) < 3 else 2
         for r, (name, _) in enumerate(steps.rules):
@@ -305,22 +226,22 @@ def wrong_proofs(program):
     """Where the rows that are told of a proof, put together again, have other words than the proof; and where an expression has another language."""
     wrong = []
     for path in sorted(glob.glob(example("*.armc")) + glob.glob(example("tutorial", "*.armc"))):
-        certificate = read_certificate(subprocess.run([program, "check", path, "--budget", "3000"], capture_output=True, text=True).stdout)
+        certificate = read_certificate(printed(program, "check", path, "--budget", "3000"))
         if certificate is None or certificate.kind != "safe":
             continue
-        protocol = Protocol(read_canonical(program, path))
-        words = proofs.trimmed(certificate, protocol.sections)
-        rows, told = [()], [()]
-        for block, start in proofs.blocks_of(words, protocol.sections):
+        protocol = Protocol(canonical(program, path))
+        words = rows.trimmed(certificate, protocol.sections)
+        split, told = [()], [()]
+        for block, start in rows.blocks_of(words, protocol.sections):
             sections = [protocol.sections[k] for k in block]
-            found = proofs.rows_of(words, block, start)
-            said = [filled(box, row, sections) for boxes, alike in proofs.paragraphs(found, sections) for box in boxes for row in alike]
-            rows, told = ([before + row for before in earlier for row in later] for earlier, later in ((rows, found), (told, said)))
-        if together(rows, protocol) != words:
+            found = rows.rows_of(words, block, start)
+            said = [filled(box, row, sections) for boxes, alike in rows.paragraphs(found, sections) for box in boxes for row in alike]
+            split, told = ([before + row for before in earlier for row in later] for earlier, later in ((split, found), (told, said)))
+        if together(split, protocol) != words:
             wrong.append(f"{os.path.basename(path)}: the rows are not the proof")
         if together(told, protocol) != words:
             wrong.append(f"{os.path.basename(path)}: what is told is not the proof")
-        for one in {each for row in rows for each in row if len(each) <= 12}:
+        for one in {each for row in split for each in row if len(each) <= 12}:
             if expressions.words_of(expressions.expression(one)) != one:
                 wrong.append(f"{os.path.basename(path)}: an expression has another language")
     return wrong
@@ -334,7 +255,7 @@ def wrong_neighbours():
         ("a* b+ a* c", ["never first: c", "last: c"]), ("{ b c } a* { b c }", ["never first: a", "never last: a"]),
     ):
         words = stuck.language_of(section, [stuck.atoms_of(section, pattern)])
-        found = proofs.neighbours(words, section.letters)
+        found = in_words.neighbours(words, section.letters)
         lists = [each for count in range(1, 6) for each in itertools.product("abc", repeat=count) if definitions.matches([("P", "array", ["a", "b", "c"])], {"P": pattern}, [each])]
         for line in found:
             wrong += [f"{line} of {pattern} does not hold of {each}" for each in lists if not is_said(line, each)]
@@ -381,41 +302,34 @@ def folders(program):
         report = os.path.join(folder, "report.xml")
         for name, head in (("own", "# options: --method length --budget 300\n"), ("other", ""), ("silent", None)):
             text = read(example("burns_no_right.armc"))
-            with open(os.path.join(folder, f"{name}.armc"), "w") as file:
-                file.write(head + text if head is not None else text.replace("# expect:", "# expected:"))
+            write(os.path.join(folder, f"{name}.armc"), head + text if head is not None else text.replace("# expect:", "# expected:"))
         found = call(program, "check-folder", "--junit", report, "--budget", "250", folder)
         cases = {case.get("name"): [each.tag for each in case] for case in xml.parse(report).getroot()}
         wanted = {"own.armc": ["system-out"], "other.armc": ["failure", "system-out"], "silent.armc": ["skipped", "system-out"]}
         wrong = differs("options and report", (found.returncode, cases), (1, wanted))
         found = call(program, "check-folder", os.path.join(folder, "nowhere"))
         wrong += differs("a folder that is not there", (found.returncode, "Traceback" in found.stderr), (2, False))
-        with open(os.path.join(folder, "own.armc"), "w") as file:
-            file.write("# expect: safe\nprotocol p\narray P { a a }\n")
+        write(os.path.join(folder, "own.armc"), "# expect: safe\nprotocol p\narray P { a a }\n")
         found = call(program, "check-folder", folder)
         wrong += differs("a refused protocol", (found.returncode, "line 3 column 13: duplicate a" in found.stdout), (1, True))
-        with open("/dev/full", "w") as full:
-            found = call(program, "check-folder", folder, capture_output=False, stdout=full, stderr=subprocess.PIPE)
-        return wrong + differs("a full device", (found.returncode, "Traceback" in found.stderr), (126, False))
+        return wrong + differs("a full device", to_full_device(tool_words("check-folder", "--program", program, folder)), (126, False))
 
 
 def release(program):
     """Two builds give the same bytes; the program and the tools run from the archive and the package, where nothing else of armc is seen."""
     with tempfile.TemporaryDirectory() as folder:
-        names = {}
+        names, wrong = {}, []
         for kind, at in itertools.product(("dist", "deb"), ("one", "two")):
             os.makedirs(os.path.join(folder, at), exist_ok=True)
-            words = [os.path.join(TOOLS, "make-release"), kind, "--program", program, "--folder", os.path.join(folder, at)]
-            names[kind, at] = subprocess.run([sys.executable, *words], capture_output=True, text=True, check=True).stdout.strip()
-        wrong = []
+            names[kind, at] = run(tool_words("make-release", kind, "--program", program, "--folder", os.path.join(folder, at)), check=True).stdout.strip()
         for kind in ("dist", "deb"):
-            with open(names[kind, "one"], "rb") as one, open(names[kind, "two"], "rb") as two:
-                wrong += [] if one.read() == two.read() else [f"two builds of {kind} are not the same bytes"]
+            wrong += [] if read_bytes(names[kind, "one"]) == read_bytes(names[kind, "two"]) else [f"two builds of {kind} are not the same bytes"]
         with tarfile.open(names["dist", "one"]) as archive:
             archive.extractall(folder)
         root = names["dist", "one"].removesuffix(".tar.gz").replace("/one/", "/")
         if shutil.which("dpkg-deb"):
-            subprocess.run(["dpkg-deb", "-x", names["deb", "one"], os.path.join(folder, "deb")], check=True)
-            same = subprocess.run(["diff", "-r", root, os.path.join(folder, "deb", "usr")], capture_output=True, text=True)
+            run(["dpkg-deb", "-x", names["deb", "one"], os.path.join(folder, "deb")], check=True)
+            same = run(["diff", "-r", root, os.path.join(folder, "deb", "usr")])
             wrong += [] if same.returncode == 0 else [f"the package differs from the archive: {same.stdout[:200]}"]
         if shutil.which("dpkg") and os.geteuid() == 0:
             wrong += wrong_package(names["deb", "one"], root)
@@ -432,12 +346,12 @@ def wrong_strays(program):
         for name in ("README.md", "LICENSE"):
             shutil.copy(os.path.join(TOP, name), folder)
         for words in (["init", "-q"], ["add", "."]):
-            subprocess.run(["git", "-C", folder, *words], check=True)
+            run(["git", "-C", folder, *words], check=True)
         packed, words = [], [os.path.join(folder, "tools", "make-release"), "dist", "--program", program, "--folder", folder]
         for _ in range(2):
-            with tarfile.open(subprocess.run([sys.executable, *words], capture_output=True, text=True, check=True).stdout.strip()) as archive:
+            with tarfile.open(run([sys.executable, *words], check=True).stdout.strip()) as archive:
                 packed.append(archive.getnames())
-            open(os.path.join(folder, "examples", "stray.cert"), "w").close()
+            write(os.path.join(folder, "examples", "stray.cert"), "")
         return [] if packed[0] == packed[1] and any(name.endswith("examples/first.cert") for name in packed[0]) else ["a file that git does not keep is packed"]
 
 
@@ -448,19 +362,19 @@ def wrong_package(package, unpacked):
         for name in ("info", "updates"):
             os.makedirs(os.path.join(state, name))
         for name in ("status", "available"):
-            open(os.path.join(state, name), "w").close()
+            write(os.path.join(state, name), "")
         # (an empty root has no C library that dpkg knows of)
         words = ["dpkg", f"--root={root}", "--force-depends"]
         environment = {**os.environ, "PATH": f"/usr/sbin:/sbin:{os.environ['PATH']}"}
-        found = subprocess.run([*words, "-i", package], env=environment, capture_output=True, text=True)
+        found = run([*words, "-i", package], env=environment)
         if found.returncode:
             return [f"dpkg -i: {found.stderr[-300:]}"]
-        same = subprocess.run(["diff", "-r", unpacked, os.path.join(root, "usr")], capture_output=True, text=True)
+        same = run(["diff", "-r", unpacked, os.path.join(root, "usr")])
         wrong = [] if same.returncode == 0 else [f"what dpkg installs differs from the archive: {same.stdout[:200]}"]
         place = os.path.join(root, "usr", "share", "doc", "armc", "examples", "first")
-        found = subprocess.run([os.path.join(root, "usr", "bin", "armc"), "verify", f"{place}.armc", f"{place}.cert"], capture_output=True, text=True)
+        found = run([os.path.join(root, "usr", "bin", "armc"), "verify", f"{place}.armc", f"{place}.cert"])
         wrong += differs("the installed program", (found.returncode, found.stdout), (0, "valid\n"))
-        found = subprocess.run([*words, "-P", "armc"], env=environment, capture_output=True, text=True)
+        found = run([*words, "-P", "armc"], env=environment)
         left = [name for _, _, names in os.walk(os.path.join(root, "usr")) for name in names]
         return wrong + ([] if found.returncode == 0 and not left else [f"dpkg -P: {found.stderr[-300:]} {left[:5]}"])
 
@@ -468,12 +382,12 @@ def wrong_package(package, unpacked):
 def without_repository():
     """Words before a command that hide the repository from it, in a namespace where it is an empty folder; none where this machine lets nobody do so."""
     words = ["unshare", *([] if os.geteuid() == 0 else ["-r"]), "-m", "sh", "-c", 'mount -t tmpfs none "$0" && exec "$@"', TOP]
-    return words if shutil.which("unshare") and subprocess.run([*words, "true"], capture_output=True).returncode == 0 else []
+    return words if shutil.which("unshare") and run([*words, "true"]).returncode == 0 else []
 
 
 def wrong_root(program, root):
     """What goes wrong in a root with nothing but the archive and the C library, and, for the tools, where the repository and the toolchain are hidden."""
-    needed = re.findall(r"(/\S+)", subprocess.run(["ldd", program], capture_output=True, text=True).stdout)
+    needed = re.findall(r"(/\S+)", run(["ldd", program]).stdout)
     other = [path for path in needed if not re.match(r"(ld-linux[\w-]*|libc|libm|libpthread|libdl|librt|libgcc_s)\.so", os.path.basename(path))]
     wrong = [f"the program needs {other}"] if other else []
     place = os.path.join(root, "share", "doc", "armc", "examples")
@@ -489,37 +403,37 @@ def wrong_root(program, root):
     environment = {"PATH": f"{os.path.dirname(sys.executable)}:/usr/bin:/bin", "HOME": root}
     for tool, *words in tools:
         words = [os.path.join(root, "bin", tool), *words]
-        found = subprocess.run([*hide, *words], env=environment, capture_output=True, text=True, cwd=root, timeout=SECONDS)
+        found = run([*hide, *words], env=environment, cwd=root)
         wrong += [] if found.returncode in (0, 1) and not found.stderr.count("Traceback") and found.stdout else [f"{words}: {found}"]
     for path in needed:
         os.makedirs(root + os.path.dirname(path), exist_ok=True)
         shutil.copy(path, root + path)
     enter = [] if os.geteuid() == 0 else ["unshare", "-r"]
-    if shutil.which("chroot") and subprocess.run([*enter, "true"], capture_output=True).returncode == 0:
+    if shutil.which("chroot") and run([*enter, "true"]).returncode == 0:
         inside = place[len(root):]
-        found = subprocess.run([*enter, shutil.which("chroot"), root, "/bin/armc", "verify", f"{inside}/first.armc", f"{inside}/first.cert"], capture_output=True, text=True)
+        found = run([*enter, shutil.which("chroot"), root, "/bin/armc", "verify", f"{inside}/first.armc", f"{inside}/first.cert"])
         wrong += differs("in a root of its own", (found.returncode, found.stdout, found.stderr), (0, "valid\n", ""))
     return wrong
 
 
 def pictures(program):
-    """The pictures of the pages are those that armc-explain draws."""
+    """The pictures of the pages are those that armc-explain draws, and that of the crates (tests/crate-picture)."""
     wrong = []
     with tempfile.TemporaryDirectory() as folder:
         for name, words in PICTURES.items():
             drawn = os.path.join(folder, name)
             call(program, "armc-explain", "--plain", "--svg", drawn, *words[:-1], example(words[-1]))
-            if not os.path.exists(drawn) or read(drawn) != read(os.path.join(TOP, "docs", "pictures", name)):
+            if not os.path.exists(drawn) or read(drawn) != read("docs", "pictures", name):
                 wrong.append(f"docs/pictures/{name} is not what armc-explain --plain --svg draws of {words}")
-    wrong += differs("docs/pictures/before_merging.svg", read(os.path.join(TOP, "docs", "pictures", "before_merging.svg")), before_merging(program))
+    wrong += differs("docs/pictures/before_merging.svg", read("docs", "pictures", "before_merging.svg"), before_merging(program))
     held = {os.path.basename(path) for path in glob.glob(os.path.join(TOP, "docs", "pictures", "*.svg"))}
-    return wrong + differs("the pictures", held, {"before_merging.svg", *PICTURES})
+    return wrong + differs("the pictures", held, {"before_merging.svg", "crates.svg", *PICTURES})
 
 
 def before_merging(program):
     """The picture of the automaton N_1 of docs/METHOD.md, which is no proof, so that armc-explain does not draw it."""
     text = "armc 1 safe\nstates 3\nfinal 2\nedge 0 P.n 1\nedge 0 P.t 2\nedge 1 P.t 2\nedge 2 P.n 2\nend\n"
-    return drawing.automaton(Protocol(read_canonical(program, example("token.armc"))), read_certificate(text), True)
+    return drawing.automaton(Protocol(canonical(program, example("token.armc"))), read_certificate(text), True)
 
 
 PICTURES = {
@@ -532,10 +446,10 @@ PICTURES = {
 
 
 def told_pages(program):
-    """The explanations that the pages show are those that armc-explain prints."""
-    wrong, pages = [], "".join(read(os.path.join(TOP, "docs", name)) for name in ("TOOLS.md", "GALLERY.md"))
+    """The explanations that the pages and the rows of tests show are those that armc-explain prints."""
+    wrong, pages = [], "".join(read(*name) for name in (("docs", "TOOLS.md"), ("docs", "GALLERY.md"), ("tests", "rows", "explained.md")))
     for searched, words, told in re.findall(r"^\$ (?:armc (.*) \| )?armc-explain (.*)\n((?:.*\n)*?)```$", pages, re.M):
-        given = subprocess.run([program, *searched.split()], capture_output=True, text=True, cwd=TOP).stdout if searched else ""
+        given = run([program, *searched.split()], cwd=TOP).stdout if searched else ""
         found = call(program, "armc-explain", *[os.path.join(TOP, word) if "/" in word else word for word in words.split()], text=given)
         wrong += differs(f"armc-explain {words}", found.stdout, told)
     return wrong
@@ -546,7 +460,7 @@ def wrong_sum(program, words, answer, counted, size=None):
     wrong = []
     for budget, status in ((counted + 1, ["safe", "unsafe"].index(answer)), (counted, 2)):
         try:
-            found = subprocess.run([program, *words, "--budget", str(budget)], capture_output=True, text=True, cwd=TOP, timeout=SECONDS)
+            found = run([program, *words, "--budget", str(budget)], cwd=TOP)
         except subprocess.TimeoutExpired:
             return [f"{words} with budget {budget} does not end in {SECONDS} s"]
         line, steps = found.stdout.partition("\n")[2].partition("\n")[0], str(found.stdout.count("\nstep "))
@@ -559,16 +473,16 @@ def wrong_sum(program, words, answer, counted, size=None):
 def wrong_numbers(program):
     """Where an answer or a number of a table of docs/HARD.md is not what the program says: `check` by its report, the others by their budgets."""
     wrong = []
-    for command, words, cells in re.findall(r"^\| `armc (\w+) ([^`]*)` \|(.*)\|$", read(os.path.join(TOP, "docs", "HARD.md")), re.M):
+    for command, words, cells in re.findall(r"^\| `armc (\w+) ([^`]*)` \|(.*)\|$", read("docs", "HARD.md"), re.M):
         answer, counted = [cell.strip() for cell in cells.split("|")][-2:]
         if command != "check":
             wrong += wrong_sum(program, [command, *words.split()], answer, int(counted))
             continue
-        found = subprocess.run([program, "check", "--report", *words.split()], capture_output=True, text=True, cwd=TOP, timeout=SECONDS)
+        found = run([program, "check", "--report", *words.split()], cwd=TOP)
         report = json.loads(found.stderr) if found.stderr.startswith("{") else found.stderr
         wrong += differs(words, [report["verdict"], str(report["counted"])], [answer, counted])
     pair = [example("hard", f"lamport_fast{name}.armc") for name in ("", "_pointers")]
-    proof = subprocess.run([program, "check", pair[1]], capture_output=True, text=True).stdout
+    proof = run([program, "check", pair[1]]).stdout
     return wrong + ([] if judged(program, pair[0], proof) else ["the proof of lamport_fast_pointers is not valid for lamport_fast"])
 
 
@@ -588,22 +502,6 @@ def other_searches(program):
     return wrong
 
 
-def second_checker():
-    """The tool armc-second-opinion as a module."""
-    loader = importlib.machinery.SourceFileLoader("second_opinion", os.path.join(TOOLS, "armc-second-opinion"))
-    module = importlib.util.module_from_spec(importlib.util.spec_from_loader("second_opinion", loader))
-    loader.exec_module(module)
-    return module
-
-
-def opinion(second, system, text):
-    """What the second checker says of a certificate: its status and its line."""
-    try:
-        return second.judged(system, text)
-    except second.Refused as fault:
-        return fault.args[0], f"armc: {fault.args[1]}"
-
-
 def changed_certificates(text):
     """The text; without one of its lines, with a line twice, with another number, and cut: a few of each, at fixed places."""
     lines = text.splitlines(True)
@@ -620,48 +518,38 @@ def second_opinion(program):
     """The second checker and `verify` say the same of the proofs and runs of the examples, and of changed ones; and its statuses."""
     wrong, second = [], second_checker()
     for path in sorted(glob.glob(example("*.armc")) + glob.glob(example("patterns", "*.armc"))):
-        text = subprocess.run([program, "check", path, "--budget", "3000"], capture_output=True, text=True, timeout=SECONDS).stdout
+        text = printed(program, "check", path, "--budget", "3000")
         if text.startswith("armc 1 unknown") or len(text) > 4000:
             continue
         system = second.Reader(read(path)).protocol()
         for changed in changed_certificates(text):
-            found = subprocess.run([program, "verify", path, "-"], input=changed, capture_output=True, text=True, timeout=SECONDS)
+            found = run([program, "verify", path, "-"], input=changed)
             wrong += differs(f"{os.path.basename(path)} with {changed[:60]!r}", opinion(second, system, changed), (found.returncode, (found.stdout or found.stderr).strip()))
-    tool, lock = [sys.executable, os.path.join(TOOLS, "armc-second-opinion")], example("tutorial", "lock.armc")
+    lock, tickets = example("tutorial", "lock.armc"), [example("tickets.armc"), example("tickets.cert")]
     with tempfile.TemporaryDirectory() as folder:
-        texts = {"free": "deadlock free\nstates 1\nfinal 0\nend\n", "stuck": "deadlock\nstart L: free; P: i\nend\n", "none": "x\n"}
-        for name, text in texts.items():
-            with open(os.path.join(folder, name), "w") as file:
-                file.write(text)
-        for words, status, told in ((["tickets.armc", "tickets.cert"], 0, "valid\n"), ([lock, os.path.join(folder, "free")], 7, "not valid: initial missing: L: free; P: i\n"),
-                                    ([lock, os.path.join(folder, "stuck")], 7, "not valid: not stuck\n"), ([lock, os.path.join(folder, "none")], 6, ""),
-                                    ([os.path.join(folder, "none")] * 2, 5, ""), ([lock, os.path.join(folder, "nowhere")], 4, ""), ([lock], 3, "")):
-            found = subprocess.run(tool + words, cwd=example(), capture_output=True, text=True, timeout=SECONDS)
+        free, stuck, none = write_all(folder, {"free": "deadlock free\nstates 1\nfinal 0\nend\n", "stuck": "deadlock\nstart L: free; P: i\nend\n", "none": "x\n"})
+        for words, status, told in ((tickets, 0, "valid\n"), ([lock, free], 7, "not valid: initial missing: L: free; P: i\n"), ([lock, stuck], 7, "not valid: not stuck\n"),
+                                    ([lock, none], 6, ""), ([none, none], 5, ""), ([lock, os.path.join(folder, "nowhere")], 4, ""), ([lock], 3, "")):
+            found = run(tool_words("armc-second-opinion", *words))
             wrong += differs(f"armc-second-opinion {words}", (found.returncode, found.stdout), (status, told))
-    if os.path.exists("/dev/full"):
-        with open("/dev/full", "w") as full:
-            status = subprocess.run(tool + [example("tickets.armc"), example("tickets.cert")], stdout=full, stderr=subprocess.DEVNULL).returncode
-        wrong += differs("armc-second-opinion to a full device", status, 8)
-    return wrong
+    return wrong + differs("armc-second-opinion to a full device", to_full_device(tool_words("armc-second-opinion", *tickets)), (8, False))
 
 
-def checks(program):
-    """Each check with its name."""
-    yield "tools, with faults", faults(program)
-    yield "tools on a terminal", terminals(program)
-    yield "armc-walk", walk(program)
-    yield "armc-portfolio", portfolio(program)
-    yield "armc-coverage", coverage(program)
-    yield "armc-explain", explain(program)
-    yield "armc-second-opinion", second_opinion(program)
-    yield "armc-check-folder", folders(program)
-    yield "pictures", pictures(program)
-    yield "pages of the tools", told_pages(program)
-    yield "page of hard protocols", wrong_numbers(program)
-    yield "other searches", other_searches(program)
-    yield "release", release(program)
-
+CHECKS = {
+    "tools, with faults": faults,
+    "tools on a terminal": terminals,
+    "armc-walk": walk,
+    "armc-portfolio": portfolio,
+    "armc-coverage": coverage,
+    "armc-explain": explain,
+    "armc-second-opinion": second_opinion,
+    "armc-check-folder": folders,
+    "pictures": pictures,
+    "pages of the tools": told_pages,
+    "page of hard protocols": wrong_numbers,
+    "other searches": other_searches,
+    "release": release,
+}
 
 if __name__ == "__main__":
-    for name, lines in checks(os.path.abspath(sys.argv[1])):
-        print(f"{name}: skipped, since {lines}" if isinstance(lines, str) else f"{name}: {'ok' if not lines else lines[:5]}", flush=True)
+    sys.exit(main(CHECKS))

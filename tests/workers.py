@@ -1,7 +1,7 @@
 """Whole runs with several workers: with 4 of them more than one thread is at work at some moment, as the system tells of the process, and with 1 there is
 never a second thread; both give the same answer. The rules of the protocol change letters of an array in which no `x` may stand in one place, counted from
-the end, so that automata have a state for each set of places near the end, and images and preimages take most of the time. Each check is a pair of a name
-and a list of lines that say what is wrong, or of a name and why it was left out.
+the end, so that automata have a state for each set of places near the end, and images and preimages take most of the time.
+Usage: tests/workers.py [PROGRAM] [NAME..]
 """
 import glob
 import os
@@ -10,7 +10,8 @@ import sys
 import tempfile
 import time
 
-SECONDS = 120
+from support import SECONDS, main, write_all
+
 PAUSE = 0.002
 
 
@@ -55,31 +56,24 @@ def watched(words):
         return (process.returncode, out.read()), most, at_work
 
 
-def wrong_threads(program, *words):
-    """Where the search is not made by as many threads as it is told."""
-    (one, most, _), (four, _, at_work) = (watched([program, *words, "--workers", workers]) for workers in "14")
+def wrong_threads(program, command, texts, *more):
+    """Where the search of the texts, a protocol and perhaps properties, is not made by as many threads as it is told."""
+    if not os.path.isdir("/proc/self/task"):
+        return "the system does not tell of threads"
+    with tempfile.TemporaryDirectory() as folder:
+        words = [program, command, *write_all(folder, texts), *more, "--workers"]
+        (one, most, _), (four, _, at_work) = (watched([*words, workers]) for workers in "14")
     wrong = [] if one[0] == 0 else [f"the answer is {str(one)[:160]}"]
     wrong += [] if one == four else ["the answer with 4 workers is another one"]
     wrong += [] if most == 1 else [f"with 1 worker there were {most} threads"]
     return wrong + ([] if at_work > 1 else ["with 4 workers no two threads were at work at one moment"])
 
 
-def checks(program):
-    """Each check with its name."""
-    if not os.path.isdir("/proc/self/task"):
-        yield "threads of whole runs", "the system does not tell of threads"
-        return
-    with tempfile.TemporaryDirectory() as folder:
-        texts = {"large": protocol(12, 13), "small": protocol(6, 10), "props": properties(10)}
-        paths = {name: os.path.join(folder, name) for name in texts}
-        for name, text in texts.items():
-            with open(paths[name], "w", encoding="ascii") as file:
-                file.write(text)
-        yield "threads of check", wrong_threads(program, "check", paths["large"], "--method", "length", "--bound", "13")
-        yield "threads of back", wrong_threads(program, "back", paths["small"])
-        yield "threads of checkall", wrong_threads(program, "checkall", paths["small"], paths["props"])
-
+CHECKS = {
+    "threads of check": lambda program: wrong_threads(program, "check", {"p": protocol(12, 13)}, "--method", "length", "--bound", "13"),
+    "threads of back": lambda program: wrong_threads(program, "back", {"p": protocol(6, 10)}),
+    "threads of checkall": lambda program: wrong_threads(program, "checkall", {"p": protocol(6, 10), "props": properties(10)}),
+}
 
 if __name__ == "__main__":
-    for name, lines in checks(os.path.abspath(sys.argv[1])):
-        print(f"{name}: skipped, since {lines}" if isinstance(lines, str) else f"{name}: {'ok' if not lines else lines[:5]}", flush=True)
+    sys.exit(main(CHECKS))

@@ -24,17 +24,23 @@ def language(start, step, accepts):
     return minimal(numbered, {k for k, state in enumerate(order) if accepts(state)})
 
 
+def reached(starts, step):
+    """These states and all that `step` leads to from them."""
+    found, waiting = set(starts), list(starts)
+    while waiting:
+        more = set(step(waiting.pop())) - found
+        found |= more
+        waiting += more
+    return found
+
+
 def minimal(moves, finals):
     """The smallest automaton: states that reach no end are left out, and those of one class are made one."""
     into = {}
     for k, edges in enumerate(moves):
         for target in edges.values():
             into.setdefault(target, []).append(k)
-    live, waiting = set(finals), list(finals)
-    while waiting:
-        more = set(into.get(waiting.pop(), ())) - live
-        live |= more
-        waiting += more
+    live = reached(finals, lambda k: into.get(k, ()))
     if 0 not in live:
         return NONE
     moves = {k: {letter: t for letter, t in moves[k].items() if t in live} for k in live}
@@ -100,17 +106,8 @@ def is_commutative(words):
 
 def counts(words, letter, most=2):
     """How often the letter can stand in a word: the numbers below `most`, and `most` for as often or more."""
-    found, waiting, ends = {(0, 0)}, [(0, 0)], set()
-    while waiting:
-        state, count = waiting.pop()
-        if words[state][0]:
-            ends.add(count)
-        for each, target in words[state][1]:
-            after = (target, min(most, count + (each == letter)))
-            if after not in found:
-                found.add(after)
-                waiting.append(after)
-    return frozenset(ends)
+    found = reached([(0, 0)], lambda state: [(target, min(most, state[1] + (each == letter))) for each, target in words[state[0]][1]])
+    return frozenset(count for state, count in found if words[state][0])
 
 
 def with_counts(allowed, most=2):
@@ -122,3 +119,8 @@ def with_counts(allowed, most=2):
         found.update({letter: state[:k] + (min(most, state[k] + 1),) + state[k + 1:] for k, letter in enumerate(limited)})
         return list(found.items())
     return language((0,) * len(limited), step, lambda state: all(count in allowed[letter] for count, letter in zip(state, limited)))
+
+
+def every_list(names, least):
+    """All lists of at least so many letters."""
+    return language(0, lambda state: [(place, min(state + 1, least)) for place in range(len(names))], lambda state: state == least)

@@ -7,11 +7,11 @@ other, and what the product reads and what it writes are the two sets.
 import collections
 import itertools
 
-from .automata import language
+from .automata import language, reached
 from .expressions import expression, text as expression_text
 from .moves import move_of
-from .proofs import TooMany, blocks_of, paragraphs, rows_of
 from .protocol import alternatives, configuration_text
+from .rows import TooMany, blocks_of, paragraphs, rows_of
 
 # More cases, or more states of all products, are not looked at, and a set of more states is not told by an expression.
 CASES, STATES, TOLD = 200, 200_000, 30
@@ -114,12 +114,7 @@ class Product:
     def side(self, at):
         """The words that the product reads (0) or writes (1)."""
         def closed(states):
-            seen, waiting = set(states), list(states)
-            while waiting:
-                more = {each[2] for each in self.step(waiting.pop()) if each[at] is None} - seen
-                seen |= more
-                waiting += more
-            return frozenset(seen)
+            return frozenset(reached(states, lambda state: [each[2] for each in self.step(state) if each[at] is None]))
 
         def step(states):
             found = {}

@@ -64,7 +64,8 @@ function drawn(section, list, edit, before, matters, most) {
   if (section.kind === "array") return element("div", "part list", name, element("div", "row-of-boxes", ...made));
   if (section.kind === "stack") {
     const stack = element("div", "stack", element("span", "end", "top"), ...made);
-    stack.style.minHeight = `${1.6 + 2.2 * Math.min(most, 12)}rem`;
+    // (room for one letter more, that is gone)
+    stack.style.minHeight = `${1.6 + 2.2 * Math.min(most + 1, 12)}rem`;
     return element("div", "part", name, stack);
   }
   const pipe = element("div", "pipe" + (section.kind === "channel" ? "" : " lossy"), element("span", "end", "\u2190 front"),
@@ -233,7 +234,7 @@ function readConfiguration(text) {
 // How a configuration is written: one of the proof, where there is one.
 function example() {
   const [known] = data.examples.filter((each) => each[0] === "one of the proof");
-  return known ? known[1] : sections.map((section) => `${section.name}: ${section.kind === "cell" ? section.letters[0] : section.letters.slice(0, 2).join(" ")}`).join("; ");
+  return known ? known[1][0] : sections.map((section) => `${section.name}: ${section.kind === "cell" ? section.letters[0] : section.letters.slice(0, 2).join(" ")}`).join("; ");
 }
 
 function member() {
@@ -334,15 +335,18 @@ function member() {
   });
   one(place, ".example").textContent = example();
   one(place, "form").addEventListener("submit", (event) => { event.preventDefault(); look(); });
-  if (data.examples.length) one(place, ".examples").append("Try ", ...data.examples.map(([name, text]) => {
+  if (data.examples.length) one(place, ".examples").append("Try ", ...data.examples.map(([name, texts]) => {
     const button = element("button", "", name);
     button.type = "button";
-    button.addEventListener("click", () => { field.value = text; look(); });
+    button.addEventListener("click", () => {
+      field.value = texts[(texts.indexOf(field.value) + 1) % texts.length];
+      look();
+    });
     return button;
   }));
   place.hidden = false;
   if (data.examples.length) {
-    field.value = data.examples[0][1];
+    field.value = data.examples[0][1][0];
     look();
   }
 }
@@ -378,20 +382,9 @@ function picturedArrows() {
   return found;
 }
 
-function rulesOfTable() {
-  all(document, ".closure tbody").forEach((body) => {
-    body.addEventListener("mouseenter", () => {
-      markRows("fired", [`rule-${body.dataset.rule}`]);
-      followRows([`rule-${body.dataset.rule}`]);
-    });
-    body.addEventListener("mouseleave", () => markRows("fired", []));
-  });
-}
-
 ["scroll", "resize"].forEach((what) => window.addEventListener(what, fitProtocol, { passive: true }));
 fitProtocol();
 if (one(document, ".player")) player();
 if (one(document, ".member")) member();
 window.addEventListener("resize", tellWide);
 tellWide();
-rulesOfTable();

@@ -7,12 +7,14 @@ import base64
 import collections
 import hashlib
 import html
+import itertools
 import json
 import os
 import re
 import shlex
 
 from . import drawing, source
+from .automata import reached
 from .certificate import Automaton, size_of
 from .closure import Told, configuration
 from .expansion import pairs
@@ -28,6 +30,8 @@ LINES, DRAWN, STATES, EDGES, WAYS = 400, 40, 200, 200_000, 200
 ROWS = 9
 # The least words through its states have at most so many letters together, and the one to begin with so many, where there is such a one.
 LETTERS, SHORT = 200_000, 12
+# So many configurations of a kind are there to try.
+EXAMPLES = 8
 
 # What is told: the name of the file, its text, the protocol, the certificate and what `verify` says of it, the lines that tell it, the bad rows that
 # the end of a run meets, the ways of the rules of a proof (or a line that says why they are not told), and the words of the tool: the longest expression,
@@ -74,10 +78,10 @@ def head(told):
 def page(told):
     """The page of a proof or a run."""
     proof = isinstance(told.certificate, Automaton)
-    main, data = (proof_main if proof else run_main)(told)
+    main, below, data = (proof_main if proof else run_main)(told)
     data["sections"] = [[each.kind, each.name, each.letters] for each in told.protocol.sections]
     aside = ["<aside>", *section("Protocol", f'<pre class="source">{source.source_html(told.text, told.protocol)}</pre>'), "</aside>"]
-    body = [*head(told), '<div class="columns">', "<main>", *main, "</main>", *aside, "</div>", '<footer class="soft">Written by <code>armc-explain</code>.</footer>']
+    body = [*head(told), '<div class="columns">', "<main>", *main, "</main>", *aside, "</div>", *below, '<footer class="soft">Written by <code>armc-explain</code>.</footer>']
     return document(f"{told.name}: {told.certificate.kind}", body, "page.js", data, "proof" if proof else "run")
 
 
@@ -181,8 +185,8 @@ def run_main(told):
             "rules": [rule.name for rule in protocol.rules], "inits": inits, "met": met, "stuck": run.kind == "deadlock"}
     table = section("All steps", *steps_table(run, protocol, steps), *end)
     if len(str(data["steps"])) > RUN_BYTES:
-        return [f'<p class="note">The run of {size_of(run)} is too long to step through here: the player is left out.</p>', *table], {}
-    return [*section("Step through the run", PLAYER, kind="player", hidden=True), *table], data
+        return [f'<p class="note">The run of {size_of(run)} is too long to step through here: the player is left out.</p>', *table], [], {}
+    return [*section("Step through the run", PLAYER, kind="player", hidden=True), *table], [], data
 
 
 def numbered(edit, places):
@@ -252,9 +256,10 @@ def closure_table(told):
     """The table of rules: from where each can fire, and into which case it leads."""
     words = Told(told.protocol, told.given.width)
     yield '<div class="wide"><table class="closure"><thead><tr><th>rule</th><th>fires where</th><th>and leads to</th><th>a least step</th></tr></thead>'
-    for number, (rule, ways) in enumerate(told.closure):
-        yield f'<tbody data-rule="{number}">'
-        name = f'<th scope="rowgroup" rowspan="{max(1, min(len(ways), WAYS))}">{html.escape(rule.name)}</th>'
+    for (rule, ways), line in zip(told.closure, told.protocol.lines_of("rule")):
+        yield "<tbody>"
+        moves = re.fullmatch(r"rule \w+ \{ ?(.*?) ?\}", line)[1]
+        name = f'<th scope="rowgroup" rowspan="{max(1, min(len(ways), WAYS))}">{html.escape(rule.name)}<code>{html.escape(moves)}</code></th>'
         if not ways:
             yield f'<tr>{name}<td colspan="3" class="soft">nowhere: no configuration of the proof lets it fire</td></tr>'
         for at, way in enumerate(ways[:WAYS]):
@@ -303,10 +308,10 @@ def proof_main(told):
         parts += [f'<p class="note">The automaton has {len(automaton.edges)} edges: looking up a configuration is left out here.</p>']
     parts += section("The automaton", *automaton_html(told, least, left_out))
     if isinstance(told.closure, str):
-        return [*parts, *section("Why it stays so", f'<p class="note">{html.escape(told.closure)}</p>')], data
+        return parts, section("Why it stays so", f'<p class="note">{html.escape(told.closure)}</p>'), data
     outside = any(way.into is None for _, ways in told.closure for way in ways)
     leads = "" if outside else "Wherever a rule can fire, it leads from a configuration of the proof to one of the proof. "
-    return [*parts, *section("Why it stays so", f"<p>{leads}Of each rule these are the configurations.</p>", *closure_table(told))], data
+    return parts, section("Why it stays so", f"<p>{leads}Of each rule these are the configurations.</p>", *closure_table(told)), data
 
 
 def automaton_html(told, least, left_out):
@@ -351,10 +356,8 @@ def bare(picture):
 
 def with_edges(picture, labels):
     """A plain picture with the states of each arrow named, so that the script finds it: behind that of the start, the arrows stand in the order of the labels."""
-    reached = {0}
-    while more := {q for p, q in labels if p in reached} - reached:
-        reached |= more
-    pairs = [pair for pair in labels if pair[0] in reached]
+    drawn = reached([0], lambda state: [q for p, q in labels if p == state])
+    pairs = [pair for pair in labels if pair[0] in drawn]
     parts = picture.split('<path class="edge"')
     if len(parts) != len(pairs) + 2:
         return picture
@@ -362,11 +365,10 @@ def with_edges(picture, labels):
 
 
 def examples_of(told, least):
-    """Configurations to begin with: one of the proof, and one that is bad."""
-    sections, found = told.protocol.sections, []
-    known = sorted((word for word, _ in least.values()), key=len)
-    if known:
-        found.append(["one of the proof", configuration(sections, ([known[0], *(word for word in known if len(word) <= SHORT)])[-1])])
-    if told.certificate.kind == "safe" and told.protocol.bads:
-        found.append(["a bad one", source.least_of_row(told.protocol.bads[0], sections)])
-    return [[said, text] for said, text in found if text]
+    """Configurations to begin with, by what is said of them: those of the proof, and bad ones, of each row in turn."""
+    sections, known = told.protocol.sections, sorted((word for word, _ in least.values()), key=len)
+    short = [word for word in known if len(word) <= SHORT] or known[:1]
+    bad = [source.short_ones(row, sections, EXAMPLES) for row in told.protocol.bads] if told.certificate.kind == "safe" else []
+    turns = [text for texts in itertools.zip_longest(*bad) for text in texts if text]
+    found = {"one of the proof": [configuration(sections, word) for word in short[::-1]], "a bad one": turns}
+    return [[said, list(dict.fromkeys(texts))[:EXAMPLES]] for said, texts in found.items() if texts]

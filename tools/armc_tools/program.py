@@ -38,6 +38,11 @@ class Refused(Exception):
         self.status, self.text = status, text
 
 
+def refusal(ended, told=""):
+    """The end of a tool by a call that has another status than it may have: with this text, or what the call said."""
+    return Refused(ended.status if ended.status > 0 else NOT_RUN, told or (ended.err or ended.out).strip() or f"armc ended with {ended.status}")
+
+
 def default_program():
     """The launcher of the repository, the program that is installed beside the tools, or the one on the path."""
     for place in (os.path.join(TOOLS, "..", "armc"), os.path.join(TOOLS, "..", "..", "..", "bin", "armc")):
@@ -102,7 +107,7 @@ class Program:
         """What a call with status 0 prints; any other status ends the tool with what the program says."""
         ended = self.call(*words)
         if ended.status:
-            raise Refused(ended.status if ended.status > 0 else NOT_RUN, (ended.err or ended.out).strip() or f"armc ended with {ended.status}")
+            raise refusal(ended)
         return ended.out
 
     def judged(self, protocol, certificate):
@@ -181,7 +186,7 @@ def shown_by(program, written):
     with Kept({"protocol.armc": written.text}) as kept:
         ended = program.call("show", kept.path("protocol.armc"))
     if ended.status:
-        raise Refused(ended.status if ended.status > 0 else NOT_RUN, written.told((ended.err or ended.out).strip()) or f"armc ended with {ended.status}")
+        raise refusal(ended, written.told((ended.err or ended.out).strip()))
     return ended.out
 
 
@@ -231,6 +236,12 @@ class Words(argparse.ArgumentParser):
         self.add_argument("--set", type=value, action="append", default=[], metavar="NAME=VALUE",
                           help="of a template: a number, or names in braces, for a variable at its top; may be given more than once")
 
+    def add_limits(self):
+        """The options of tools that search: the time of all of it, the memory of each search, and how many there are at once."""
+        self.add_argument("--seconds", type=number(1), default=60, metavar="N", help="the time for all of it (60)")
+        self.add_argument("--memory", type=number(16), default=2048, metavar="MB", help="the memory of each search (2048)")
+        self.add_argument("--jobs", type=number(1, 256), default=os.cpu_count() or 1, metavar="N", help="how many searches at once (all processors)")
+
     def error(self, message):
         if re.match(r"unrecognized arguments: \w+=", message):
             message += " (a value of a template is given by --set)"
@@ -261,6 +272,12 @@ def values_given(values):
         if sum(1 for each, _ in values if each == name) > 1:
             raise Refused(USAGE, f"{name} is given two values")
     return found
+
+
+def columns(rows):
+    """The rows as lines, each column as wide as its longest word."""
+    widths = [max(map(len, column)) for column in zip(*rows)]
+    return ["  ".join(word.ljust(width) for word, width in zip(row, widths)).rstrip() for row in rows]
 
 
 def write_file(path, text):

@@ -1,13 +1,16 @@
 """The text of a protocol as HTML, with its rows marked so that a page can point at them; and by which letters a configuration meets a row."""
 import html
+import itertools
 import re
 
-from .protocol import configuration_of
+from .protocol import configuration_of, configuration_text
 
 TOKEN = re.compile(r"#[^\n]*|[A-Za-z0-9_]+|->|\s+|.", re.S)
 KEYWORDS = ("protocol", "language", "cell", "array", "channel", "stack", "lossy", "init", "rule", "bad", "any", "empty", "at", "pair", "ring", "two", "set", "send",
             "recv", "pop", "push", "spawn", "exit", "lose", "when", "all", "some", "left", "right", "others", "in", "map")
 ROWS = ("init", "rule", "bad")
+# So many configurations of a row are made, of which the shortest are taken.
+TRIED = 500
 
 
 def token_html(token):
@@ -90,14 +93,18 @@ def letters_met(row, configuration, sections):
     return found
 
 
-def least_of_row(row, sections):
-    """A short configuration of the row, as text; nothing where an atom has no letter."""
-    patterns, parts = parts_of_row(row), []
-    for section in sections:
-        atoms = [allowed for allowed, many in atoms_of(patterns[section.name], section) if not many] if section.name in patterns else []
-        if section.kind == "cell" and not atoms:
-            atoms = [set(section.letters)]
-        if not all(atoms):
-            return ""
-        parts.append(f"{section.name}: {' '.join(next(letter for letter in section.letters if letter in allowed) for allowed in atoms) or 'empty'}")
-    return "; ".join(parts)
+def short_ones(row, sections, most):
+    """Short configurations of the row as texts, the shortest first, at most so many: each atom takes a letter, and one that may stand any number of times
+    none or one. None where an atom has no letter."""
+    patterns, choices = parts_of_row(row), []
+    for k, section in enumerate(sections):
+        atoms = atoms_of(patterns[section.name], section) if section.name in patterns else []
+        if section.kind == "cell":
+            # (its one letter is that of an atom that has to stand, where there is one)
+            atoms = [(allowed, False) for allowed, _ in sorted(atoms, key=lambda atom: atom[1]) or [(set(section.letters), False)]][:1]
+        choices += [[*([()] if many else []), *((k, letter) for letter in section.letters if letter in allowed)] for allowed, many in atoms]
+    found = []
+    for chosen in itertools.islice(itertools.product(*choices), TRIED):
+        lists = [[letter for of, letter in filter(None, chosen) if of == k] for k in range(len(sections))]
+        found.append((sum(map(len, lists)), configuration_text(sections, lists)))
+    return list(dict.fromkeys(text for _, text in sorted(found, key=lambda each: each[0])))[:most]

@@ -8,7 +8,7 @@ after section, by automata. What patterns cannot say, or not in few rows, is ref
 import collections
 import re
 
-from .automata import NONE, language, union
+from .automata import NONE, language, reached, union
 from .firing import braces, enabled
 
 # The rows of one protocol, and the letters of a list that is made a pattern, of which every second atom may be one of them.
@@ -104,13 +104,10 @@ class Languages:
 
 def behind(words, states, letters, sign):
     """The states of the language to which an atom leads from some states."""
-    found = {target for state in states for letter, target in words[state][1] if letter in letters}
-    waiting = list(found if sign else ())
-    while waiting:
-        more = {target for letter, target in words[waiting.pop()][1] if letter in letters} - found
-        found |= more
-        waiting += more
-    return frozenset(found | states if sign == "*" else found)
+    def ahead(state):
+        return [target for letter, target in words[state][1] if letter in letters]
+    found = {target for state in states for target in ahead(state)}
+    return frozenset(reached(found, ahead) | (states if sign == "*" else set()) if sign else found)
 
 
 def sure_state(words, letters):

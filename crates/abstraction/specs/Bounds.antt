@@ -7,9 +7,13 @@ use Rattle.abstraction.specs.Merging.{Key}
 abbrev pub up_to : ℕ → Key
 up_to bound = record { automata = []; bound = bound }
 
--- one more; the greatest number of 64 bits stays
+-- the greatest bound
+abbrev pub last_bound : ℕ
+last_bound = 18446744073709551615
+
+-- one more; the greatest stays
 abbrev pub next_bound : ℕ → ℕ
-next_bound bound = if nat_lt bound 18446744073709551615 then bound + 1 else bound
+next_bound bound = if nat_lt bound last_bound then bound + 1 else bound
 
 -- the next bound, whatever set was refuted
 abbrev pub next_key : Key → Automaton → Key

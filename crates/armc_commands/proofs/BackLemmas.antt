@@ -15,6 +15,7 @@ use Rattle.certificate.specs.SafeText.{MeansAutomaton}
 use Rattle.protocol_search.specs.Analyses.{IsCertificateText}
 use Rattle.protocol_search.specs.Methods.{by_predicates}
 use Rattle.protocol_search.specs.Verdicts.{IsVerdictOf}
+use Rattle.protocol_search.proofs.ForCallers.{found-sound}
 use Rattle.command_words.specs.declared.Query.TheVariants.{Back}
 use Rattle.command_replies.specs.declared.status.Status.TheVariants as status
 use Rattle.command_replies.specs.declared.reply.Reply.{Reply}
@@ -59,7 +60,7 @@ module _ (s : SystemData) (budget : ℕ) (text : List ℕ) where
   shows-complement : (v : Verdict) → IsVerdictOf s (search_for Back budget) v → IsCertificateText s v text → status_of (v ∷ []) ≡ status.Done
       → ShowsComplement s budget text
   shows-complement (Safe proof log) h told e =
-      of-found (Safe proof log) h proof log told.1 h.is_verdict.found h.is_verdict.is_found h.is_verdict.sound h.is_verdict.told
+      of-found (Safe proof log) h proof log told.1 h.is_verdict.found h.is_verdict.is_found (found-sound s budget (Safe proof log) h) h.is_verdict.told
   shows-complement (Unsafe words log) h told e = absurd (cc e)
   shows-complement (Unknown log) h told e = absurd (cc e)
 

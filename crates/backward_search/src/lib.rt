@@ -7,5 +7,5 @@ mod complements;
 mod laws;
 mod search;
 
-pub use laws::{backward_runs_bound_rounds, one_backward_verdict};
+pub use laws::{backward_runs_bound_rounds, found_verdicts_are_sound, one_backward_verdict};
 pub use search::search_back;

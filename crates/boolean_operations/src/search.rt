@@ -26,26 +26,36 @@ pub fn least_word_to_goal<T: Graph>(
 {
     let mut found = FoundStates::new(alloc, graph.codes())?;
     let mut groups = Vec::new(alloc);
-    begin(alloc, graph, &mut found, &mut groups)?;
     let mut steps = Vec::new(alloc);
+    search(alloc, graph, &mut found, &mut groups, &mut steps)
+}
+
+/// The least word that leads from a start to a goal, by a search that begins with nothing found.
+fn search<T: Graph>(
+    alloc: Global,
+    graph: &T,
+    found: &mut FoundStates<T::State>,
+    groups: &mut Vec<usize>,
+    steps: &mut Vec<(usize, u32)>,
+) -> Result<Option<Vec<u32>>, AllocError>
+    requires none { found.old.states.items ≡ [] }
+    requires no_groups { groups.old.items ≡ [] }
+    requires no_steps { steps.old.items ≡ [] }
+    ensures { IfOk result (λ word. MatchOption word
+        ((w : List ℕ) → IsFound (T.is_start graph.now) (T.edge graph.now) (T.goal graph.now) w → ⊥)
+        (λ w. IsLeastWord (IsFound (T.is_start graph.now) (T.edge graph.now) (T.goal graph.now)) w.items)) }
+{
+    begin(alloc, graph, found, groups)?;
     let mut pending = Vec::new(alloc);
     let mut group = 0;
     let mut place = 0;
     'groups: while group <= steps.len() {
         pending.clear();
-        let Some(end) = gather(graph, &found, &groups, place, group, &mut pending)? else {
-            return Ok(Some(word_of(alloc, &steps, group)?));
+        let Some(end) = gather(graph, found, groups, place, group, &mut pending)? else {
+            return Ok(Some(word_of(alloc, steps, group)?));
         };
         sort(&mut pending)?;
-        expand(
-            alloc,
-            graph,
-            &mut found,
-            &mut groups,
-            &mut steps,
-            group,
-            &pending,
-        )?;
+        expand(alloc, graph, found, groups, steps, group, &pending)?;
         place = end;
         group += 1;
     }

@@ -1,21 +1,13 @@
-mod AddingLemmas
 mod AlphabetLemmas
-mod FaultLemmas
-pub mod ForCallers
-mod HasFaultLemmas
+mod AwayFromRuns
+mod Building
+mod ConfigurationReading
 mod IndexLemmas
-mod LayoutLemmas
-mod LineLemmas
-mod NextLemmas
-mod NumberLemmas
-mod OneOpeningLemmas
+mod ListFacts
 mod OneReadingLemmas
-pub mod OneRunLemmas
-mod OpeningLemmas
-pub mod ReadingLemmas
-mod RunLayoutLemmas
-mod RunLineLayoutLemmas
-mod RunLineLemmas
-pub mod SafeTextLemmas
-pub mod SameAutomatonLemmas
-pub mod VersionLemmas
+mod Places
+mod RunReading
+mod SafeReading
+mod SameAutomatonLemmas
+mod Taking
+pub mod ForCallers

@@ -7,8 +7,7 @@ use Rattle.std.proofs.lemmas.Option.{none-some, same_Some}
 use Rattle.word_automata.specs.Path.{Node, edges_of, is_accepting}
 use Rattle.word_automata.specs.Automaton.{Automaton, target, find_target, HasIncreasingLetters}
 use Rattle.word_automata.proofs.ForCallers.{ordered_edges}
-use Rattle.certificate.specs.declared.lines.Line.{Line}
-use Rattle.certificate.specs.SafeText.{IsAutomatonOf}
+use Rattle.certificate.specs.AutomatonLines.{Line, IsAutomatonOf}
 
 -- where the letter of the first edge leads, and other letters
 pub first_target : (edge : ℕ × ℕ) (edges : List (ℕ × ℕ)) (a : ℕ) → edge.0 ≡ a → find_target (edge ∷ edges) a ≡ Some edge.1

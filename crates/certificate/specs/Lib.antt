@@ -1,11 +1,11 @@
-pub mod Bytes
+pub mod AutomatonLines
+pub mod Configurations
 pub mod Faults
-pub mod LineLayout
+pub mod Lines
 pub mod Meaning
-pub mod Numbers
 pub mod OneReading
-pub mod RunFaults
-pub mod RunLayout
 pub mod RunText
 pub mod SafeText
+pub mod Stages
+pub mod Words
 pub mod private

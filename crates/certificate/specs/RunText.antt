@@ -26,6 +26,10 @@ unsafe_text s run =
     flat_map (λ line. line ++ 10 ∷ [])
     (codes "armc 1 unsafe" ∷ (start_line s run.first ∷ (map (step_line s) run.steps ++ codes "end" ∷ [])))
 
+-- the text of the lines of steps, each ended by a line feed
+abbrev pub steps_text : SystemData → List (ℕ × Configuration) → List ℕ
+steps_text s steps = flat_map (λ step. step_line s step ++ 10 ∷ []) steps
+
 -- the rule of the step exists, and the configuration after it fits
 abbrev pub IsStepOf : SystemData → ℕ × Configuration → Type 0
 IsStepOf s step = (step.0 < length s.rules) × IsTrue (fits s step.1)

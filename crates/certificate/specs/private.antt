@@ -1,6 +1,3 @@
 -- What only contracts of private functions cite.
 pub mod Alphabet
-pub mod LayoutParts
-pub mod NextLine
-pub mod NextStep
-pub mod Reading
+pub mod Kept

@@ -1,13 +1,14 @@
 //! The letters of a system's automata, found by their texts.
 //! The texts of all letters are made once and kept in a hash map: a letter is found in constant expected time.
 
-ghost use Rattle.std.specs.Prelude.{◌≡◌, ◌++◌, ◌+◌, ◌^◌, ◌<◌, ℕ, IfOk, OnOk, IfSome, Some, codes, length};
+ghost use Rattle.std.specs.Prelude.{◌≡◌, ◌++◌, ◌^◌, ◌<◌, IfOk, OnOk, codes, length, position};
+ghost use Rattle.std.specs.Str.{bytes_eq};
 ghost use Rattle.protocol_model.specs.System.{IsValid};
 ghost use Rattle.protocol_model.specs.Words.{automata_letters};
-ghost use Rattle.certificate.specs.SafeText.{letter_text};
-ghost use Rattle.certificate.specs.private.Alphabet.{section_texts, letter_texts, lists_of, IsIndexOf};
+ghost use Rattle.certificate.specs.Words.{letter_text, letter_texts, section_texts};
+ghost use Rattle.certificate.specs.private.Alphabet.{lists_of, IsIndexOf};
 
-use protocol_model::{Section, System};
+use protocol_model::{Rule, Section, System};
 use std::alloc::{AllocError, Global};
 use std::collections::HashMap;
 use std::marker::Model;
@@ -47,9 +48,33 @@ impl<'a> Alphabet<'a> {
         })
     }
 
+    /// The system.
+    pub(crate) fn system(&self) -> &System
+        ensures { result.now ≡ self.now }
+    {
+        self.system
+    }
+
+    /// The sections of the system.
+    pub(crate) fn sections(&self) -> &[Section]
+        ensures { result.now ≡ self.now.sections }
+    {
+        let system = self.system;
+        system.sections.as_slice()
+    }
+
+    /// The rules of the system.
+    pub(crate) fn rules(&self) -> &[Rule]
+        ensures { result.now ≡ self.now.rules }
+    {
+        let system = self.system;
+        system.rules.as_slice()
+    }
+
     /// The number of letters.
     pub fn size(&self) -> u32
-        ensures { result ≡ automata_letters self.now }
+        ensures count { result ≡ automata_letters self.now }
+        ensures texts { result ≡ length (letter_texts self.now.sections) }
     {
         self.texts.len() as u32
     }
@@ -65,9 +90,7 @@ impl<'a> Alphabet<'a> {
 
     /// The letter with this text, if there is one.
     pub fn letter(&self, text: &[u8]) -> Option<u32>
-        ensures in_range { IfSome result (λ a. a < automata_letters self.now) }
-        ensures found { IfSome result (λ a. text.now ≡ letter_text self.now.sections a) }
-        ensures only { (a : ℕ) → a < automata_letters self.now → text.now ≡ letter_text self.now.sections a → result ≡ Some a }
+        ensures { result ≡ position (bytes_eq text.now) (letter_texts self.now.sections) }
     {
         self.numbers.get(text).copied()
     }

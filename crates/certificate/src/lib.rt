@@ -1,19 +1,15 @@
 //! Certificates as texts, and what they mean: automata, of either version, and runs.
-//! A text is read in one pass, and what it says wrongly is told by its first line that says it.
+//! A text is read in one pass, line by line, by forms that are said once in `specs/`.
 #![tactic(auto)]
 
 mod alphabet;
-mod bytes;
+mod configurations;
 mod fault;
-mod layout;
-mod letters;
-mod lines;
-mod names;
-mod numbers;
-mod opening;
-mod run;
+mod line_forms;
+mod reading;
 mod safe;
-mod version;
+mod said;
+mod words;
 
 pub use alphabet::Alphabet;
 pub use fault::CertFault;

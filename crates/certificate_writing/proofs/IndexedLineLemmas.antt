@@ -6,14 +6,12 @@ use Rattle.std.proofs.lemmas.List.Concat.{flat_map-append}
 use Rattle.word_automata.specs.Path.{edges_of}
 use Rattle.word_automata.specs.Automaton.{Automaton, IsValid}
 use Rattle.protocol_model.specs.System.{SystemData}
-use Rattle.certificate.specs.declared.version.Version.TheVariants.{Two}
-use Rattle.certificate.specs.SafeText.{line_text}
-use Rattle.certificate.specs.LineLayout.{lines_text, letters_text, states_line, opening_text}
+use Rattle.certificate.specs.SafeText.{Two, line_text, lines_text, letters_text, states_line, opening_text}
 use Rattle.certificate_writing.specs.Writing.{final_states}
 use Rattle.certificate_writing.specs.private.WritingParts.{final_text}
 use Rattle.certificate_writing.specs.IndexedWriting.{used_letters, indices_between, line_between, indexed_edges_from, indexed_edges, indexed_lines, indexed_text}
 use Rattle.certificate_writing.specs.private.IndexedWritingParts.{AreIndicesOf, has_target, text_between, indices_on, text_from}
-use Rattle.certificate.proofs.ForCallers.{safe_text-is}
+use Rattle.certificate_writing.proofs.TextLemmas.{safe_text-is}
 use Rattle.certificate_writing.proofs.WritingLemmas.{body_text-is}
 use Rattle.certificate_writing.proofs.LetterIndexLemmas.{indices_between-is}
 

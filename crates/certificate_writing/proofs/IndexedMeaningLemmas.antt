@@ -13,18 +13,15 @@ use Rattle.word_automata.specs.Path.{edges_of}
 use Rattle.word_automata.specs.Automaton.{Automaton, target, IsValid}
 use Rattle.word_automata.proofs.ForCallers.{found_edge, leads_within, Contains-here, Contains-there, Contains-none, Contains-map}
 use Rattle.word_automata.proofs.ForCallers.{Contains-map_cases, All-from_contains, All-edges_of, target_within}
-use Rattle.protocol_model.specs.System.{SystemData}
+use Rattle.protocol_model.specs.System.{SystemData, IsValid as IsValidSystem}
 use Rattle.protocol_model.specs.Words.{automata_letters}
-use Rattle.certificate.specs.declared.lines.Line.{Line}
-use Rattle.certificate.specs.declared.lines.Line.TheVariants.{Final, Edge}
-use Rattle.certificate.specs.declared.version.Version.{Version}
-use Rattle.certificate.specs.declared.version.Version.TheVariants.{Two}
-use Rattle.certificate.specs.SafeText.{IsInRange, AreNoTwoEdges, IsAutomatonOf, MeansAutomaton, said_by, all_said}
+use Rattle.certificate.specs.SafeText.{Line, Final, Edge, Version, Two, IsInRange, AreNoTwoEdges, IsAutomatonOf, MeansAutomaton, said_by, all_said}
 use Rattle.certificate_writing.specs.Writing.{final_states}
 use Rattle.certificate_writing.specs.IndexedWriting.{labels_edge, used_letters, leads_to, indices_between, line_between, indexed_edges_from, indexed_edges}
 use Rattle.certificate_writing.specs.IndexedWriting.{indexed_lines, indexed_text}
-use Rattle.certificate.proofs.ForCallers.{all_said-append}
-use Rattle.certificate_writing.proofs.WrittenLemmas.{AllByRecursion-append, finals_in_range, final_pairs, automaton_of_lines}
+use Rattle.certificate.proofs.ForCallers.{AllByRecursion-append, safe_text_means}
+use Rattle.certificate_writing.proofs.TextLemmas.{all_said-append}
+use Rattle.certificate_writing.proofs.WrittenLemmas.{finals_in_range, final_pairs, automaton_of_lines}
 use Rattle.certificate_writing.proofs.LetterIndexLemmas.{leads_is, leads_at, leads_labels}
 use Rattle.certificate_writing.proofs.IndexedLineLemmas.{flat_map_nested}
 
@@ -265,20 +262,14 @@ module _ (m : Automaton) (valid : IsValid m) where
       line_in_range p q (omega (arith, from)) (omega (arith, to)) (indices_between m used p q) (indices_in_range p q))))
 
   -- the text of version 2 of an automaton means it
-  pub indexed_means : (s : SystemData) → m.letters ≡ automata_letters s → length m.states ≤ 1000000 → MeansAutomaton s (indexed_text s m) m
-  indexed_means s letters limit =
+  pub indexed_means : (s : SystemData) → IsValidSystem s → m.letters ≡ automata_letters s → length m.states ≤ 1000000
+      → MeansAutomaton s (indexed_text s m) m
+  indexed_means s system letters limit =
       let finals = final_states 0 m.states in
-      record {
-        version = Two used;
-        count = length m.states;
-        lines = indexed_lines m used;
-        spelled = refl;
-        letters = record { in_alphabet = subst (λ size. All (λ a. a < size) used) letters used_in_range; distinct = used_distinct };
-        limit = limit;
-        in_range = subst (λ size. AllByRecursion (IsInRange (Two used) size (length m.states)) (indexed_lines m used)) letters lines_in_range;
-        no_two_edges = subst (AllPairs AreNoTwoEdges) (sym all_said-is) (final_pairs finals edges_said said_pairs);
-        automaton =
-            subst (λ lines. IsAutomatonOf (automata_letters s) (length m.states) lines m) (sym all_said-is)
-            (subst (λ size. IsAutomatonOf size (length m.states) (map Final finals ++ edges_said) m) letters
-            (automaton_of_lines m valid edges_said said_no_final (λ p a r. (said_has p a r, said_is p a r))));
-      }
+      safe_text_means s system (length m.states) limit (Two used) (indexed_lines m used) m
+      (record { in_alphabet = subst (λ size. All (λ a. a < size) used) letters used_in_range; distinct = used_distinct })
+      (subst (λ size. AllByRecursion (IsInRange (Two used) size (length m.states)) (indexed_lines m used)) letters lines_in_range)
+      (subst (AllPairs AreNoTwoEdges) (sym all_said-is) (final_pairs finals edges_said said_pairs))
+      (subst (λ lines. IsAutomatonOf (automata_letters s) (length m.states) lines m) (sym all_said-is)
+      (subst (λ size. IsAutomatonOf size (length m.states) (map Final finals ++ edges_said) m) letters
+      (automaton_of_lines m valid edges_said said_no_final (λ p a r. (said_has p a r, said_is p a r)))))

@@ -42,11 +42,7 @@ above_first lo r differ le = elim (cases_order r lo) [
 ]
 
 regroup : (a d more rest : List ℕ) → (a ++ d) ++ (more ++ 10 ∷ rest) ≡ ((a ++ (d ++ more)) ++ 10 ∷ []) ++ rest
-regroup a d more rest =
-    append_assoc a d (more ++ 10 ∷ rest)
-    ∙ ap (λ t. a ++ t) (sym (append_assoc d more (10 ∷ rest)))
-    ∙ sym (append_assoc a (d ++ more) (10 ∷ rest))
-    ∙ sym (append_assoc (a ++ (d ++ more)) (10 ∷ []) rest)
+regroup a d more rest = simp append_assoc
 
 module _ (indices : List ℕ) (p : ℕ) where
   -- the indices of these edges, each after a space

@@ -6,3 +6,4 @@ mod LetterTableLemmas
 mod RunWritingLemmas
 mod WritingLemmas
 mod WrittenLemmas
+mod TextLemmas

@@ -4,10 +4,9 @@ use Rattle.std.proofs.lemmas.List.{append_assoc}
 use Rattle.protocol_model.specs.declared.system.Run.{Run}
 use Rattle.protocol_model.specs.System.{SystemData}
 use Rattle.configuration_words.specs.Texts.{configuration_text}
-use Rattle.certificate.specs.RunFaults.{steps_text}
-use Rattle.certificate.specs.RunText.{start_line}
+use Rattle.certificate.specs.RunText.{steps_text, start_line}
 use Rattle.certificate_writing.specs.Writing.{run_text}
-use Rattle.certificate.proofs.ForCallers.{lines_of_steps}
+use Rattle.certificate_writing.proofs.TextLemmas.{lines_of_steps}
 
 pub run_text-is : (first : List ℕ) (s : SystemData) (run : Run)
     → (((first ++ 10 ∷ codes "start ") ++ (configuration_text s run.first ++ 10 ∷ [])) ++ steps_text s run.steps) ++ (codes "end" ++ 10 ∷ [])

@@ -6,14 +6,10 @@ use Rattle.std.proofs.lemmas.List.Concat.{flat_map-append}
 use Rattle.word_automata.specs.Path.{Node, edges_of, is_accepting}
 use Rattle.word_automata.specs.Automaton.{Automaton}
 use Rattle.protocol_model.specs.System.{SystemData}
-use Rattle.certificate.specs.declared.lines.Line.{Line}
-use Rattle.certificate.specs.declared.lines.Line.TheVariants.{Final}
-use Rattle.certificate.specs.SafeText.{line_text}
-use Rattle.certificate.specs.private.Reading.{body_text}
-use Rattle.certificate.specs.LineLayout.{lines_text}
+use Rattle.certificate.specs.SafeText.{Line, Final, line_text, body_text, lines_text}
 use Rattle.certificate_writing.specs.Writing.{final_states, lines_from, edge_lines, written_lines, automaton_text}
 use Rattle.certificate_writing.specs.private.WritingParts.{final_text}
-use Rattle.certificate.proofs.ForCallers.{body_text-append}
+use Rattle.certificate_writing.proofs.TextLemmas.{body_text-is_lines}
 
 -- the states from one on: the first of them and the others
 final_states-at : (q : ℕ) (nodes : List (Node ℕ)) (i : ℕ) → i < length nodes
@@ -69,10 +65,8 @@ finals_text s (q ∷ states) = ap (λ text. final_text q ++ text) (finals_text s
 pub body_text-is : (s : SystemData) (states : List ℕ) (later : List Line)
     → body_text s (map Final states ++ later) ≡ (flat_map final_text states ++ lines_text s later) ++ (codes "end" ++ 10 ∷ [])
 body_text-is s states later =
-    let end : List ℕ = codes "end" ++ 10 ∷ [] in
-    ap (body_text s) (sym (append-nil (map Final states ++ later)))
-    ∙ body_text-append s (map Final states ++ later) []
-    ∙ ap (λ text. text ++ end)
+    body_text-is_lines s (map Final states ++ later)
+    ∙ ap (λ text. text ++ (codes "end" ++ 10 ∷ []))
     (flat_map-append (λ x. line_text s x ++ 10 ∷ []) (map Final states) later
     ∙ ap (λ text. text ++ lines_text s later) (finals_text s states))
 

@@ -10,19 +10,11 @@ use Rattle.word_automata.specs.Path.{Node, edges_of, is_accepting}
 use Rattle.word_automata.specs.Automaton.{Automaton, find_target, target, HasIncreasingLetters, IsValid}
 use Rattle.word_automata.proofs.ForCallers.{Contains-here, Contains-there, Contains-cases, Contains-none, Contains-map, Contains-map_cases}
 use Rattle.word_automata.proofs.ForCallers.{found_edge, edge_found}
-use Rattle.protocol_model.specs.System.{SystemData}
+use Rattle.protocol_model.specs.System.{SystemData, IsValid as IsValidSystem}
 use Rattle.protocol_model.specs.Words.{automata_letters}
-use Rattle.certificate.specs.declared.lines.Line.{Line}
-use Rattle.certificate.specs.declared.lines.Line.TheVariants.{Final, Edge, Edges}
-use Rattle.certificate.specs.declared.version.Version.{Version}
-use Rattle.certificate.specs.declared.version.Version.TheVariants.{One}
-use Rattle.certificate.specs.SafeText.{IsInRange, AreNoTwoEdges, IsAutomatonOf, MeansAutomaton, all_said}
+use Rattle.certificate.specs.SafeText.{Line, Final, Edge, Edges, Version, One, IsInRange, AreNoTwoEdges, IsAutomatonOf, MeansAutomaton, all_said}
+use Rattle.certificate.proofs.ForCallers.{AllByRecursion-append, safe_text_means}
 use Rattle.certificate_writing.specs.Writing.{final_states, lines_from, edge_lines, written_lines, written_text}
-
-pub AllByRecursion-append : {X : Type 0} (P : X → Type 0) (xs ys : List X) → AllByRecursion P xs → AllByRecursion P ys
-    → AllByRecursion P (xs ++ ys)
-AllByRecursion-append P [] ys h k = k
-AllByRecursion-append P (x ∷ xs) ys h k = (h.0, AllByRecursion-append P xs ys h.1 k)
 
 -- states, letters and targets are in range
 module _ (letters count : ℕ) where
@@ -240,26 +232,18 @@ module _ (m : Automaton) (valid : IsValid m) where
       ))
 
   -- the text of an automaton means it
-  pub written_means : (s : SystemData) → m.letters ≡ automata_letters s → length m.states ≤ 1000000 → MeansAutomaton s (written_text s m) m
-  written_means s letters limit =
+  pub written_means : (s : SystemData) → IsValidSystem s → m.letters ≡ automata_letters s → length m.states ≤ 1000000
+      → MeansAutomaton s (written_text s m) m
+  written_means s system letters limit =
       let in_range : AllByRecursion (IsInRange One (automata_letters s) (length m.states)) (written_lines m) =
       subst (λ size. AllByRecursion (IsInRange One size (length m.states)) (written_lines m)) letters
       (AllByRecursion-append (IsInRange One m.letters (length m.states)) (map Final (final_states 0 m.states)) (edge_lines 0 m.states)
       (finals_in_range m.letters (length m.states) One 0 m.states (omega arith))
       (edges_in_range m.letters (length m.states) 0 m.states (omega arith) valid.letters_in_range valid.targets_in_range)) in
       let same = all_said_themselves (automata_letters s) (length m.states) (written_lines m) in_range in
-      record {
-        version = One;
-        count = length m.states;
-        lines = written_lines m;
-        spelled = refl;
-        letters = record { in_alphabet = All-nil (λ a. a < automata_letters s); distinct = λ i j d less within. absurd (omega arith) };
-        limit = limit;
-        in_range = in_range;
-        no_two_edges =
-            subst (AllPairs AreNoTwoEdges) (sym same)
-            (final_pairs (final_states 0 m.states) (edge_lines 0 m.states) (edge_pairs 0 m.states valid.ordered));
-        automaton =
-            subst (λ lines. IsAutomatonOf (automata_letters s) (length m.states) lines m) (sym same)
-            (subst (λ size. IsAutomatonOf size (length m.states) (written_lines m) m) letters written_automaton);
-      }
+      safe_text_means s system (length m.states) limit One (written_lines m) m
+      (record { in_alphabet = All-nil (λ a. a < automata_letters s); distinct = λ i j d less within. absurd (omega arith) }) in_range
+      (subst (AllPairs AreNoTwoEdges) (sym same)
+      (final_pairs (final_states 0 m.states) (edge_lines 0 m.states) (edge_pairs 0 m.states valid.ordered)))
+      (subst (λ lines. IsAutomatonOf (automata_letters s) (length m.states) lines m) (sym same)
+      (subst (λ size. IsAutomatonOf size (length m.states) (written_lines m) m) letters written_automaton))

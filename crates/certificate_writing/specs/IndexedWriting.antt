@@ -3,10 +3,7 @@ use Rattle.std.specs.Prelude.{◌==◌, ℕ, Bool, false, List, [], ◌∷◌, �
 use Rattle.std.specs.List.{list_any, range_with_len}
 use Rattle.word_automata.specs.Automaton.{Automaton, target}
 use Rattle.protocol_model.specs.System.{SystemData}
-use Rattle.certificate.specs.declared.lines.Line.{Line}
-use Rattle.certificate.specs.declared.lines.Line.TheVariants.{Final, Edges}
-use Rattle.certificate.specs.declared.version.Version.TheVariants.{Two}
-use Rattle.certificate.specs.SafeText.{safe_text}
+use Rattle.certificate.specs.SafeText.{Line, Final, Edges, Two, safe_text}
 use Rattle.certificate_writing.specs.Writing.{final_states}
 
 -- whether one of the edges has the letter

@@ -3,10 +3,8 @@ use Rattle.std.specs.Prelude.{ℕ, ◌+◌, List, [], ◌∷◌, ◌++◌, map, 
 use Rattle.word_automata.specs.Path.{Node}
 use Rattle.word_automata.specs.Automaton.{Automaton}
 use Rattle.protocol_model.specs.System.{SystemData}
-use Rattle.certificate.specs.declared.lines.Line.{Line}
-use Rattle.certificate.specs.declared.lines.Line.TheVariants.{Final, Edge}
+use Rattle.certificate.specs.SafeText.{Line, Final, Edge, line_text}
 use Rattle.protocol_model.specs.declared.system.Run.{Run}
-use Rattle.certificate.specs.SafeText.{line_text}
 use Rattle.certificate.specs.RunText.{start_line, step_line}
 
 -- the numbers of the accepting states, in their order; the first state has the number q

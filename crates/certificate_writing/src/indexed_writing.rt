@@ -5,8 +5,7 @@ ghost use Rattle.std.specs.Prelude.{◌≡◌, ◌<◌, ◌≤◌, ◌++◌, ◌
 ghost use Rattle.std.specs.Prelude.{codes, decimal};
 ghost use Rattle.std.specs.List.{range_with_len};
 ghost use Rattle.protocol_model.specs.Words.{automata_letters};
-ghost use Rattle.certificate.specs.SafeText.{letter_line, MeansAutomaton};
-ghost use Rattle.certificate.specs.LineLayout.{letters_text, states_line};
+ghost use Rattle.certificate.specs.SafeText.{letter_line, MeansAutomaton, letters_text, states_line};
 ghost use Rattle.certificate_writing.specs.IndexedWriting.{indexed_text, used_letters};
 ghost use Rattle.certificate_writing.specs.private.IndexedWritingParts.{AreByTarget, AreIndicesOf, before_index, line_start, sorted_text};
 ghost use Rattle.certificate_writing.specs.private.IndexedWritingParts.{text_from};
@@ -28,6 +27,7 @@ pub fn write_safe2(alloc: Global, system: &System, proof: &Dfa) -> Result<Vec<u8
     ensures meaning { IfOk result (λ text. MeansAutomaton system.now text.items proof.now) }
 {
     let _states = proof.states();
+    let _rules = system.rules.len();
     let text = indexed_text(alloc, system, proof)?;
     Ok(text)
 }

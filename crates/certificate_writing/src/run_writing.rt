@@ -4,8 +4,7 @@
 ghost use Rattle.std.specs.Prelude.{◌≡◌, ◌++◌, ◌∷◌, ◌<◌, [], All, IfOk, OnOk, IsTrue, length};
 ghost use Rattle.protocol_model.specs.Patterns.{fits};
 ghost use Rattle.configuration_words.specs.Texts.{configuration_text};
-ghost use Rattle.certificate.specs.RunText.{rule_name, step_line, IsRunOf, IsStepOf, MeansRun};
-ghost use Rattle.certificate.specs.RunFaults.{steps_text};
+ghost use Rattle.certificate.specs.RunText.{rule_name, step_line, IsRunOf, IsStepOf, MeansRun, steps_text};
 ghost use Rattle.certificate_writing.specs.Writing.{run_text};
 
 use configuration_words::configuration_text;

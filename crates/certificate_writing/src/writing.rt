@@ -5,9 +5,7 @@ ghost use Rattle.std.specs.Prelude.{◌≡◌, ◌++◌, ◌∷◌, ◌<◌, ◌
 ghost use Rattle.std.specs.Prelude.{if◌then◌else◌};
 ghost use Rattle.word_automata.specs.Path.{is_accepting};
 ghost use Rattle.protocol_model.specs.Words.{automata_letters};
-ghost use Rattle.certificate.specs.declared.lines.Line.TheVariants.{Edge};
-ghost use Rattle.certificate.specs.SafeText.{line_text, MeansAutomaton};
-ghost use Rattle.certificate.specs.LineLayout.{lines_text};
+ghost use Rattle.certificate.specs.SafeText.{Edge, line_text, MeansAutomaton, lines_text};
 ghost use Rattle.certificate_writing.specs.Writing.{final_states, lines_from, edge_lines, automaton_text, written_text, counted_text, unknown_text};
 ghost use Rattle.certificate_writing.specs.private.WritingParts.{final_text};
 
@@ -26,6 +24,7 @@ pub fn write_safe(alloc: Global, system: &System, proof: &Dfa) -> Result<Vec<u8>
     ensures meaning { IfOk result (λ text. MeansAutomaton system.now text.items proof.now) }
 {
     let _states = proof.states();
+    let _rules = system.rules.len();
     let text = write_automaton(alloc, "armc 1 safe", system, proof)?;
     Ok(text)
 }

@@ -2,7 +2,7 @@
 //! A line is copied, in time linear in its length; a name is a part of the system, found in constant time.
 
 ghost use Rattle.std.specs.Prelude.{◌≡◌, ◌++◌, IfOk};
-ghost use Rattle.certificate.specs.RunText.{rule_name as rule_name_of};
+ghost use Rattle.certificate.specs.RunText.{rule_name};
 ghost use Rattle.command_replies.specs.Line.{line};
 
 use protocol_model::System;
@@ -10,7 +10,7 @@ use std::alloc::{AllocError, Global};
 
 /// The name of the rule of this number; nothing where there is none.
 pub fn rule_name(system: &System, rule: u32) -> &[u8]
-    ensures { result.now ≡ rule_name_of system.now rule }
+    ensures { result.now ≡ rule_name system.now rule }
 {
     match system.rules.as_slice().get(rule as usize) {
         Some(rule) => rule.name.as_str().as_bytes(),

@@ -52,11 +52,12 @@ const FIRST_SETS: usize = 16_384;
 /// There are then so many turns, each with twice as many sets and more work for the atoms, before the sets are found to the end.
 const TURNS: usize = 8;
 
-/// So many edges, sets and words are looked at for the atoms for each state of the lists that were found,
-const WORK_PER_STATE: usize = 128;
+/// So many edges, sets and words are looked at for the atoms for each state of the lists that were found, an eighth of what finding these
+/// has cost,
+const WORK_PER_STATE: usize = 16;
 
 /// and so many for each word of the sets of bits that were found.
-const WORK_PER_WORD: usize = 64;
+const WORK_PER_WORD: usize = 8;
 
 /// The deterministic automaton of the sets of states that words lead to (M. O. Rabin and D. Scott, 1959), which accepts the same
 /// words. States are numbered breadth first, which is no clause here. States from which no word is accepted stand in no set. Of at most
@@ -183,20 +184,25 @@ fn subsets_from<'a>(
     if automaton.states() <= BIT_STATES {
         return bit_subsets_of(alloc, automaton, pairs, lists);
     }
-    list_subsets_of(alloc, automaton, lists)
+    list_subsets_of(alloc, automaton, lists, few)
 }
 
-/// The deterministic automaton of the sets of states, as lists, or of the languages of these.
-fn list_subsets_of(alloc: Global, automaton: &Nfa, lists: &Subsets) -> Result<Dfa, AllocError>
+/// The deterministic automaton of the sets of states, of which some were found as lists, or of the languages of these.
+fn list_subsets_of<'a>(
+    alloc: Global,
+    automaton: &'a Nfa,
+    lists: &'a Subsets<'a>,
+    few: Exploration<'a, Subsets<'a>>,
+) -> Result<Dfa, AllocError>
     requires same { lists.now.automaton.now ≡ automaton.now }
     requires plain { (p : ℕ) → IsPlain automaton.now p }
+    requires few { few ≡ lists.now }
     ensures language { IfOk result (λ dfa. (w : List ℕ) → IsTrue (accepts dfa w) ↔ Accepts automaton.now w) }
     ensures letters { IfOk result (λ dfa. dfa.letters ≡ automaton.now.letters) }
     ensures valid { IfOk result IsValid }
 {
-    let begun = Exploration::begin(alloc, lists)?;
     let first = FIRST_SETS.max(automaton.states().saturating_mul(2));
-    let found = begun.advance(first)?;
+    let found = few.advance(first)?;
     if found.is_done() {
         return found.finish();
     }

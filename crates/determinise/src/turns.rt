@@ -18,12 +18,12 @@ use word_automata::{Dfa, Nfa};
 /// There are to be at least so many sets for each signature.
 const SETS_PER_SIGNATURE: usize = 2;
 
-/// A construction and a search that are under way, and whether the search is at its end and its atoms are to tell sets apart.
+/// A construction and a search that are under way, and, where the search is at its end, whether its atoms are to tell sets apart.
 #[derive(Drop)]
 pub struct Turns<'a, T: LanguageSystem> {
     pub found: Exploration<'a, T>,
     pub search: AtomSearch<'a>,
-    pub signed: bool,
+    pub signed: Option<bool>,
 }
 
 impl<'a, T: LanguageSystem> Turns<'a, T> {
@@ -37,7 +37,7 @@ impl<'a, T: LanguageSystem> Turns<'a, T> {
         ensures search { IfOk result (λ turns. turns.search ≡ automaton.now) }
     {
         let search = AtomSearch::begin(alloc, automaton)?;
-        let signed = false;
+        let signed = None;
         Ok(Turns {
             found,
             search,
@@ -45,13 +45,13 @@ impl<'a, T: LanguageSystem> Turns<'a, T> {
         })
     }
 
-    /// Whether the construction is at its end, or the atoms are to tell sets apart.
+    /// Whether the construction or the search is at its end.
     pub fn is_over(&self) -> bool {
-        self.signed || self.found.is_done()
+        self.signed.is_some() || self.found.is_done()
     }
 
     /// A turn: the search goes on until so many edges, sets and words were looked at since it began. If it is at its end, a sample of the
-    /// sets tells whether these have few signatures, and if they have not, the construction goes on until more than so many are found.
+    /// sets tells whether these have few signatures, and else the construction goes on until more than so many are found.
     pub fn next(
         self,
         alloc: Global,
@@ -79,7 +79,7 @@ impl<'a, T: LanguageSystem> Turns<'a, T> {
         ensures valid { IfOk result IsValid }
     {
         let found = self.found;
-        match telling_atoms(self.search, self.signed)? {
+        match telling_atoms(self.search, self.signed == Some(true))? {
             Some(atoms) => languages_of(alloc, automaton, lists, &atoms),
             None => found.finish(),
         }
@@ -96,17 +96,17 @@ fn telling_atoms(search: AtomSearch, signed: bool) -> Result<Option<Atoms>, Allo
     search.atoms()
 }
 
-/// The search, and the construction further on until more than so many sets are found, unless the atoms are to tell sets apart.
+/// The search, and the construction further on until more than so many sets are found, unless the search is at its end.
 fn further<'a, T: LanguageSystem>(
     found: Exploration<'a, T>,
     search: AtomSearch<'a>,
-    signed: bool,
+    signed: Option<bool>,
     sets: usize,
 ) -> Result<Turns<'a, T>, AllocError>
     ensures found { IfOk result (λ turns. turns.found ≡ found.entry) }
     ensures search { IfOk result (λ turns. turns.search ≡ search.entry) }
 {
-    if signed {
+    if signed.is_some() {
         return Ok(Turns {
             found,
             search,
@@ -121,21 +121,21 @@ fn further<'a, T: LanguageSystem>(
     })
 }
 
-/// Whether the search is at its end and so many sets, of which these are a sample, have few signatures. Of n signatures that are equally
-/// likely a sample of k sets repeats about k * k / 2 n (the birthday problem).
+/// Whether so many sets, of which these are a sample, have few signatures, or `None` where the search is not at its end. Of n signatures
+/// that are equally likely a sample of k sets repeats about k * k / 2 n (the birthday problem).
 fn have_few_signatures(
     alloc: Global,
     search: &AtomSearch,
     sample: &[Vec<usize>],
     sets: usize,
-) -> Result<bool, AllocError> {
+) -> Result<Option<bool>, AllocError> {
     let Some(atoms) = search.atoms()? else {
-        return Ok(false);
+        return Ok(None);
     };
     let size = sample.len();
     let repeated = size.saturating_sub(atoms.count_signatures(alloc, sample)?);
     let least = size.saturating_mul(size).saturating_mul(SETS_PER_SIGNATURE);
-    Ok(repeated.saturating_mul(2).saturating_mul(sets) >= least)
+    Ok(Some(repeated.saturating_mul(2).saturating_mul(sets) >= least))
 }
 
 /// The deterministic automaton of the languages of the sets, told apart by the atoms of the automaton's states.

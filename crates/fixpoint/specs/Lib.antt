@@ -1,4 +1,4 @@
 pub mod Laws
 pub mod KnownRounds
 pub mod Outcomes
-pub mod Indices
+pub mod private

@@ -5,6 +5,8 @@
 
 mod breadth_first;
 mod canon;
+mod class_counter;
+mod growth;
 mod hashing;
 mod laws;
 mod numbering;

@@ -5,7 +5,7 @@ use Rattle.word_automata.specs.Automaton.{Automaton}
 use Rattle.abstraction.specs.Bounds.{up_to}
 use Rattle.abstraction.specs.Merging.{AreClasses}
 use Rattle.abstraction.specs.Partitions.{IsNumbering}
-use Rattle.past_abstraction.specs.Pasts.{LeadsInto, is_related}
+use Rattle.past_abstraction.specs.Pasts.{IsInPast, is_related}
 use Rattle.past_abstraction.specs.private.WordSets.{AreInSame, AreBlocksOf, AreWordSets}
 
 module _ (a : Automaton) (sets : List (List ℕ)) (blocks classes : List ℕ) (bound words first : ℕ) (are : AreBlocksOf a sets blocks) (numbering : IsNumbering blocks classes)
@@ -43,7 +43,7 @@ module _ (a : Automaton) (sets : List (List ℕ)) (blocks classes : List ℕ) (b
   pub classes_by_sets : bound ≤ words → AreClasses R (length a.states) classes
   classes_by_sets all = by_index (λ p q lp lq e w short. (leads p q lp lq e w short, leads q p lq lp (sym e) w short))
     where
-      leads : (p q : ℕ) → p < length a.states → q < length a.states → get_or classes p 0 ≡ get_or classes q 0 → (w : List ℕ) → length w ≤ bound → LeadsInto a w p → LeadsInto a w q
+      leads : (p q : ℕ) → p < length a.states → q < length a.states → get_or classes p 0 ≡ get_or classes q 0 → (w : List ℕ) → length w ≤ bound → IsInPast a w p → IsInPast a w q
       leads p q lp lq e w short into =
           let there = has.sets_of_words w p (omega arith) into in
           let same = (classes_same p q lp lq).0 e there.0 there.1 in

@@ -5,7 +5,7 @@ use Rattle.std.proofs.lemmas.List.{append-nil, get_or_default}
 use Rattle.std.proofs.lemmas.List.Elements.{Contains-append_left}
 use Rattle.word_automata.specs.Automaton.{Automaton, target}
 use Rattle.word_automata.proofs.ForCallers.{Contains-none}
-use Rattle.past_abstraction.specs.Pasts.{LeadsTo, LeadsInto}
+use Rattle.past_abstraction.specs.Pasts.{LeadsTo, IsInPast}
 use Rattle.past_abstraction.specs.private.WordSets.{IsImage, IsSetOf, AddsSet, HasImage, AddsImagesOf, AreWordSets}
 use Rattle.past_abstraction.proofs.Adding.{same_place}
 
@@ -68,7 +68,7 @@ module _ (a : Automaton) (bound first : ℕ) (old new : List (List ℕ)) (adds :
     | inr from ↦ adds.images i letter (omega arith) less q leads
   ]
 
-  set_of_longer : (w v : List ℕ) (letter q : ℕ) → w ≡ v ++ letter ∷ [] → length v ≤ bound → LeadsInto a w q → (set : List ℕ) × Contains new set × IsSetOf a w set
+  set_of_longer : (w v : List ℕ) (letter q : ℕ) → w ≡ v ++ letter ∷ [] → length v ≤ bound → IsInPast a w q → (set : List ℕ) × Contains new set × IsSetOf a w set
   set_of_longer w v letter q is short into =
       let last = last_step a v into.0 letter q (subst (λ u. LeadsTo a into.0 u q) is into.2) in
       let (set, there, of) = has.sets_of_words v last.0 short (into.0, into.1, last.1) in

@@ -7,7 +7,9 @@ use Rattle.std.specs.List.{slice_get}
 use Rattle.refinement.specs.declared.verdict.Verdict.{Verdict}
 use Rattle.protocol_properties.specs.declared.properties.Property.{Property}
 use Rattle.protocol_search.proofs.ForCallers.{verdict-once}
-use Rattle.property_batch.specs.PropertyVerdicts.{IsPropertyVerdict, AreVerdicts, VerdictsAreByNumber, VerdictsAreDetermined, no_verdict, one_more, property_search}
+use Rattle.protocol_search.specs.Methods.{predicate_search}
+use Rattle.protocol_search.specs.declared.search.Analysis.TheVariants.{Forward}
+use Rattle.property_batch.specs.PropertyVerdicts.{IsPropertyVerdict, AreVerdicts, VerdictsAreByNumber, VerdictsAreDetermined, no_verdict, one_more}
 
 verdicts-append : (budget : ℕ) (ps qs : List Property) (vs ws : List Verdict) → AreVerdicts budget ps vs → AreVerdicts budget qs ws
     → AreVerdicts budget (ps ++ qs) (vs ++ ws)
@@ -63,4 +65,4 @@ once budget [] (v ∷ vs) ws are others = elim are [ ]
 once budget (p ∷ ps) [] ws are others = elim are [ ]
 once budget (p ∷ ps) (v ∷ vs) [] are others = elim others [ ]
 once budget (p ∷ ps) (v ∷ vs) (w ∷ ws) (one_more is more) (one_more other rest) =
-    ap₂ (λ x xs. x ∷ xs) (verdict-once p.system (property_search budget) v w is.verdict other.verdict) (once budget ps vs ws more rest)
+    ap₂ (λ x xs. x ∷ xs) (verdict-once p.system (predicate_search Forward budget) v w is other) (once budget ps vs ws more rest)

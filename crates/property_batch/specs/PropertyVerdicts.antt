@@ -4,20 +4,13 @@ use Rattle.refinement.specs.Verdicts.{IsSound}
 use Rattle.refinement.specs.declared.verdict.Verdict.{Verdict}
 use Rattle.protocol_properties.specs.declared.properties.Property.{Property}
 use Rattle.protocol_search.specs.Analyses.{task_for, proof_limit, VerdictShows}
+use Rattle.protocol_search.specs.Methods.{predicate_search}
 use Rattle.protocol_search.specs.Verdicts.{IsVerdictOf}
-use Rattle.protocol_search.specs.declared.first.FirstAbstraction.TheVariants.{BadPredicates}
 use Rattle.protocol_search.specs.declared.search.Analysis.TheVariants.{Forward}
-use Rattle.protocol_search.specs.declared.search.Search.{Search}
 
--- what is searched for each property: a proof or a bad run, by predicates of the bad words at first, with the whole budget
-abbrev pub property_search : ℕ → Search
-property_search budget = record { analysis = Forward; first = BadPredicates; budget = budget }
-
--- the verdict is that of the search for the property's own system, and what it shows is true
-pub record IsPropertyVerdict (budget : ℕ) (property : Property) (v : Verdict) : Type 0 where
-  pub verdict : IsVerdictOf property.system (property_search budget) v
-  pub sound : IsSound (task_for Forward property.system) (proof_limit Forward budget) v
-  pub shows : VerdictShows Forward property.system v
+-- the verdict is that of the search for the property's own system, by predicates of the bad words at first and with the whole budget
+abbrev pub IsPropertyVerdict : ℕ → Property → Verdict → Type 0
+IsPropertyVerdict budget property v = IsVerdictOf property.system (predicate_search Forward budget) v
 
 -- there is a verdict for each property, in their order, and each is that of its property
 pub data AreVerdicts (budget : ℕ) : List Property → List Verdict → Type 0 where
@@ -37,3 +30,12 @@ VerdictsAreByNumber = (budget : ℕ) (properties : List Property) (verdicts : Li
 abbrev pub VerdictsAreDetermined : Type 0
 VerdictsAreDetermined = (budget : ℕ) (properties : List Property) (verdicts others : List Verdict)
     → AreVerdicts budget properties verdicts → AreVerdicts budget properties others → verdicts ≡ others
+
+-- each verdict is sound for the problem of its property's system
+abbrev pub PropertyVerdictsAreSound : Type 0
+PropertyVerdictsAreSound = (budget : ℕ) (property : Property) (v : Verdict) → IsPropertyVerdict budget property v
+    → IsSound (task_for Forward property.system) (proof_limit Forward budget) v
+
+-- and shows of that system what it says
+abbrev pub PropertyVerdictsShow : Type 0
+PropertyVerdictsShow = (budget : ℕ) (property : Property) (v : Verdict) → IsPropertyVerdict budget property v → VerdictShows Forward property.system v

@@ -5,5 +5,5 @@
 mod law;
 mod searches;
 
-pub use law::{one_list_of_verdicts, verdicts_by_number};
+pub use law::{one_list_of_verdicts, property_verdicts_show, verdicts_by_number};
 pub use searches::search_all;

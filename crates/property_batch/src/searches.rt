@@ -94,7 +94,7 @@ fn search_one<G: Gate, R: Threads + Sync>(
 {
     let search = Search {
         analysis: Analysis::Forward,
-        first: FirstAbstraction::BadPredicates,
+        first: FirstAbstraction::TargetPredicates,
         budget,
     };
     search_system(alloc, runtime, gate, &property.system, search, 1)

@@ -11,4 +11,5 @@ pub mod Distinct
 pub mod InRange
 pub mod Validity
 pub mod AllowedTexts
+mod Copied
 pub mod Unchanged

@@ -145,9 +145,23 @@ pub fn resolve_rules(
     ensures { IsOutcome (first_fault_of (rule_fault sections.now) [] rules.now) (map (rule_of sections.now) rules.now) result }
 {
     let mut names = Names::new(alloc);
+    resolve_rules_named(alloc, sections, &mut names, rules)
+}
+
+/// The rules, whose names are gathered.
+fn resolve_rules_named<'a>(
+    alloc: Global,
+    sections: &Sections,
+    names: &mut Names<'a>,
+    rules: &'a [RuleText],
+) -> Result<Sequence<Rule>, ModelFault>
+    requires none { names.old ≡ [] }
+    requires limit { length rules.now ≤ MAX_RULES }
+    ensures { IsOutcome (first_fault_of (rule_fault sections.now) [] rules.now) (map (rule_of sections.now) rules.now) result }
+{
     let mut resolved = Vec::new(alloc);
     'rules: for rule in rules {
-        let next = resolve_next_rule(alloc, sections, &mut names, rule)?;
+        let next = resolve_next_rule(alloc, sections, names, rule)?;
         resolved.push(next)?;
     }
     Ok(Sequence::from_vec(resolved))

@@ -8,3 +8,11 @@ mod sections;
 
 pub use law::texts_say_allowed_properties;
 pub use properties::{Property, resolve_properties};
+
+/// Asks for a type that threads may share and that may be moved between them.
+fn is_shared<T: Send + Sync>() {}
+
+/// Threads may share properties.
+pub fn properties_are_shared() {
+    is_shared::<Property>();
+}

@@ -6,8 +6,11 @@ use Rattle.std.proofs.lemmas.Option.{same_Some}
 use Rattle.word_automata.specs.Automaton.{Automaton}
 use Rattle.protocol_model.specs.System.{SystemData}
 use Rattle.safety_problem.specs.Task.{Task}
+use Rattle.safety_problem.specs.Reversal.{reversed}
 use Rattle.abstraction.specs.Merging.{Key}
 use Rattle.abstraction.specs.Signatures.{AreSignatures}
+use Rattle.parallel_post.specs.SystemTask.{task_of}
+use Rattle.predicate_abstraction.specs.Predicates.{predicates}
 use Rattle.predicate_abstraction.specs.PredicateLaws.{related-excludes, related-equivalence as predicates-equivalence}
 use Rattle.predicate_abstraction.specs.Signatures as by_predicate
 use Rattle.predicate_abstraction.proofs.ForCallers.{related_by_signature as related_by_predicates}
@@ -23,24 +26,25 @@ use Rattle.refinement.specs.declared.verdict.Verdict.{Verdict}
 use Rattle.refinement.specs.Bounds.{HoldOfRounds}
 use Rattle.refinement.specs.Exclusion.{AreRefutedOnce}
 use Rattle.refinement.specs.Laws.{LeadsToBad}
+use Rattle.refinement.specs.Verdicts.{IsSound}
 use Rattle.search_history.specs.declared.log.LogEnd.TheVariants.{Closed}
-use Rattle.refinement.proofs.ForCallers.{history-bounded, refuted_once, rounds_bounded, automaton-unique, history-unique}
+use Rattle.refinement.proofs.ForCallers.{history-bounded, refuted_once, rounds_bounded, automaton-unique, history-unique, verdict-is-sound}
 use Rattle.protocol_search.specs.Analyses.{task_for, searched, searched_task, proof_limit, IsVerdictBy}
-use Rattle.protocol_search.specs.Methods.{by_predicates, by_lengths, by_pasts, search_method, first_key, IsByPredicates}
+use Rattle.protocol_search.specs.Methods.{by_predicates, by_lengths, by_pasts, predicate_search, search_method, first_key, IsByPredicates}
 use Rattle.protocol_search.specs.OneVerdict.{HistoryIsDetermined, VerdictIsDetermined}
 use Rattle.protocol_search.specs.SearchLaws.{VerdictsAreSound, VerdictsShow, TextsShow}
 use Rattle.protocol_search.specs.SystemHistories.{IsWithin, HasIndicesUpTo, IsBoundedByKey, VerdictsHaveHistories, VerdictsAreOfHistories, SearchRefutesOnce}
 use Rattle.protocol_search.specs.SystemHistories.{SearchIsBoundedByKeys, SearchIsBoundedByRuns, LogsAreBoundedByRuns}
-use Rattle.protocol_search.specs.Verdicts.{IsVerdictFor}
+use Rattle.protocol_search.specs.Verdicts.{IsVerdictFor, IsVerdictOf}
 use Rattle.protocol_search.specs.declared.search.Analysis.{Analysis}
+use Rattle.protocol_search.specs.declared.search.Analysis.TheVariants.{Backward}
 use Rattle.protocol_search.specs.declared.first.FirstAbstraction.{FirstAbstraction}
-use Rattle.protocol_search.specs.declared.first.FirstAbstraction.TheVariants.{BadPredicates, NoPredicates, Lengths, Pasts}
+use Rattle.protocol_search.specs.declared.first.FirstAbstraction.TheVariants.{TargetPredicates, NoPredicates, Lengths, Pasts}
 use Rattle.protocol_search.proofs.ByAnalysis.{by-once, by-rounds, by-sound, shown, text-shows, counterexample-leads}
-use Rattle.protocol_search.proofs.TaskVerdicts.{same-round}
 
 -- each state is related to itself
 own-related : (first : FirstAbstraction) (key : Key) (a : Automaton) (p : ℕ) → (search_method first).related key a p p
-own-related BadPredicates key a p = (predicates-equivalence key a).reflexive p
+own-related TargetPredicates key a p = (predicates-equivalence key a).reflexive p
 own-related NoPredicates key a p = (predicates-equivalence key a).reflexive p
 own-related (Lengths bound) key a p = (lengths-equivalence key a).reflexive p
 own-related (Pasts bound) key a p = (pasts-equivalence key a).reflexive p
@@ -80,7 +84,7 @@ verdict-from s search v h =
 
 -- histories of the same rounds end alike
 ends-alike : (rounds : List SearchRound) (a b : SearchRound) → last_or None rounds ≡ Some a → last_or None rounds ≡ Some b → b.end ≡ a.end
-ends-alike rounds a b h k = ap (λ (r : SearchRound). r.end) (same-round b a (sym k ∙ h))
+ends-alike rounds a b h k = ap (λ (r : SearchRound). r.end) (same_Some b a (sym k ∙ h))
 
 pub verdict-of-histories : VerdictsAreOfHistories
 verdict-of-histories s search v h end sum other =
@@ -95,6 +99,12 @@ verdict-of-histories s search v h end sum other =
 pub verdict-sound : VerdictsAreSound
 verdict-sound s search v h =
     by-sound search.analysis s (search_method search.first) (own-related search.first) (first_key search.first h.bad) search.budget v h.is_verdict
+
+-- and of a search backward so is the verdict on the reversed problem
+pub found-sound : (s : SystemData) (budget : ℕ) (v : Verdict) (h : IsVerdictOf s (predicate_search Backward budget) v)
+    → IsSound (reversed (task_of s)) budget h.is_verdict.found
+found-sound s budget v h =
+    verdict-is-sound (reversed (task_of s)) by_predicates (own-related TargetPredicates) budget (predicates (h.bad ∷ [])) h.is_verdict.found h.is_verdict.is_found
 
 pub verdict-shows : VerdictsShow
 verdict-shows s search v h = shown search.analysis s (proof_limit search.analysis search.budget) v (verdict-sound s search v h)
@@ -117,7 +127,7 @@ rounds-grow t method own budget (goes_on {key = key} {x = set} {rounds = rounds}
 -- by predicates no language is refuted twice
 module _ (t : Task) (budget : ℕ) {key : Key} {s z : ℕ} {rounds : List SearchRound} where
   refuted-by : (first : FirstAbstraction) → IsByPredicates first → History t (search_method first) budget key s rounds z → AreRefutedOnce rounds
-  refuted-by BadPredicates by h = refuted_once t by_predicates related-excludes budget h
+  refuted-by TargetPredicates by h = refuted_once t by_predicates related-excludes budget h
   refuted-by NoPredicates by h = refuted_once t by_predicates related-excludes budget h
   refuted-by (Lengths bound) by h = absurd by
   refuted-by (Pasts bound) by h = absurd by
@@ -125,8 +135,8 @@ module _ (t : Task) (budget : ℕ) {key : Key} {s z : ℕ} {rounds : List Search
   -- the merged automata of each round grow, and signatures of states bound them by its key
   bounded-by : (first : FirstAbstraction) → History t (search_method first) budget key s rounds z
       → HoldOfRounds (search_method first) (IsBoundedByKey t.letters first) key rounds
-  bounded-by BadPredicates h =
-      rounds_bounded t by_predicates (own-related BadPredicates) by_predicate.tests by_predicate.signature
+  bounded-by TargetPredicates h =
+      rounds_bounded t by_predicates (own-related TargetPredicates) by_predicate.tests by_predicate.signature
       (λ k. related_by_predicates k t.letters) budget h
   bounded-by NoPredicates h =
       rounds_bounded t by_predicates (own-related NoPredicates) by_predicate.tests by_predicate.signature
@@ -169,7 +179,7 @@ logs-within n (round ∷ rounds) h = (
 not-closed : (n : ℕ) (o : Option SearchRound) (last : SearchRound) (rounds : List SearchRound) → AllByRecursion (IsWithin n) rounds
     → last_or o rounds ≡ Some last → last_or o [] ≡ None → last.end ≢ Closed
 not-closed n o last [] h is none = absurd (let e : None ≡ Some last = sym none ∙ is in cc e)
-not-closed n o last (round ∷ []) h is none = subst (λ (r : SearchRound). r.end ≢ Closed) (same-round round last is) h.0.1
+not-closed n o last (round ∷ []) h is none = subst (λ (r : SearchRound). r.end ≢ Closed) (same_Some round last is) h.0.1
 not-closed n o last (round ∷ next ∷ rounds) h is none = not-closed n None last (next ∷ rounds) h.1 is refl
 
 pub logs-bounded : LogsAreBoundedByRuns

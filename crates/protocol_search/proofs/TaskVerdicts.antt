@@ -1,18 +1,17 @@
 -- What holds of the verdict of a history of a problem, and of the verdict of a search backward.
-use Rattle.std.proofs.Common.{◌≡◌, ◌≢◌, ◌≤◌, ◌∙◌, ℕ, List, None, Option, Some, refl, sym, ap, subst, arith}
+use Rattle.std.proofs.Common.{◌≡◌, ◌≢◌, ◌≤◌, ◌∙◌, ℕ, List, None, Some, refl, sym, ap, subst}
 use Rattle.std.specs.List.{last_or}
-use Rattle.word_automata.specs.Automaton.{Automaton}
 use Rattle.safety_problem.specs.Task.{Task}
 use Rattle.safety_problem.specs.Reversal.{reversed}
 use Rattle.abstraction.specs.Merging.{Key}
-use Rattle.search_history.specs.Histories.{RefinableAbstraction, SearchRound, IsSearchRound, History, ends, goes_on, log_of}
+use Rattle.search_history.specs.Histories.{RefinableAbstraction, SearchRound, History, log_of}
 use Rattle.search_history.specs.declared.log.Log.{Log}
 use Rattle.search_history.specs.declared.log.LogEnd.{LogEnd}
 use Rattle.search_history.specs.declared.log.LogEnd.TheVariants.{Spent}
-use Rattle.refinement.specs.Verdicts.{IsVerdict, IsVerdictOfRound, IsSound, log_in}
+use Rattle.refinement.specs.Verdicts.{IsVerdict, IsVerdictOfRound, log_in}
 use Rattle.refinement.specs.declared.verdict.Verdict.{Verdict}
 use Rattle.refinement.specs.declared.verdict.Verdict.TheVariants.{Safe, Unsafe, Unknown}
-use Rattle.refinement.proofs.ForCallers.{history-larger, closed-round, round-run, round-proof}
+use Rattle.refinement.proofs.ForCallers.{history-larger}
 use Rattle.backward_search.specs.BackwardVerdicts.{IsBackwardVerdict, IsToldBackward}
 use Rattle.protocol_search.specs.SearchLaws.{with_logged_budget, logged_within}
 use Rattle.protocol_search.specs.Verdicts.{end_of}
@@ -44,33 +43,6 @@ from-rounds t method key budget v h = record {
   ends = ends-so t h.last_round v h.verdict_of;
 }
 
--- the last round of a history is one of the search by some key
-record IsOneOf (t : Task) (method : RefinableAbstraction) (budget : ℕ) (round : SearchRound) : Type 0 where
-  key : Key
-  before : ℕ
-  after : ℕ
-  searched : IsSearchRound t (method.related key) budget before round after
-
-pub same-round : (a b : SearchRound) → Some a ≡ Some b → a ≡ b
-same-round a b h = cc h
-
-last-of : (t : Task) (method : RefinableAbstraction) (budget : ℕ) (o : Option SearchRound) (last : SearchRound) {key : Key} {s z : ℕ} {rounds : List SearchRound}
-    → History t method budget key s rounds z → last_or o rounds ≡ Some last → IsOneOf t method budget last
-last-of t method budget o last (ends {key = key} {s = s} {sum = z} {round = round} h open_end) is =
-    subst (IsOneOf t method budget) (same-round round last is) (record { key = key; before = s; after = z; searched = h })
-last-of t method budget o last (goes_on {round = round} h refuted at rest) is = last-of t method budget (Some round) last rest is
-
-module _ (t : Task) (method : RefinableAbstraction) (own : (key : Key) (a : Automaton) (p : ℕ) → method.related key a p p) (budget : ℕ) where
-  sound-last : (round : SearchRound) (v : Verdict) → IsOneOf t method budget round → IsVerdictOfRound t round v → IsSound t budget v
-  sound-last round (Safe proof log) one h =
-      round-proof t (method.related one.key) budget one.before one.after round.n round.m (own one.key)
-      (closed-round t (method.related one.key) budget one.before one.after round one.searched h.0) proof h.1
-  sound-last round (Unsafe words log) one h = round-run t (method.related one.key) budget one.before one.after round one.searched h.0 words h.1
-  sound-last round (Unknown log) one h = tt
-
-  pub verdict-is-sound : (key : Key) (v : Verdict) → IsVerdict t method key budget v → IsSound t budget v
-  verdict-is-sound key v h = sound-last h.last_round v (last-of t method budget None h.last_round h.history h.is_last) h.verdict_of
-
 -- ---- a larger budget
 
 logged : (budget : ℕ) (v : Verdict) → log_in (with_logged_budget budget v) ≡ logged_within budget (log_in v)
@@ -97,16 +69,6 @@ verdict-stays t method key budget larger v more decided h =
       verdict_of = round-stays t h.last_round larger v h.verdict_of;
       log_is = logged larger v ∙ ap (logged_within larger) h.log_is;
     }
-
-sound-stays : (t : Task) (budget larger : ℕ) (v : Verdict) → budget ≤ larger → IsSound t budget v → IsSound t larger (with_logged_budget larger v)
-sound-stays t budget larger (Safe proof log) more sound = record {
-  invariant = sound.invariant;
-  canonical = sound.canonical;
-  same_letters = sound.same_letters;
-  few = let few = sound.few in omega (arith, few, more);
-}
-sound-stays t budget larger (Unsafe words log) more sound = sound
-sound-stays t budget larger (Unknown log) more sound = tt
 
 -- ---- searches backward
 
@@ -139,6 +101,5 @@ pub verdict-stays-back : (t : Task) (method : RefinableAbstraction) (key : Key) 
 verdict-stays-back t method key budget larger v more decided h = record {
   found = with_logged_budget larger h.found;
   is_found = verdict-stays (reversed t) method key budget larger h.found more (λ spent. decided (sym (told-end h.found v h.told) ∙ spent)) h.is_found;
-  sound = sound-stays (reversed t) budget larger h.found more h.sound;
   told = told-stays larger h.found v h.told;
 }

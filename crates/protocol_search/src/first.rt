@@ -5,7 +5,7 @@
 #[derive(Clone, Copy, Debug, Drop)]
 pub enum FirstAbstraction {
     /// By the predicates of the automaton of the words that the rounds lead to: of the bad ones, and backward of the initial ones.
-    BadPredicates,
+    TargetPredicates,
     /// By predicates, of which there is none at first.
     NoPredicates,
     /// By the words of at most `bound` letters that states accept.

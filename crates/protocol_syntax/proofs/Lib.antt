@@ -1,5 +1,7 @@
 pub mod ForCallers
+mod Followed
 mod Letters
+mod Together
 pub mod Told
 pub mod Within
 pub mod Lexing

@@ -5,3 +5,4 @@ pub mod Spacing
 pub mod OneReading
 pub mod FirstLanguage
 pub mod Limits
+pub mod private

@@ -3,6 +3,7 @@
 
 ghost use Rattle.protocol_syntax.specs.Grammar.{guard, set};
 
+use crate::ends::ended;
 use crate::limits::MAX_GUARDS;
 use crate::protocol::{GuardText, Region};
 use forms::{
@@ -53,8 +54,7 @@ impl Form for Set {
     fn read(&self, source: &Source<'_>, at: &mut usize) -> Result<Sequence<Name>, SyntaxFault> {
         BRACE_LEFT.read(source, at)?;
         let names = Many(AnyName).read(source, at)?;
-        BRACE_RIGHT.read(source, at)?;
-        Ok(names)
+        ended(names, BRACE_RIGHT, source, at)
     }
 }
 

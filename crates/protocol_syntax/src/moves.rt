@@ -6,7 +6,9 @@ ghost use Rattle.forms.specs.Reading.{IsRead};
 ghost use Rattle.protocol_syntax.specs.Grammar.{any_move, at_move, channel_or_stack_move, common_move, entry, exit_move, four_names, later_move};
 ghost use Rattle.protocol_syntax.specs.Grammar.{lose_move, pair_move, pop_move, push_move, pushed, recv_move, ring_move, rule, send_move};
 ghost use Rattle.protocol_syntax.specs.Grammar.{set_move, spawn_move, step, table, two_move};
+ghost use Rattle.protocol_syntax.specs.private.Parts.{two_names};
 
+use crate::ends::ended;
 use crate::guards::GUARDS;
 use crate::limits::MAX_PUSHED;
 use crate::protocol::{MoveBody, MoveText, RuleText};
@@ -64,8 +66,7 @@ impl Form for Entry {
         let from = AnyName.read(source, at)?;
         ARROW.read(source, at)?;
         let to = AnyName.read(source, at)?;
-        SEMICOLON.read(source, at)?;
-        Ok((from, to))
+        ended((from, to), SEMICOLON, source, at)
     }
 }
 
@@ -92,8 +93,7 @@ impl Form for Table {
         MAP.read(source, at)?;
         BRACE_LEFT.read(source, at)?;
         let entries = Many(Entry).read(source, at)?;
-        BRACE_RIGHT.read(source, at)?;
-        Ok(entries)
+        ended(entries, BRACE_RIGHT, source, at)
     }
 }
 
@@ -116,6 +116,16 @@ fn at_move(source: &Source<'_>, at: &mut usize) -> Result<MoveBody, SyntaxFault>
     })
 }
 
+/// Reads two names.
+#[tactic(auto, unfolding(forms::specs::Reading::read_then))]
+fn two_names(source: &Source<'_>, at: &mut usize) -> Result<(Name, Name), SyntaxFault>
+    ensures { IsRead two_names (source_of source.now.text.now source.now.tokens.now) at.old at.new result }
+{
+    let a = AnyName.read(source, at)?;
+    let b = AnyName.read(source, at)?;
+    Ok((a, b))
+}
+
 /// Reads a word, two names, and what they become.
 #[tactic(auto, unfolding(crate::specs::Grammar::four_names, forms::specs::Reading::read_then))]
 fn four_names(
@@ -126,11 +136,9 @@ fn four_names(
     ensures { IsRead (four_names word) (source_of source.now.text.now source.now.tokens.now) at.old at.new result }
 {
     Sign(Symbol::Reserved(word)).read(source, at)?;
-    let a = AnyName.read(source, at)?;
-    let b = AnyName.read(source, at)?;
+    let (a, b) = two_names(source, at)?;
     ARROW.read(source, at)?;
-    let c = AnyName.read(source, at)?;
-    let d = AnyName.read(source, at)?;
+    let (c, d) = two_names(source, at)?;
     Ok((a, b, c, d))
 }
 
@@ -376,8 +384,7 @@ impl Form for Step {
         let section = AnyName.read(source, at)?;
         COLON.read(source, at)?;
         let body = any_move(self.language, source, at)?;
-        SEMICOLON.read(source, at)?;
-        Ok(MoveText { section, body })
+        ended(MoveText { section, body }, SEMICOLON, source, at)
     }
 }
 
@@ -406,7 +413,6 @@ impl Form for Rule {
             language: self.language,
         };
         let moves = Many(step).read(source, at)?;
-        BRACE_RIGHT.read(source, at)?;
-        Ok(RuleText { name, moves })
+        ended(RuleText { name, moves }, BRACE_RIGHT, source, at)
     }
 }

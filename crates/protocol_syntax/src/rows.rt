@@ -5,6 +5,7 @@ ghost use Rattle.protocol_syntax.specs.Grammar.{atom, base, part, pattern, row, 
 ghost use Rattle.forms.specs.Symbol.{source_of};
 ghost use Rattle.forms.specs.Reading.{IsRead};
 
+use crate::ends::ended;
 use crate::guards::Set;
 use crate::limits::MAX_ATOMS;
 use crate::protocol::{AtomText, BaseText, Many as Count, PartText, RowText};
@@ -114,8 +115,7 @@ impl Form for Part {
         let section = AnyName.read(source, at)?;
         COLON.read(source, at)?;
         let atoms = pattern(source, at)?;
-        SEMICOLON.read(source, at)?;
-        Ok(PartText { section, atoms })
+        ended(PartText { section, atoms }, SEMICOLON, source, at)
     }
 }
 
@@ -126,8 +126,7 @@ pub fn row_body(source: &Source<'_>, at: &mut usize) -> Result<RowText, SyntaxFa
 {
     BRACE_LEFT.read(source, at)?;
     let parts = Many(Part).read(source, at)?;
-    BRACE_RIGHT.read(source, at)?;
-    Ok(RowText { parts })
+    ended(RowText { parts }, BRACE_RIGHT, source, at)
 }
 
 /// A row, which begins with this word.

@@ -5,14 +5,19 @@ ghost use Rattle.std.specs.Prelude.{◌≡◌, ◌-◌, ◌∷◌, length, min, 
 ghost use Rattle.forms.specs.declared.fault.What.TheVariants as Limits;
 ghost use Rattle.forms.specs.Grammar.{item};
 ghost use Rattle.protocol_syntax.specs.declared.limits.TheConstants.{MAX_SECTIONS, MAX_LETTERS};
+ghost use Rattle.forms.specs.Symbol.{source_of};
+ghost use Rattle.forms.specs.Reading.{IsRead};
 ghost use Rattle.protocol_syntax.specs.Grammar.{kind, letters_of, lossy_kind, section};
+ghost use Rattle.protocol_syntax.specs.private.Parts.{all_sections, letters_behind};
 
+use crate::ends::ended;
 use crate::limits::{MAX_LETTERS, MAX_SECTIONS};
 use crate::protocol::{Kind, SectionText};
 use forms::{
-    AnyName, BRACE_LEFT, BRACE_RIGHT, Form, Item, Items, Keyword, Means, Only, Or, Sign, Source,
-    Symbol, SyntaxFault, UpTo, What, with_first,
+    AnyName, BRACE_LEFT, BRACE_RIGHT, Form, Item, Items, Keyword, Means, Name, Only, Or, Sign,
+    Source, Symbol, SyntaxFault, UpTo, What, read_many, with_first,
 };
+use sequence::Sequence;
 
 const COMMON_KIND: Or<Means<Kind>, Or<Means<Kind>, Or<Means<Kind>, Means<Kind>>>> = Or(
     Means(Symbol::Reserved(Keyword::Cell), Kind::Cell),
@@ -112,25 +117,34 @@ impl Form for Section {
         let kind = any_kind.read(source, at)?;
         let name = AnyName.read(source, at)?;
         BRACE_LEFT.read(source, at)?;
-        let one = Item {
-            full: MAX_LETTERS <= self.used,
-            what: What::Letters,
-            form: AnyName,
-        };
-        let letter = one.read(source, at)?;
-        let others = UpTo {
-            limit: (MAX_LETTERS - 1).saturating_sub(self.used),
-            what: What::Letters,
-            form: AnyName,
-        };
-        let more = others.read(source, at)?;
-        BRACE_RIGHT.read(source, at)?;
-        Ok(SectionText {
+        let letters = letters(self.used, source, at)?;
+        let section = SectionText {
             kind,
             name,
-            letters: with_first(letter, more.into_vec())?,
-        })
+            letters,
+        };
+        ended(section, BRACE_RIGHT, source, at)
     }
+}
+
+/// Reads the letters of a section, where the earlier sections have so many together.
+#[tactic(auto, unfolding(forms::specs::Reading::read_then))]
+fn letters(used: usize, source: &Source<'_>, at: &mut usize) -> Result<Sequence<Name>, SyntaxFault>
+    ensures { IsRead (letters_behind used) (source_of source.now.text.now source.now.tokens.now) at.old at.new result }
+{
+    let one = Item {
+        full: MAX_LETTERS <= used,
+        what: What::Letters,
+        form: AnyName,
+    };
+    let letter = one.read(source, at)?;
+    let others = UpTo {
+        limit: (MAX_LETTERS - 1).saturating_sub(used),
+        what: What::Letters,
+        form: AnyName,
+    };
+    let more = others.read(source, at)?;
+    with_first(letter, more.into_vec())
 }
 
 /// The sections behind the first, in a text of this language.
@@ -173,6 +187,25 @@ impl<'a> Items for MoreSections<'a> {
         };
         next.read(source, at)
     }
+}
+
+/// Reads the sections of a text of this language.
+#[tactic(auto, unfolding(crate::specs::Grammar::more_sections, forms::specs::Reading::read_then))]
+pub fn sections(
+    language: u32,
+    source: &Source<'_>,
+    at: &mut usize,
+) -> Result<Sequence<SectionText>, SyntaxFault>
+    ensures { IsRead (all_sections language) (source_of source.now.text.now source.now.tokens.now) at.old at.new result }
+{
+    let one = Section { language, used: 0 };
+    let first = one.read(source, at)?;
+    let others = MoreSections {
+        language,
+        first: &first,
+    };
+    let more = read_many(&others, source, at)?;
+    with_first(first, more.into_vec())
 }
 
 /// How many letters the sections have together, as far as the limit cares.

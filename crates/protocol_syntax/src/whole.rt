@@ -9,10 +9,9 @@ use crate::limits::{MAX_ROWS, MAX_RULES};
 use crate::moves::Rule;
 use crate::protocol::Protocol;
 use crate::rows::Row;
-use crate::sections::{MoreSections, Section};
+use crate::sections::sections;
 use forms::{
     AnyName, Form, Keyword, OneOf, Optional, Sign, Source, Symbol, SyntaxFault, UpTo, What,
-    read_many, with_first,
 };
 use sequence::Text;
 use std::alloc::Global;
@@ -77,13 +76,7 @@ impl Form for WholeProtocol {
         PROTOCOL.read(source, at)?;
         let name = AnyName.read(source, at)?;
         let language = Optional(SecondLanguage, 1u32).read(source, at)?;
-        let one = Section { language, used: 0 };
-        let first = one.read(source, at)?;
-        let others = MoreSections {
-            language,
-            first: &first,
-        };
-        let more = read_many(&others, source, at)?;
+        let sections = sections(language, source, at)?;
         let init = INIT.read(source, at)?;
         let each_rule = UpTo {
             limit: MAX_RULES,
@@ -95,7 +88,7 @@ impl Form for WholeProtocol {
         Ok(Protocol {
             name,
             language,
-            sections: with_first(first, more.into_vec())?,
+            sections,
             init,
             rules,
             bad,

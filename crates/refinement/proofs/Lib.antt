@@ -8,3 +8,4 @@ pub mod KeyBounds
 pub mod Exclusion
 pub mod RealRuns
 pub mod EndLemmas
+pub mod SoundVerdicts

@@ -1,5 +1,5 @@
 pub mod Verdicts
-pub mod Decisions
 pub mod Laws
 pub mod Bounds
 pub mod Exclusion
+pub mod private

@@ -3,7 +3,7 @@
 
 ghost use Rattle.refinement.specs.Bounds.{AreBoundedByKeys};
 ghost use Rattle.refinement.specs.Exclusion.{RefutesOnce};
-ghost use Rattle.refinement.specs.Laws.{HasOneHistory, HasOneVerdict, KeepsWithBudget, IsBoundedByRuns};
+ghost use Rattle.refinement.specs.Laws.{HasOneHistory, HasOneVerdict, HasSoundVerdicts, KeepsWithBudget, IsBoundedByRuns};
 
 use abstraction::{Excluding, Refinable};
 use safety_problem::Problem;
@@ -16,6 +16,11 @@ pub fn one_history<P: Problem, A: Refinable>(problem: &P, _abstraction: &A)
 /// They have one verdict, with one log.
 pub fn one_verdict<P: Problem, A: Refinable>(problem: &P, _abstraction: &A)
     ensures { HasOneVerdict (P.task problem.now) (record { related = A.Abstraction.related; next = A.next }) }
+{}
+
+/// Each verdict is sound: its proof is one of the problem, with fewer states than the budget, and its words are those of a run.
+pub fn verdicts_are_sound<P: Problem, A: Refinable>(problem: &P, _abstraction: &A)
+    ensures { HasSoundVerdicts (P.task problem.now) (record { related = A.Abstraction.related; next = A.next }) }
 {}
 
 /// A history that decides the problem is the history for every larger budget.

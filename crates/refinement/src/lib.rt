@@ -9,7 +9,7 @@ mod verdict;
 
 pub use laws::{
     keys_bound_rounds, larger_budget_keeps_history, no_language_is_refuted_twice, one_history,
-    one_verdict, runs_bound_rounds,
+    one_verdict, runs_bound_rounds, verdicts_are_sound,
 };
 pub use rounds::search;
 pub use verdict::Verdict;

@@ -1,4 +1,3 @@
-pub mod Levels
-pub mod Meetings
 pub mod Results
 pub mod Runs
+pub mod private

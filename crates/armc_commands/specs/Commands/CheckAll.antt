@@ -6,7 +6,7 @@ use Rattle.protocol_syntax.specs.Properties.{AreProperties, properties}
 use Rattle.protocol_model.specs.System.{SystemData}
 use Rattle.protocol_properties.specs.Properties.{first_properties_fault, properties_of}
 use Rattle.protocol_properties.specs.declared.properties.Property.{Property}
-use Rattle.armc_commands.specs.Commands.Searches.{predicate_search}
+use Rattle.protocol_search.specs.Methods.{predicate_search}
 use Rattle.protocol_search.specs.declared.search.Analysis.TheVariants.{Forward}
 use Rattle.command_replies.specs.declared.refusal.Refusal.{Refusal}
 use Rattle.command_replies.specs.declared.status.Status.TheVariants as status

@@ -7,7 +7,7 @@ use Rattle.certificate_checker.specs.Proof.{IsSafe}
 use Rattle.command_words.specs.Words.{default_budget}
 use Rattle.search_history.specs.Histories.{log_of}
 use Rattle.search_history.specs.declared.log.LogEnd.TheVariants.{Spent}
-use Rattle.armc_commands.specs.Commands.Searches.{predicate_search}
+use Rattle.protocol_search.specs.Methods.{predicate_search}
 use Rattle.protocol_search.specs.SystemHistories.{HistoryEnds}
 use Rattle.protocol_search.specs.declared.search.Analysis.TheVariants.{Forward}
 use Rattle.protocol_search.specs.declared.search.Search.{Search}

@@ -7,15 +7,15 @@ use Rattle.command_words.specs.declared.Query.TheVariants.{Check, Back, Deadlock
 use Rattle.command_words.specs.declared.Start.{Start}
 use Rattle.command_words.specs.declared.Start.TheVariants.{Bad, Nothing}
 use Rattle.command_words.specs.declared.Settings.{Settings}
+use Rattle.protocol_search.specs.Methods.{predicate_search}
 use Rattle.protocol_search.specs.declared.first.FirstAbstraction.{FirstAbstraction}
-use Rattle.protocol_search.specs.declared.first.FirstAbstraction.TheVariants.{BadPredicates, NoPredicates, Lengths, Pasts}
-use Rattle.protocol_search.specs.declared.search.Analysis.{Analysis}
+use Rattle.protocol_search.specs.declared.first.FirstAbstraction.TheVariants.{TargetPredicates, NoPredicates, Lengths, Pasts}
 use Rattle.protocol_search.specs.declared.search.Analysis.TheVariants.{Forward, Backward, Stuck}
 use Rattle.protocol_search.specs.declared.search.Search.{Search}
 
 -- the first predicates: those of the bad words, or none
 abbrev pub first_predicates : Start → FirstAbstraction
-first_predicates Bad = BadPredicates
+first_predicates Bad = TargetPredicates
 first_predicates Nothing = NoPredicates
 
 -- what states are merged by in the first round, by the method; the start matters to predicates alone, and the bound to words alone
@@ -25,10 +25,6 @@ first_by Length start bound = Lengths bound
 
 abbrev pub first_abstraction : Settings → FirstAbstraction
 first_abstraction settings = first_by settings.method settings.start settings.bound
-
--- the search by the predicates of the words that the rounds lead to
-abbrev pub predicate_search : Analysis → ℕ → Search
-predicate_search analysis budget = record { analysis = analysis; first = BadPredicates; budget = budget }
 
 -- what a query searches within the budget
 abbrev pub search_for : Query → ℕ → Search

@@ -20,7 +20,7 @@ use command_replies::{
     Refusal, Reply, Status, on_out, refusal_reply, refused_by_grammar, refused_by_names,
 };
 use command_words::Limits;
-use property_batch::search_all;
+use property_batch::{property_verdicts_show, search_all};
 use protocol_model::System;
 use protocol_properties::{Property, resolve_properties, texts_say_allowed_properties};
 use protocol_search::{Analysis, FirstAbstraction, Search, verdict_text};
@@ -101,9 +101,10 @@ fn told_part(
 {
     let search = Search {
         analysis: Analysis::Forward,
-        first: FirstAbstraction::BadPredicates,
+        first: FirstAbstraction::TargetPredicates,
         budget,
     };
+    property_verdicts_show();
     let certificate = verdict_text(alloc, &property.system, search, verdict)?;
     Ok(with_title(alloc, property.name.as_str(), certificate.as_slice())?)
 }

@@ -29,7 +29,7 @@ pub fn generate_reply<G: Gate, R: Threads + Sync>(
 {
     let search = Search {
         analysis: Analysis::Forward,
-        first: FirstAbstraction::BadPredicates,
+        first: FirstAbstraction::TargetPredicates,
         budget: u64::from(DEFAULT_BUDGET),
     };
     let telling = Telling::Summary(number);

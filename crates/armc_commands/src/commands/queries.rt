@@ -27,7 +27,7 @@ fn first_abstraction(settings: Settings) -> FirstAbstraction
 {
     match settings.method {
         Method::Predicates => match settings.start {
-            Start::Bad => FirstAbstraction::BadPredicates,
+            Start::Bad => FirstAbstraction::TargetPredicates,
             Start::Nothing => FirstAbstraction::NoPredicates,
         },
         Method::Length => FirstAbstraction::Lengths {
@@ -49,12 +49,12 @@ fn search_for(query: Query, budget: u64) -> Search
         },
         Query::Back => Search {
             analysis: Analysis::Backward,
-            first: FirstAbstraction::BadPredicates,
+            first: FirstAbstraction::TargetPredicates,
             budget,
         },
         Query::Deadlock => Search {
             analysis: Analysis::Stuck,
-            first: FirstAbstraction::BadPredicates,
+            first: FirstAbstraction::TargetPredicates,
             budget,
         },
         Query::Past { bound } => Search {

@@ -1,16 +1,8 @@
 -- The letters of a system's automata, found by their texts.
-use Rattle.std.specs.Prelude.{◌≡◌, ℕ, List, [], ◌∷◌, ◌++◌, Option, Some, Vec, IfSome, IsSome, map, codes, slice_get, bytes_eq, flat_map}
+use Rattle.std.specs.Prelude.{◌≡◌, ℕ, List, Option, Some, Vec, IfSome, IsSome, map, slice_get, bytes_eq}
 use Rattle.std.specs.HashMap.{HashMap, get_by}
-use Rattle.protocol_model.specs.declared.system.Section.{Section}
 use Rattle.protocol_model.specs.System.{SystemData, IsValid}
-
--- the texts of a section's letters, in their order
-abbrev pub section_texts : Section → List (List ℕ)
-section_texts section = map (λ letter. section.name ++ codes "." ++ letter) section.letters
-
--- the texts of all letters, in the order of their numbers
-abbrev pub letter_texts : List Section → List (List ℕ)
-letter_texts sections = flat_map section_texts sections ++ codes "|" ∷ []
+use Rattle.certificate.specs.Words.{letter_texts}
 
 -- the lists in vectors
 abbrev pub lists_of : {Y : Type 0} → List (Vec ℕ Y) → List (List ℕ)

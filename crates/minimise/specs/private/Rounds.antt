@@ -1,5 +1,5 @@
 -- Rounds of refinement by hashes of signatures, and classes that are stable.
-use Rattle.std.specs.Prelude.{◌≡◌, ◌+◌, ◌*◌, ◌%◌, ◌/◌, ◌^◌, ℕ, suc, Bool, List, Some, length, slice_index, slice_get, if◌then◌else◌}
+use Rattle.std.specs.Prelude.{◌≡◌, ◌+◌, ◌*◌, ◌%◌, ◌/◌, ◌^◌, ℕ, suc, List, Some, length, slice_index, slice_get, if◌then◌else◌}
 use Rattle.std.specs.List.{filter_map, fold}
 use Rattle.word_automata.specs.Path.{Node, edges_of, is_accepting}
 use Rattle.word_automata.specs.Automaton.{Automaton, accepts_from}
@@ -44,12 +44,10 @@ mixed_in_edge value edge = mixed_in value (edge_number edge)
 abbrev pub hash_of : Signature → ℕ
 hash_of s = fold mixed_in_edge (if s.accepting then 1 else 0) s.edges
 
--- each state's class in the finer list is its class in the coarser where that is to be kept, and else the hash of its signature by the
--- coarser
-pub record AreHashes (keeps : ℕ → Bool) (states : List (Node ℕ)) (classes finer : List ℕ) : Type 0 where
+-- each state's class in the finer list is the hash of its signature by the coarser one
+pub record AreHashes (states : List (Node ℕ)) (classes finer : List ℕ) : Type 0 where
   pub count : length finer ≡ length states
-  pub each : (q : ℕ) (state : Node ℕ) → slice_get states q ≡ Some state
-      → slice_index finer q ≡ (if keeps (slice_index classes q) then slice_index classes q else hash_of (outgoing_in classes state))
+  pub each : (q : ℕ) (state : Node ℕ) → slice_get states q ≡ Some state → slice_index finer q ≡ hash_of (outgoing_in classes state)
 
 -- the state has the signature of the least state of its class, and that of no word in class 0
 pub record IsLikeLeast (m : Automaton) (classes : List ℕ) (q : ℕ) : Type 0 where

@@ -2,7 +2,7 @@
 use Rattle.std.specs.Prelude.{◌≡◌, ◌↔◌, ◌⊎◌, ◌<◌, ◌≤◌, ◌*◌, ◌++◌, ℕ, List, Vec, [], Some, Contains, length, slice_get, slice_index, slice_index_or}
 use Rattle.word_automata.specs.Automaton.{Automaton, target, IsValid}
 use Rattle.bit_set.specs.Bits.{Has}
-use Rattle.past_abstraction.specs.Pasts.{LeadsInto}
+use Rattle.past_abstraction.specs.Pasts.{IsInPast}
 
 -- the letter leads from a state of the set to q
 abbrev pub LeadsFrom : Automaton → List ℕ → ℕ → ℕ → Type 0
@@ -41,7 +41,7 @@ pub record HasNoMarks (bound : ℕ) (marks : List ℕ) : Type 0 where
 
 -- the set has the states into which the word leads
 abbrev pub IsSetOf : Automaton → List ℕ → List ℕ → Type 0
-IsSetOf a w set = (q : ℕ) → Contains set q ↔ LeadsInto a w q
+IsSetOf a w set = (q : ℕ) → Contains set q ↔ IsInPast a w q
 
 -- each of the sets has both states or neither
 abbrev pub AreInSame : List (List ℕ) → ℕ → ℕ → Type 0
@@ -87,5 +87,5 @@ pub record AddsImagesOf (a : Automaton) (first end : ℕ) (old new : List (List 
 pub record AreWordSets (a : Automaton) (bound first : ℕ) (sets : List (List ℕ)) : Type 0 where
   pub within : first ≤ length sets
   pub words : (set : List ℕ) → Contains sets set → (w : List ℕ) × (length w ≤ bound) × IsSetOf a w set
-  pub sets_of_words : (w : List ℕ) (q : ℕ) → length w ≤ bound → LeadsInto a w q → (set : List ℕ) × Contains sets set × IsSetOf a w set
+  pub sets_of_words : (w : List ℕ) (q : ℕ) → length w ≤ bound → IsInPast a w q → (set : List ℕ) × Contains sets set × IsSetOf a w set
   pub images : (i letter : ℕ) → i < first → HasImage a sets (slice_index_or sets i []) letter

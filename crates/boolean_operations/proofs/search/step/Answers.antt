@@ -1,6 +1,6 @@
 use Rattle.std.proofs.Common.{◌≡◌, ◌+◌, ◌++◌, ◌∷◌, [], IfSome, Some, suc, length, slice_get, refl, sym, subst, ◌∙◌, ap, arith}
 use Rattle.boolean_operations.specs.private.Search.{Reached, Extends, IsIn}
-use Rattle.boolean_operations.proofs.SearchSteps.{Found, found_new, found_old, extends-trans, in_kept, kept_longer}
+use Rattle.boolean_operations.proofs.SearchSteps.{Found, found_new, found_old, extends-nothing, extends-trans, in_kept, kept_longer}
 use Rattle.boolean_operations.proofs.search.step.Given.{Over}
 use Rattle.boolean_operations.proofs.search.step.Goals.{In_ok-push-2}
 use Rattle.boolean_operations.proofs.search.step.Goals as goal
@@ -36,6 +36,14 @@ close-requires-clause-within g c =
     let closed : length found ≡ c.len-closed.result = sym (c.len-closed.ensures ∙ ap length c.look_up.ensures.same) in
     omega (arith, kept_longer found c.push.new.self.states.items f.extends.found_kept, closed)
 
+pub returns-clause-reached : goal.returns-clause-reached
+returns-clause-reached g c =
+    let t = g.T.Graph in
+    let graph = c.args.graph.now in
+    let found = c.close.new.found.states.items in
+    subst (λ steps. Reached (t.is_state graph) (t.is_start graph) (t.edge graph) found c.close.new.groups.items steps (length found)) c.deref.ensures.value
+    c.in_ok-close.ensures.reached
+
 pub returns-clause-bounded : goal.returns-clause-bounded
 returns-clause-bounded g c =
     let f = found_at g (goal.at.returns-clause-bounded g c).In_ok-push-2 in
@@ -65,6 +73,15 @@ returns-clause-taken g c =
       f.not_after,
     )
 
+pub returns-then-holds-clause-reached : goal.returns-then-holds-clause-reached
+returns-then-holds-clause-reached g c = c.requires.reached
+
+pub returns-then-holds-clause-bounded : goal.returns-then-holds-clause-bounded
+returns-then-holds-clause-bounded g c = c.requires.bounded
+
+pub returns-then-holds-clause-extends : goal.returns-then-holds-clause-extends
+returns-then-holds-clause-extends g c = extends-nothing c.args.found.now.states.items c.args.groups.now.items c.args.steps.now.items (c.args.from + 1)
+
 pub returns-then-holds-clause-taken : goal.returns-then-holds-clause-taken
 returns-then-holds-clause-taken g c =
     let t = g.T.Graph in
@@ -74,6 +91,23 @@ returns-then-holds-clause-taken g c =
     let steps = c.args.steps.now.items in
     found_old (t.is_state graph) (t.is_start graph) (t.edge graph) found groups steps c.requires.reached c.args.from c.args.letter c.requires.within c.requires.bounded
     c.args.state c.requires.is_state c.requires.source c.args.last (c.if-holds.ensures refl)
+
+pub returns-in-Some-clause-reached : goal.returns-in-Some-clause-reached
+returns-in-Some-clause-reached g c =
+    let t = g.T.Graph in
+    let graph = c.args.graph.now in
+    subst (λ found. Reached (t.is_state graph) (t.is_start graph) (t.edge graph) found c.args.groups.now.items c.args.steps.now.items (length found)) (sym c.look_up.ensures.same)
+    c.requires.reached
+
+pub returns-in-Some-clause-bounded : goal.returns-in-Some-clause-bounded
+returns-in-Some-clause-bounded g c = c.requires.bounded
+
+pub returns-in-Some-clause-extends : goal.returns-in-Some-clause-extends
+returns-in-Some-clause-extends g c =
+    let found = c.args.found.now.states.items in
+    let groups = c.args.groups.now.items in
+    let steps = c.args.steps.now.items in
+    subst (λ new. Extends found groups steps new groups steps (c.args.from + 1)) (sym c.look_up.ensures.same) (extends-nothing found groups steps (c.args.from + 1))
 
 pub returns-in-Some-clause-taken : goal.returns-in-Some-clause-taken
 returns-in-Some-clause-taken g c =

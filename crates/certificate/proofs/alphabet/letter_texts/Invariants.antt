@@ -1,5 +1,6 @@
 use Rattle.std.proofs.Common.{◌≡◌, take, flat_map}
-use Rattle.certificate.specs.private.Alphabet.{lists_of, section_texts}
+use Rattle.certificate.specs.Words.{section_texts}
+use Rattle.certificate.specs.private.Alphabet.{lists_of}
 use Rattle.certificate.proofs.alphabet.letter_texts.Given as goal
 
 abbrev pub invariant-sections : goal.invariant-sections

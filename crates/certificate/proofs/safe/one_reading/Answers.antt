@@ -1,5 +1,11 @@
-use Rattle.certificate.proofs.HasFaultLemmas.{means_unique, fault_unique, fault_excludes}
+use Rattle.certificate.proofs.OneReadingLemmas.{meaning_once, fault_once, fault_excludes}
 use Rattle.certificate.proofs.safe.one_reading.Goals as goal
 
-pub returns : goal.returns
-returns c = record { meaning = means_unique; fault = fault_unique; either = fault_excludes }
+pub returns-clause-meaning : goal.returns-clause-meaning
+returns-clause-meaning c = meaning_once
+
+pub returns-clause-fault : goal.returns-clause-fault
+returns-clause-fault c = fault_once
+
+pub returns-clause-either : goal.returns-clause-either
+returns-clause-either c = fault_excludes

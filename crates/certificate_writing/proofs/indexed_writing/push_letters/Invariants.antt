@@ -1,5 +1,5 @@
 use Rattle.std.proofs.Common.{◌≡◌, ◌++◌, take}
-use Rattle.certificate.specs.LineLayout.{letters_text}
+use Rattle.certificate.specs.SafeText.{letters_text}
 use Rattle.certificate_writing.proofs.indexed_writing.push_letters.Given as goal
 
 abbrev pub invariant-letters : goal.invariant-letters

@@ -1,6 +1,6 @@
 use Rattle.std.proofs.Common.{◌<◌, [], ◌∷◌, ◌++◌, All, length, codes, flat_map, subst, sym, ap, ◌∙◌}
 use Rattle.std.specs.List.{range_with_len}
-use Rattle.certificate.specs.LineLayout.{letters_text, states_line}
+use Rattle.certificate.specs.SafeText.{letters_text, states_line}
 use Rattle.certificate_writing.specs.Writing.{final_states}
 use Rattle.certificate_writing.specs.private.WritingParts.{final_text}
 use Rattle.certificate_writing.specs.IndexedWriting.{used_letters}

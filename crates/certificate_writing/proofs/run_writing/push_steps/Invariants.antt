@@ -1,5 +1,5 @@
 use Rattle.std.proofs.Common.{◌≡◌, ◌++◌, take}
-use Rattle.certificate.specs.RunFaults.{steps_text}
+use Rattle.certificate.specs.RunText.{steps_text}
 use Rattle.certificate_writing.proofs.run_writing.push_steps.Given as goal
 
 abbrev pub invariant-steps : goal.invariant-steps

@@ -1,5 +1,5 @@
 use Rattle.std.proofs.Common.{◌+◌, ◌++◌, drop, ap, ◌∙◌, arith}
-use Rattle.certificate.specs.LineLayout.{lines_text}
+use Rattle.certificate.specs.SafeText.{lines_text}
 use Rattle.certificate_writing.specs.Writing.{lines_from, edge_lines}
 use Rattle.certificate_writing.proofs.WritingLemmas.{push_edges_step}
 use Rattle.certificate_writing.proofs.writing.push_edges.Goals as goal

@@ -1,5 +1,5 @@
 use Rattle.std.proofs.Common.{◌≡◌, ◌++◌, drop}
-use Rattle.certificate.specs.LineLayout.{lines_text}
+use Rattle.certificate.specs.SafeText.{lines_text}
 use Rattle.certificate_writing.specs.Writing.{edge_lines}
 use Rattle.certificate_writing.proofs.writing.push_edges.Given as goal
 

@@ -1,5 +1,5 @@
 use Rattle.std.proofs.Common.{◌≡◌, ◌++◌, take}
-use Rattle.certificate.specs.LineLayout.{lines_text}
+use Rattle.certificate.specs.SafeText.{lines_text}
 use Rattle.certificate_writing.specs.Writing.{lines_from}
 use Rattle.certificate_writing.proofs.writing.push_edges_from.Given as goal
 

@@ -1,5 +1,5 @@
 use Rattle.std.proofs.Common.{◌≡◌, [], ◌∷◌, ◌++◌, length, codes, decimal, flat_map, ap, ◌∙◌}
-use Rattle.certificate.specs.LineLayout.{lines_text}
+use Rattle.certificate.specs.SafeText.{lines_text}
 use Rattle.certificate_writing.specs.Writing.{final_states, edge_lines}
 use Rattle.certificate_writing.specs.private.WritingParts.{final_text}
 use Rattle.certificate_writing.proofs.WritingLemmas.{automaton_text-is}

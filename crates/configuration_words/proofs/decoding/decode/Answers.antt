@@ -1,10 +1,10 @@
-use Rattle.std.proofs.Common.{◌≡◌, ◌<◌, ◌≤◌, ◌+◌, Some, true, length, get_or, subst, sym, ap, ◌∙◌}
+use Rattle.std.proofs.Common.{◌≡◌, ◌<◌, ◌≤◌, ◌+◌, Some, true, length, get_or, subst, sym, ap, ◌∙◌, arith}
 use Rattle.std.specs.Option.{option_copied}
 use Rattle.protocol_model.specs.System.{letter_count}
 use Rattle.protocol_model.specs.Patterns.{lists_fit}
 use Rattle.protocol_model.specs.Words.{separator_of, raised_lists, joined}
 use Rattle.configuration_words.specs.private.Cuts.{IsCut}
-use Rattle.configuration_words.proofs.DecodingLemmas.{IsDecoded, decoded_wrong, decoded_more, decoded_all, decoded_only, word_joined, copied_none, copied_some}
+use Rattle.configuration_words.proofs.DecodingLemmas.{IsDecoded, counted_on, decoded_none, decoded_short, decoded_wrong, decoded_more, decoded_all, decoded_only, word_joined, copied_none, copied_some}
 use Rattle.configuration_words.proofs.decoding.decode.Goals as goal
 
 pub returns-in_default-2-clause-found : goal.returns-in_default-2-clause-found
@@ -69,3 +69,44 @@ returns-clause-unique c = λ d fitting e.
     let only = decoded_only s c.args.word.now c.sections.section-index c.sections.offset c.sections.lists.items (option_copied c.sections.rest) past
     c.sections.invariant.1 d.lists (word_joined s c.separator-separator.ensures.valid.limits.some_section c.args.word.now d fitting e) in
     ap (λ xs. Some (record { lists = xs })) (c.from_vec.ensures ∙ sym only.0)
+
+pub sections-init : goal.sections-init
+sections-init c =
+    let s = c.args.system.now in
+    let word = c.args.word.now in (
+      c.as_slice-section-items.ensures ∙ ap (λ d. d.sections) c.system.view_is,
+      subst (λ xs. IsDecoded s word 0 0 xs (Some word)) (sym c.new-lists.ensures.items) (decoded_none s word),
+    )
+
+pub returns-in_default-clause-found : goal.returns-in_default-clause-found
+returns-in_default-clause-found c = λ d fitting e.
+    let s = c.args.system.now in
+    let index = c.sections.section-index in
+    let within = subst (λ xs. index < length xs) c.sections.invariant.0 c.sections-test.true in
+    let is = subst (λ xs. c.section-item.result ≡ get_or xs index c.section-item.result) c.sections.invariant.0 c.section-item.is in
+    decoded_short s c.args.word.now index c.sections.offset c.sections.lists.items (option_copied c.sections.rest) c.section-item.result within is c.sections.invariant.1
+    (ap option_copied c.in_default.is) d.lists (word_joined s c.separator-separator.ensures.valid.limits.some_section c.args.word.now d fitting e)
+
+pub returns-in_default-clause-unique : goal.returns-in_default-clause-unique
+returns-in_default-clause-unique c = λ d fitting e. absurd (returns-in_default-clause-found c d fitting e)
+
+pub lowered-requires : goal.lowered-requires
+lowered-requires c =
+    let s = c.args.system.now in
+    let index = c.sections.section-index in
+    let within = subst (λ xs. index < length xs) c.sections.invariant.0 c.sections-test.true in
+    let is = subst (λ xs. c.section-item.result ≡ get_or xs index c.section-item.result) c.sections.invariant.0 c.section-item.is in
+    omega (arith, counted_on s c.args.word.now index c.sections.offset c.sections.lists.items (option_copied c.sections.rest) c.section-item.result within is c.sections.invariant.1, c.separator-separator.ensures.valid.limits.letters_limit)
+
+pub overflow_add-offset : goal.overflow_add-offset
+overflow_add-offset c =
+    let s = c.args.system.now in
+    let index = c.sections.section-index in
+    let within = subst (λ xs. index < length xs) c.sections.invariant.0 c.sections-test.true in
+    let is = subst (λ xs. c.section-item.result ≡ get_or xs index c.section-item.result) c.sections.invariant.0 c.section-item.is in
+    omega (
+      arith,
+      counted_on s c.args.word.now index c.sections.offset c.sections.lists.items (option_copied c.sections.rest) c.section-item.result within is c.sections.invariant.1,
+      c.letter_count-offset.ensures,
+      c.separator-separator.ensures.valid.limits.letters_limit,
+    )

@@ -1,7 +1,8 @@
-use Rattle.std.proofs.Common.{◌≡◌, ◌<◌, ◌++◌, ◌∷◌, [], length, get_or, subst, sym, ap, ◌∙◌}
+use Rattle.std.proofs.Common.{◌≡◌, ◌<◌, ◌≤◌, ◌+◌, ◌^◌, ◌++◌, ◌∷◌, [], All, length, get_or, subst, sym, ap, ◌∙◌, arith}
 use Rattle.std.proofs.lemmas.List.{append-nil}
 use Rattle.protocol_model.specs.Words.{raised, separator_of}
-use Rattle.configuration_words.proofs.EncodingLemmas.{lead, lead_none, lead_some, encoded_next}
+use Rattle.configuration_words.proofs.WordLemmas.{fitting_below}
+use Rattle.configuration_words.proofs.EncodingLemmas.{IsEncoded, lead, lead_none, lead_some, list_within, counted_on, list_fitting, encoded_none, encoded_next, encoded_all}
 use Rattle.configuration_words.proofs.encoding.encode.Goals as goal
 use Rattle.configuration_words.proofs.encoding.encode.Goals.{then-index-gt0+in_ok-push, else-index-gt0}
 
@@ -26,3 +27,55 @@ sections-preserved c =
     encoded_next s c.args.configuration.now.lists index c.sections.offset c.sections.word.items c.section-item.result within is c.sections.invariant
     c.index-lists-index.result is_list c.if-index-gt0.word.items c.push_raised.new.word.items c.letter_count-offset.result begun
     (c.in_ok-push_raised.ensures ∙ ap (λ xs. c.if-index-gt0.word.items ++ raised c.sections.offset xs) c.as_slice.ensures) c.letter_count-offset.ensures
+
+pub sections-init : goal.sections-init
+sections-init c =
+    let lists = c.args.configuration.now.lists in
+    subst (IsEncoded c.args.system.now lists 0 0) (sym c.new-word.ensures.items) (encoded_none c.args.system.now lists c.requires)
+
+pub bounds-lists-index : goal.bounds-lists-index
+bounds-lists-index c =
+    let s = c.args.system.now in
+    let lists = c.args.configuration.now.lists in
+    let index = c.sections.index in
+    let sections = c.as_slice-section-items.ensures ∙ ap (λ d. d.sections) c.system.view_is in
+    let within = subst (λ xs. index < length xs) sections c.sections-test.true in
+    let is = subst (λ xs. c.section-item.result ≡ get_or xs index c.section-item.result) sections c.section-item.is in
+    subst (λ xs. index < length xs) (sym c.as_slice-lists.ensures)
+    (list_within s lists index c.sections.offset c.sections.word.items c.section-item.result within is c.sections.invariant)
+
+pub push_raised-requires : goal.push_raised-requires
+push_raised-requires c =
+    let s = c.args.system.now in
+    let lists = c.args.configuration.now.lists in
+    let index = c.sections.index in
+    let sections = c.as_slice-section-items.ensures ∙ ap (λ d. d.sections) c.system.view_is in
+    let within = subst (λ xs. index < length xs) sections c.sections-test.true in
+    let is = subst (λ xs. c.section-item.result ≡ get_or xs index c.section-item.result) sections c.section-item.is in
+    let is_list = subst (λ xs. c.index-lists-index.result ≡ get_or xs index c.index-lists-index.result) c.as_slice-lists.ensures c.index-lists-index.is in
+    let counted = counted_on s lists index c.sections.offset c.sections.word.items c.section-item.result within is c.sections.invariant in
+    let fitting = list_fitting s lists index c.sections.offset c.sections.word.items c.section-item.result within is c.sections.invariant c.index-lists-index.result is_list in
+    subst (λ xs. All (λ a. a + c.sections.offset < 2 ^ 32) xs) (sym c.as_slice.ensures)
+    (fitting_below c.section-item.result c.index-lists-index.result c.sections.offset (2 ^ 32) fitting
+    (omega (arith, counted, c.separator-separator.ensures.valid.limits.letters_limit)))
+
+pub overflow_add-offset : goal.overflow_add-offset
+overflow_add-offset c =
+    let s = c.args.system.now in
+    let lists = c.args.configuration.now.lists in
+    let index = c.sections.index in
+    let sections = c.as_slice-section-items.ensures ∙ ap (λ d. d.sections) c.system.view_is in
+    let within = subst (λ xs. index < length xs) sections c.sections-test.true in
+    let is = subst (λ xs. c.section-item.result ≡ get_or xs index c.section-item.result) sections c.section-item.is in
+    omega (
+      arith,
+      counted_on s lists index c.sections.offset c.sections.word.items c.section-item.result within is c.sections.invariant,
+      c.letter_count-offset.ensures,
+      c.separator-separator.ensures.valid.limits.letters_limit,
+    )
+
+pub returns : goal.returns
+returns c =
+    let sections = c.as_slice-section-items.ensures ∙ ap (λ d. d.sections) c.system.view_is in
+    encoded_all c.args.system.now c.args.configuration.now.lists c.sections.index c.sections.offset c.sections.word.items
+    (subst (λ xs. length xs ≤ c.sections.index) sections c.sections-test.false) c.sections.invariant

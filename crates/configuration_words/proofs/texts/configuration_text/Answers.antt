@@ -1,9 +1,9 @@
-use Rattle.std.proofs.Common.{◌≡◌, ◌<◌, ◌≤◌, ◌++◌, length, get_or, subst, sym, ap, ◌∙◌}
+use Rattle.std.proofs.Common.{◌≡◌, ◌<◌, ◌≤◌, ◌++◌, All, length, get_or, subst, sym, ap, ◌∙◌}
 use Rattle.std.proofs.lemmas.List.{append-nil}
-use Rattle.protocol_model.specs.System.{IsValid}
+use Rattle.protocol_model.specs.System.{IsValid, letter_count}
 use Rattle.configuration_words.specs.Texts.{part_text}
 use Rattle.configuration_words.specs.ConfigurationText.{MeansConfiguration}
-use Rattle.configuration_words.proofs.TextLemmas.{lead, lead_none, lead_some, written_more, written_all}
+use Rattle.configuration_words.proofs.TextLemmas.{IsWritten, lead, lead_none, lead_some, list_within, letters_below, written_none, written_more, written_all}
 use Rattle.configuration_words.proofs.TokenLemmas.{text_means}
 use Rattle.configuration_words.proofs.texts.configuration_text.Goals as goal
 use Rattle.configuration_words.proofs.texts.configuration_text.Goals.{then-index-gt0+in_ok-extend_from_slice, else-index-gt0}
@@ -37,3 +37,37 @@ returns-clause-read_back c =
     let past = subst (λ xs. length xs ≤ c.sections.index) sections c.sections-test.false in
     subst (λ text. MeansConfiguration s text d) (sym (written_all s d.lists c.sections.index c.sections.text.items past c.sections.invariant))
     (text_means s d (subst IsValid c.system.view_is c.system.invariant) c.requires)
+
+pub sections-init : goal.sections-init
+sections-init c =
+    let lists = c.args.configuration.now.lists in
+    subst (IsWritten c.args.system.now lists 0) (sym c.new-text.ensures.items) (written_none c.args.system.now lists c.requires)
+
+pub bounds-lists-index : goal.bounds-lists-index
+bounds-lists-index c =
+    let s = c.args.system.now in
+    let lists = c.args.configuration.now.lists in
+    let index = c.sections.index in
+    let sections = c.as_slice-section-items.ensures ∙ ap (λ d. d.sections) c.system.view_is in
+    let within = subst (λ xs. index < length xs) sections c.sections-test.true in
+    let is = subst (λ xs. c.section-item.result ≡ get_or xs index c.section-item.result) sections c.section-item.is in
+    subst (λ xs. index < length xs) (sym c.as_slice-lists.ensures)
+    (list_within s lists index c.sections.text.items c.section-item.result within is c.sections.invariant)
+
+pub push_part-requires : goal.push_part-requires
+push_part-requires c =
+    let s = c.args.system.now in
+    let lists = c.args.configuration.now.lists in
+    let index = c.sections.index in
+    let sections = c.as_slice-section-items.ensures ∙ ap (λ d. d.sections) c.system.view_is in
+    let within = subst (λ xs. index < length xs) sections c.sections-test.true in
+    let is = subst (λ xs. c.section-item.result ≡ get_or xs index c.section-item.result) sections c.section-item.is in
+    let is_list = subst (λ xs. c.index-lists-index.result ≡ get_or xs index c.index-lists-index.result) c.as_slice-lists.ensures c.index-lists-index.is in
+    subst (λ xs. All (λ a. a < letter_count c.section-item.result) xs) (sym c.as_slice.ensures)
+    (letters_below s lists index c.sections.text.items c.section-item.result within is c.sections.invariant c.index-lists-index.result is_list)
+
+pub returns-clause-text : goal.returns-clause-text
+returns-clause-text c =
+    let sections = c.as_slice-section-items.ensures ∙ ap (λ d. d.sections) c.system.view_is in
+    written_all c.args.system.now c.args.configuration.now.lists c.sections.index c.sections.text.items
+    (subst (λ xs. length xs ≤ c.sections.index) sections c.sections-test.false) c.sections.invariant

@@ -6,5 +6,4 @@ abbrev pub invariant-rounds : goal.invariant-rounds
 invariant-rounds l = record {
   apart : AreToldApart l.automaton l.classes.items;
   count : length l.finer.items ≡ length l.automaton.states;
-  kept : length l.kept.items ≡ length l.automaton.states;
 }

@@ -1,7 +1,7 @@
 use Rattle.std.proofs.Common.{◌<◌, ◌∙◌, length, refl, ap, sym, arith, subst}
 use Rattle.std.proofs.lemmas.Option.{slice_get_read}
 use Rattle.protocol_model.specs.Words.{automata_letters}
-use Rattle.certificate.specs.SafeText.{letter_text}
+use Rattle.certificate.specs.Words.{letter_text}
 use Rattle.certificate.proofs.AlphabetLemmas.{letters_counted, letter_text-at}
 use Rattle.certificate.proofs.alphabet.Alphabet.text.Goals as goal
 
@@ -20,5 +20,5 @@ returns c =
     let text = c.index-text.result.now in
     let at = slice_get_read texts (length texts) c.args.letter text refl (omega (arith, counted, within)) c.index-text.ensures in
     c.as_slice.ensures.value
-    ∙ letter_text-at s texts c.self.invariant.texts_are c.args.letter text within at
+    ∙ letter_text-at s texts c.self.invariant.texts_are c.args.letter text at
     ∙ ap (λ s. letter_text s.sections c.args.letter) c.self.view_is

@@ -1,0 +1,212 @@
+//! The lines of certificates.
+//! Each is made of the parts of which `specs/` says it.
+
+ghost use Rattle.std.specs.Prelude.{IfOk};
+ghost use Rattle.lines.specs.Reading.{IsReading};
+ghost use Rattle.certificate.specs.Lines.{line_at};
+ghost use Rattle.certificate.specs.declared.said.Said.TheVariants as S;
+
+use crate::alphabet::Alphabet;
+use crate::configurations::{Configurations, Rules};
+use crate::said::{Kind, Place, Said};
+use crate::words::{Letter, Name};
+use lines::{After, Case, Cut, Fields, Form, Just, Means, Meant, NoLine, Number, Numbered};
+use protocol_model::Configuration;
+use sequence::Sequence;
+use std::alloc::{AllocError, Global};
+use std::marker::PhantomData;
+
+/// A state, or an index of a letter.
+const STATE: Number = Number { limit: 1_000_000 };
+
+/// The number of states.
+const COUNT: Number = Number { limit: 1_000_001 };
+
+#[derive(Clone, Copy)]
+struct SaysTitle;
+
+impl Meant for SaysTitle {
+    type From = (u32, Kind);
+
+    type To = Said;
+
+    ghost means = { λ _ p. S.Title p.0 p.1 };
+
+    fn meant(&self, _alloc: Global, (version, kind): (u32, Kind)) -> Result<Said, AllocError> {
+        Ok(Said::Title(version, kind))
+    }
+}
+
+#[derive(Clone, Copy)]
+struct SaysLetter;
+
+impl Meant for SaysLetter {
+    type From = u32;
+
+    type To = Said;
+
+    ghost means = { λ _ x. S.Letter x };
+
+    fn meant(&self, _alloc: Global, letter: u32) -> Result<Said, AllocError> {
+        Ok(Said::Letter(letter))
+    }
+}
+
+#[derive(Clone, Copy)]
+struct SaysStates;
+
+impl Meant for SaysStates {
+    type From = u32;
+
+    type To = Said;
+
+    ghost means = { λ _ x. S.States x };
+
+    fn meant(&self, _alloc: Global, count: u32) -> Result<Said, AllocError> {
+        Ok(Said::States(count))
+    }
+}
+
+#[derive(Clone, Copy)]
+struct SaysFinal;
+
+impl Meant for SaysFinal {
+    type From = u32;
+
+    type To = Said;
+
+    ghost means = { λ _ x. S.Final x };
+
+    fn meant(&self, _alloc: Global, state: u32) -> Result<Said, AllocError> {
+        Ok(Said::Final(state))
+    }
+}
+
+#[derive(Clone, Copy)]
+struct SaysEdge;
+
+impl Meant for SaysEdge {
+    type From = (u32, (u32, u32));
+
+    type To = Said;
+
+    ghost means = { λ _ p. S.Edge p.0 p.1.0 p.1.1 };
+
+    fn meant(
+        &self,
+        _alloc: Global,
+        (from, (letter, to)): (u32, (u32, u32)),
+    ) -> Result<Said, AllocError> {
+        Ok(Said::Edge(from, letter, to))
+    }
+}
+
+#[derive(Clone, Copy)]
+struct SaysEdges;
+
+impl Meant for SaysEdges {
+    type From = (u32, (u32, Sequence<u32>));
+
+    type To = Said;
+
+    ghost means = { λ _ p. S.Edges p.0 p.1.0 p.1.1 };
+
+    fn meant(
+        &self,
+        _alloc: Global,
+        (from, (to, indices)): (u32, (u32, Sequence<u32>)),
+    ) -> Result<Said, AllocError> {
+        Ok(Said::Edges(from, to, indices))
+    }
+}
+
+#[derive(Clone, Copy)]
+struct SaysEnd;
+
+impl Meant for SaysEnd {
+    type From = ();
+
+    type To = Said;
+
+    ghost means = { λ _ nothing. S.End };
+
+    fn meant(&self, _alloc: Global, _from: ()) -> Result<Said, AllocError> {
+        Ok(Said::End)
+    }
+}
+
+#[derive(Clone, Copy)]
+struct SaysStart;
+
+impl Meant for SaysStart {
+    type From = Configuration;
+
+    type To = Said;
+
+    ghost means = { λ _ x. S.Start x };
+
+    fn meant(&self, _alloc: Global, parts: Configuration) -> Result<Said, AllocError> {
+        Ok(Said::Start(parts))
+    }
+}
+
+#[derive(Clone, Copy)]
+struct SaysStep;
+
+impl Meant for SaysStep {
+    type From = (u32, Configuration);
+
+    type To = Said;
+
+    ghost means = { λ _ p. S.Step p.0 p.1 };
+
+    fn meant(
+        &self,
+        _alloc: Global,
+        (rule, parts): (u32, Configuration),
+    ) -> Result<Said, AllocError> {
+        Ok(Said::Step(rule, parts))
+    }
+}
+
+/// What the line says at this place.
+pub fn read_line<'a>(
+    alloc: Global,
+    alphabet: &'a Alphabet<'a>,
+    place: Place,
+    line: &[u8],
+) -> Result<Option<Said>, AllocError>
+    ensures { IfOk result (IsReading (line_at alphabet.now place) line.now) }
+{
+    let states = After(b"states ", Means(COUNT, SaysStates));
+    let accepting = Means(STATE, SaysFinal);
+    let end = Means(Just(b"end", (), NoLine(PhantomData)), SaysEnd);
+    let letter = Letter(alphabet);
+    let configuration = Configurations(alphabet);
+    match place {
+        Place::Title => {
+            let unknown = Just(b"unknown", Kind::Unknown, NoLine(PhantomData));
+            let kind = Just(b"safe", Kind::Safe, Just(b"unsafe", Kind::Unsafe, unknown));
+            let fields = Cut(b' ', Number { limit: 3 }, kind);
+            Means(After(b"armc ", fields), SaysTitle).read(alloc, line)
+        }
+        Place::States => states.read(alloc, line),
+        Place::Letters => { Case(b"letter ", Means(letter, SaysLetter), states).read(alloc, line) }
+        Place::NamedEdges => {
+            let edge = Cut(b' ', STATE, Cut(b' ', letter, STATE));
+            let others = Case(b"edge ", Means(edge, SaysEdge), end);
+            Case(b"final ", accepting, others).read(alloc, line)
+        }
+        Place::IndexedEdges => {
+            let edge = Cut(b' ', STATE, Cut(b' ', STATE, Fields(b' ', STATE)));
+            let others = Case(b"edge ", Means(edge, SaysEdges), end);
+            Case(b"final ", accepting, others).read(alloc, line)
+        }
+        Place::Start => { After(b"start ", Means(configuration, SaysStart)).read(alloc, line) }
+        Place::Steps => {
+            let rule = Numbered(Rules(alphabet), Name);
+            let step = Means(Cut(b' ', rule, configuration), SaysStep);
+            Case(b"step ", step, end).read(alloc, line)
+        }
+    }
+}
