@@ -195,22 +195,22 @@ def one_search(program):
         wrong = []
         for at, (words, wanted) in enumerate((
             ([1, 2048, name, "check", "--budget", "1000000"], {"why": "time", "status": -9, "judged": ""}),
-            ([60, 48, os.path.join("protocols", "large.armc"), "check"], {"why": "", "status": 9, "err": "armc: out of memory\n"}),
-            ([60, 2048, name, "deadlock"], {"why": "", "status": 0, "judged": "valid"}),
-            ([60, 2048, name, "verify"], {"why": "", "status": 3, "judged": ""}),
+            ([900, 48, os.path.join("protocols", "large.armc"), "check"], {"why": "", "status": 9, "err": "armc: out of memory\n"}),
+            ([900, 2048, name, "deadlock"], {"why": "", "status": 0, "judged": "valid"}),
+            ([900, 2048, name, "verify"], {"why": "", "status": 3, "judged": ""}),
         )):
             ended = run(line(folder, "--print", f"9{at:04d}", *words), cwd=folder)
             found = results.read(results.path_of(f"9{at:04d}", folder))
             wrong += differs(f"the search {words}", (ended.returncode, ended.stdout, {key: found[key] for key in wanted}), (0, results.sealed(found), wanted))
         for number, status in ((signal.SIGTERM, 75), (signal.SIGKILL, -9)):
-            process = subprocess.Popen(line(folder, "98000", 60, 2048, name, "check", "--budget", "1000000"), cwd=folder)
+            process = subprocess.Popen(line(folder, "98000", 900, 2048, name, "check", "--budget", "1000000"), cwd=folder)
             begun = till(lambda: program_runs(folder))
             process.send_signal(number)
             ended = (process.wait(SECONDS), till(lambda: not program_runs(folder)), os.path.exists(results.path_of("98000", folder)))
             wrong += differs(f"a line with signal {number}", (begun, *ended), (True, status, True, False))
         shutil.rmtree(os.path.join(folder, "results"))
         write(os.path.join(folder, "results"), "")
-        ended = run(line(folder, "98001", 60, 2048, name, "check", "--budget", "9"), cwd=folder)
+        ended = run(line(folder, "98001", 900, 2048, name, "check", "--budget", "9"), cwd=folder)
         return wrong + differs("a result that cannot be written", (ended.returncode, "Traceback" in ended.stderr), (75, False))
 
 

@@ -19,7 +19,7 @@ from armc_tools.mona_answers import judged
 from armc_tools.program import Refused
 from armc_tools.protocol import Protocol
 
-SECONDS = 120
+SECONDS = 600
 MUTANTS = 10
 # Proofs of few states, so that MONA is quick; each is mutated twice.
 MUTATED = ("token", "tickets", "handoff", "german", "philosophers")
@@ -183,7 +183,7 @@ def silent_mona(folder, lock):
     for text, status, told in (
         ("", 126, ""), ("echo 'BDD too large (>16777216 nodes)'; kill -6 $$", 2, "no opinion: MONA gives up: BDD too large (>16777216 nodes)\n"),
         ("kill -9 $$", 2, "no opinion: MONA gives up: status -9\n"), ("echo 'Formula is valid'; exit 1", 2, "no opinion: MONA gives up: Formula is valid\n"),
-        ("sleep 60", 2, "no opinion: MONA is stopped at the end of its time\n"), ("echo 'Formula is valid'", 0, "valid\n"),
+        ("sleep 600", 2, "no opinion: MONA is stopped at the end of its time\n"), ("echo 'Formula is valid'", 0, "valid\n"),
     ):
         path = os.path.join(folder, "mona")
         if text:
@@ -192,7 +192,7 @@ def silent_mona(folder, lock):
         for name in ("sh", "sleep", "stdbuf"):
             if shutil.which(name) and not os.path.exists(os.path.join(folder, "tools", name)):
                 os.symlink(shutil.which(name), os.path.join(folder, "tools", name))
-        found = export("--judge", "--seconds", "1", *lock, env={**os.environ, "PATH": f"{folder}:{folder}/tools"})
+        found = export("--judge", "--seconds", "1" if "sleep" in text else "600", *lock, env={**os.environ, "PATH": f"{folder}:{folder}/tools"})
         said = "armc-export: no mona is on the path (Debian has it as the package mona)\n" if not text else ""
         wrong += differs(f"with a mona that does {text!r}", (found.returncode, found.stdout, found.stderr), (status, told, said))
     return wrong

@@ -6,11 +6,13 @@ the case is left out. `unittest` does not run them: most cases are folders of te
 import concurrent.futures
 import contextlib
 import fnmatch
+import glob
 import importlib.machinery
 import importlib.util
 import multiprocessing
 import os
 import pty
+import re
 import shutil
 import subprocess
 import sys
@@ -23,8 +25,8 @@ TOP = os.path.dirname(os.path.dirname(os.path.abspath(__file__)))
 TOOLS = os.path.join(TOP, "tools")
 SYSTEMS = os.path.join(TOP, "tests", "systems")
 BUILT = os.path.join(TOP, "crates", "armc", "out", "armc")
-# Whatever is called ends within so many seconds, on a busy machine too.
-SECONDS = 300
+# Whatever is called ends within so many seconds, on a slow and busy machine too.
+SECONDS = 1200
 sys.path.insert(0, TOOLS)
 
 
@@ -106,17 +108,16 @@ def on_terminal(words, typed=b""):
 
 
 def interrupted(program, name, words, number, command="check"):
-    """What a tool says that gets a signal when its first search has begun, and which processes that it started still run."""
+    """What a tool says that gets a signal when its first search has begun and it waits, and which processes that it started still run."""
     with tempfile.TemporaryDirectory() as folder:
         begun = os.path.join(folder, "begun")
         script = write(os.path.join(folder, "program"), f'#!/bin/sh\ncase $1 in {command} | checkall) : >"{begun}" ;; esac\nexec "{program}" "$@"\n', script=True)
         process = subprocess.Popen(tool_words(name, "--program", script, "--jobs", "2", *words), stdout=subprocess.PIPE, stderr=subprocess.PIPE, text=True, start_new_session=True)
-        till(lambda: os.path.exists(begun))
-        time.sleep(0.2)
+        till(lambda: os.path.exists(begun) and all(state == "S" for state, _ in threads_of(process.pid).values()))
         os.kill(process.pid, number)
         out, err = process.communicate(timeout=SECONDS)
-        left = printed("ps", "-o", "pid=", "-s", str(process.pid)).split() if shutil.which("ps") else []
-        return process.returncode, out, err, left
+        till(lambda: not session_of(process.pid), 20)
+        return process.returncode, out, err, session_of(process.pid)
 
 
 def till(holds, seconds=SECONDS):
@@ -125,6 +126,20 @@ def till(holds, seconds=SECONDS):
     while not holds() and time.monotonic() < end:
         time.sleep(0.05)
     return holds()
+
+
+def session_of(pid):
+    """The processes that still run in the session that the process began."""
+    return printed("ps", "-o", "pid=", "-s", str(pid)).split() if shutil.which("ps") else []
+
+
+def threads_of(pid):
+    """Of each thread of a process its state, R where it is at work or ready to be and S where it sleeps, and how many times it went to sleep."""
+    found = {}
+    for path in glob.glob(f"/proc/{pid}/task/*/status"):
+        with contextlib.suppress(OSError), open(path, errors="replace") as file:
+            found[path] = re.findall(r"^(?:State|voluntary_ctxt_switches):\t(\w+)", file.read(), re.M)
+    return found
 
 
 def processes():

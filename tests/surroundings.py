@@ -26,12 +26,12 @@ esac
 RATTLE = """#!/usr/bin/env bash
 [ "$2" != --help ] || { echo " --statements"; exit; }
 name=$3 made=${!#}
-echo "$name" >>"$FAKE_LIST"; [ "$name" != "$FAKE_SLOW" ] || sleep 30
+echo "$name" >>"$FAKE_LIST"; [ "$name" != "$FAKE_SLOW" ] || { while [ -e "$FAKE_LIST" ]; do sleep 0.1; done; exit 1; }
 for word; do
   case $word in *=*.rlib) [ -e "${word#*=}" ] || echo "$name-without-${word%%=*}" >>"$FAKE_LIST" ;; esac
 done
 case $name in middle | other)
-  for _ in $(seq 100); do [ "$(grep -c 'middle\\|other' "$FAKE_LIST")" -lt 2 ] || break; sleep 0.1; done ;;
+  for _ in $(seq 600); do [ "$(grep -c 'middle\\|other' "$FAKE_LIST")" -lt 2 ] || break; sleep 0.1; done ;;
 esac
 [ "$name" != "$FAKE_FAULT" ] || { echo error; exit 1; }
 [ "$name" != "$FAKE_EDIT" ] || echo >>src/lib.rt

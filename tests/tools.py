@@ -124,8 +124,9 @@ def portfolio_interrupted(program):
         wrong += differs("an interrupt", (status, out, "interrupted; tried" in err, left), (130, "", True, []))
     tool = tool_words("armc-portfolio", "--program", program, "--one-order")
     for more, layout in ((words, r"check: budget 1000000, \d"), (words[-1:], r"check: budget 10+, 10\d+ states counted before, \d")):
-        shown, _ = on_terminal([*tool, "--seconds", "2", *more])
-        wrong += [] if re.search(layout, shown) else [f"a terminal shows {shown[:300]!r}"]
+        # (a busy machine needs more time till there is something to show)
+        shown = next((shown for shown in (on_terminal([*tool, "--seconds", seconds, *more])[0] for seconds in ("2", "8", "32", "128")) if re.search(layout, shown)), "")
+        wrong += [] if shown else [f"a terminal does not show {layout!r}"]
     return wrong
 
 
