@@ -5,12 +5,11 @@ import glob
 import os
 import random
 import re
-import resource
 import signal
 import sys
 import tempfile
 
-from support import SYSTEMS, TOP, call, canonical, differs, example, interrupted, judged, main, on_terminal, printed, read, run, to_full_device, tool_words, without_comments, write, wrong_refusal
+from support import SYSTEMS, TOP, call, canonical, differs, example, interrupted, judged, main, on_terminal, printed, read, run, spent, to_full_device, tool_words, without_comments, write, wrong_refusal
 import definitions
 from armc_tools.protocol import Protocol
 from armc_tools.stuck import Stuck, Unsaid
@@ -165,17 +164,12 @@ def coverage(program):
         shown = call(program, "armc-coverage", "--show", "P.x", path)
         wrong += differs("--show of a proof", (shown.returncode, judged(program, path, shown.stdout), shown.stderr), (1, True, ""))
     hard = example("hard", "lamport_fast.armc")
-    before = processor_time()
+    began = spent()
     found = call(program, "armc-coverage", "--jobs", "2", "--seconds", "2", hard)
-    late = processor_time() - before > 60
+    late = spent() - began > 60
     wrong += differs("a limit of time", (late, "Traceback" in found.stderr, len(rows_of_table(found.stdout))), (False, False, asked_names(program, hard)))
     found = call(program, "armc-coverage", "--jobs", "2", "--seconds", "30", "--memory", "16", "--show", "P.cxy", hard)
     return wrong + differs("a limit of memory", ("Traceback" in found.stderr, found.returncode in (0, 1, 2)), (False, True))
-
-
-def processor_time():
-    """The seconds of processor time that the processes took which this one has started and which have ended."""
-    return sum(resource.getrusage(resource.RUSAGE_CHILDREN)[:2])
 
 
 def rows_of_table(text):

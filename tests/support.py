@@ -142,6 +142,11 @@ def threads_of(pid):
     return found
 
 
+def spent():
+    """The processor time of this process and of those that it has started and that have ended, in seconds: a busy machine does not change it."""
+    return sum(os.times()[:4])
+
+
 def processes():
     """Of each process its parent and its own time, in ticks."""
     found = {}

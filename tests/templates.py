@@ -13,7 +13,7 @@ import sys
 import tempfile
 
 import support
-from support import SECONDS, TOOLS, call, differs, main, on_terminal, read, run, till, to_full_device, tool_words, without_comments, write, write_all, wrong_refusal
+from support import SECONDS, TOOLS, call, differs, main, on_terminal, read, run, spent, till, to_full_device, tool_words, without_comments, write, write_all, wrong_refusal
 from refusals import text_of
 from armc_tools.expansion import Unknown, Written, expand, expanded_cases
 from armc_tools.templates import RESERVED, Fault, value_of
@@ -117,11 +117,6 @@ def productions(_):
                          ("n=99999999999", None), ("for=3", None), ("R={all}", None), ("R={a any}", None), ("R={a-b}", None), ("R={a", None), ("=3", None), ("n=3 ", None), (f"R={{{'a' * 33}}}", None)):
         wrong += differs(f"the value {word}", value_of(word), wanted)
     return wrong
-
-
-def spent():
-    """The processor time of this process and of those that it has ended, in seconds: a busy machine does not change it."""
-    return sum(os.times()[:4])
 
 
 def refusals(_):
