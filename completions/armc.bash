@@ -46,7 +46,7 @@ _armc_tools() {
       case ${1##*/}:$word in
         armc-portfolio:-*) words='--seconds --memory --jobs --budget --deadlock --but --stuck --one-order --reordered --list --first --collect --rest --from --set --program --help' ;;
         armc-coverage:-*) words='--budget --seconds --memory --jobs --method --show --set --program --help' ;;
-        armc-explain:-*) words='--method --start --budget --width --svg --html --why --plain --configurations --states --set --program --help' ;;
+        armc-explain:-*) words='--method --start --budget --seconds --width --svg --html --why --plain --configurations --states --set --program --help' ;;
         armc-walk:-*) words='--random --seed --letters --set --program --help' ;;
         armc-properties:-*) words='--seconds --memory --jobs --budget --certificates --set --program --help' ;;
         armc-expand:-*) words='--check --output --set --program --help' ;;

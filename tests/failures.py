@@ -8,7 +8,7 @@ import subprocess
 import sys
 import tempfile
 
-from support import differs, main, read_bytes, run, write, write_all
+from support import bare, differs, main, read_bytes, run, write, write_all
 
 MEGABYTE = 1 << 20
 REPORT = ["check", "f", "--report"]
@@ -21,9 +21,8 @@ os.execv(words[0], words)
 """
 
 
-def example(name):
-    """The text of an example without its comments."""
-    return b"".join(line for line in read_bytes("examples", name).splitlines(True) if not line.startswith(b"#"))
+def text_of(name):
+    return bare(name).encode()
 
 
 class Folder:
@@ -49,7 +48,7 @@ class Folder:
 
 def cut_protocols(folder):
     """Of the prefixes of a protocol those are taken that end with the last brace of the section or of a later item, or with the line feed after it."""
-    text = example("tickets.armc")
+    text = text_of("tickets")
     ends = [match.end() for match in re.finditer(rb"\}\n", text)]
     whole = {end for each in ends for end in (each - 1, each)}
     names = [f"prefix{size}" for size in range(len(text) + 1)]
@@ -65,7 +64,7 @@ def cut_protocols(folder):
 
 def cut_certificates(folder):
     """A certificate of either version that is cut anywhere is truncated, at the line after the last line feed that is left."""
-    folder.put(f=example("tickets.armc"))
+    folder.put(f=text_of("tickets"))
     folder.put(c=folder.run(["check", "f"])[1])
     return [line for version in (1, 2) for line in cut_certificate(folder, version)]
 
@@ -87,7 +86,7 @@ def cut_properties(folder):
     text = b"bad none { P: n*; }\nbad pairs { P: any* t any* t any*; }\nbad none { P: empty; }\n"
     whole = {end for match in re.finditer(rb"\}\n", text) for end in (match.end() - 1, match.end())}
     names = [f"properties{size}" for size in range(len(text) + 1)]
-    folder.put(f=example("token.armc"), **{name: text[:size] for size, name in enumerate(names)})
+    folder.put(f=text_of("token"), **{name: text[:size] for size, name in enumerate(names)})
     wrong = []
     for size, name in enumerate(names):
         status, out, err = folder.run(["checkall", "f", name])
@@ -99,7 +98,7 @@ def cut_properties(folder):
 
 def long_texts(folder):
     """Protocols of 1 MiB, certificates of 1,000,000 states and of a number of 23 digits, and a bad letter 13 places before the end."""
-    token = example("token.armc")
+    token = text_of("token")
     deep = b"protocol deep\narray P { a b }\ninit { P: b; }\nbad { P: any* a" + b" any" * 12 + b"; }\n"
     folder.put(f=token, signs=b"#" * MEGABYTE, braces=b"{" * MEGABYTE, states=b"armc 1 safe\nstates 1000000\nend\n", deep=deep,
                digits=b"armc 1 safe\nstates 1\nedge 0 P.n 99999999999999999999999\nend\n")
@@ -115,7 +114,7 @@ def long_texts(folder):
 
 def long_words(folder):
     """A configuration in one word of 131,071 bytes, which are all that the system takes, and in a run of 1 MiB."""
-    folder.put(f=example("token.armc"), run=b"armc 1 unsafe\nstart P: t" + b" n" * ((MEGABYTE - 4) // 2) + b"\nend\n")
+    folder.put(f=text_of("token"), run=b"armc 1 unsafe\nstart P: t" + b" n" * ((MEGABYTE - 4) // 2) + b"\nend\n")
     letters = b" n" * ((131_071 - 4) // 2)
     wrong = differs("one word", folder.run(["steps", "f", b"P: t" + letters]), (0, b"pass -> P: n t" + letters[2:] + b"\n", b""))
     return wrong + differs("a run of 1 MiB", folder.run(["verify", "f", "run"]), (7, b"not valid: not bad\n", b""))
@@ -123,8 +122,8 @@ def long_words(folder):
 
 def words_without_text(folder):
     """Words of which one is no UTF-8, the name of a command, of a file that is there, an option or a word too many, mean no command: the usage comes."""
-    folder.put(f=example("token.armc"))
-    write(os.path.join(os.fsencode(folder.path), b"f\xff"), example("token.armc"))
+    folder.put(f=text_of("token"))
+    write(os.path.join(os.fsencode(folder.path), b"f\xff"), text_of("token"))
     lists = [[b"\xff"], [b"show\xc3"], [b"show", b"f\xff"], [b"show", b"f", b"\x80"], [b"check", b"f", b"--budget\xe2\x82", b"9"],
              [b"check", b"f", b"--budget", b"9\xf8"], [b"steps", b"f", b"P: t\xed\xa0\x80"], [b"verify", b"f", b"\xc0\xaf"]]
     return [line for words in lists for line in differs(words, folder.run(words), (3, b"", read_bytes("tests", "usage")))]
@@ -132,7 +131,7 @@ def words_without_text(folder):
 
 def calls():
     """Words of each command and kind of answer, with their files."""
-    token, tickets, door, first = (example(f"{name}.armc") for name in ("token", "tickets", "open_door", "first"))
+    token, tickets, door, first = (text_of(name) for name in ("token", "tickets", "open_door", "first"))
     proof = b"armc 1 safe\nstates 1\nfinal 0\nedge 0 P.a 0\nedge 0 P.b 0\nend\n"
     yield "check, safe, with a report", REPORT, {"f": token}
     yield "check, unsafe", ["check", "f"], {"f": door}
@@ -174,7 +173,7 @@ def short_sinks(folder):
 
 def failed_reads(folder):
     """The name that is told is the one whose read failed, and the first of two."""
-    folder.put(f=example("first.armc"), c=b"")
+    folder.put(f=text_of("first"), c=b"")
     fault = lambda name: (4, b"", b"armc: read fault: %s\n" % name)
     wrong = []
     for words, name in ((["verify", "x", "y"], b"x"), (["verify", "f", "y"], b"y"), (["verify", "f", "."], b"."), (["check", "x"], b"x"), (["show", "x"], b"x"),
@@ -185,7 +184,7 @@ def failed_reads(folder):
 
 def little_memory(folder):
     """Two automata that do not fit into the address space: that of the bad words, and a certificate's."""
-    folder.put(f=example("token.armc"), c=b"armc 1 safe\nstates 1000000\n" + b"".join(b"edge %d P.n 0\n" % q for q in range(300_000)) + b"end\n",
+    folder.put(f=text_of("token"), c=b"armc 1 safe\nstates 1000000\n" + b"".join(b"edge %d P.n 0\n" % q for q in range(300_000)) + b"end\n",
                deep=b"protocol deep\narray P { a b }\ninit { P: b; }\nbad { P: any* a" + b" any" * 24 + b"; }\n")
     wrong = []
     for words in (["check", "deep"], ["verify", "f", "c"]):

@@ -9,7 +9,7 @@ import signal
 import sys
 import tempfile
 
-from support import SYSTEMS, TOP, call, canonical, differs, example, interrupted, judged, main, on_terminal, printed, read, run, spent, to_full_device, tool_words, without_comments, write, wrong_refusal
+from support import SYSTEMS, TOP, bare, call, canonical, differs, example, interrupted, judged, main, on_terminal, printed, read, run, spent, to_full_device, tool_words, without_comments, write, wrong_refusal
 import definitions
 from armc_tools.protocol import Protocol
 from armc_tools.stuck import Stuck, Unsaid
@@ -105,12 +105,12 @@ def deadlocks(program):
     wrong += differs("the kept rows", without_comments(read(example("hard", "queued_spinlock_stuck.armc"))), call(program, "armc-portfolio", "--stuck", hard).stdout)
     wrong += deadlock_faults(program, hard)
     with tempfile.TemporaryDirectory() as folder:
-        path, bare = write(os.path.join(folder, "ends.armc"), ENDS), os.path.join(folder, "bare.armc")
+        path, kept = write(os.path.join(folder, "ends.armc"), ENDS), os.path.join(folder, "kept.armc")
         found, told = deadlock_answer(program, path)
         wrong += differs("an end that is not meant", (found.returncode, found.stdout[-20:], told), (1, "C: closed; P: d\nend\n", "valid"))
         found, told = deadlock_answer(program, path, "--but", END)
         wrong += differs("an end that is meant", (found.returncode, found.stdout[:14], told), (0, "deadlock free\n", "valid"))
-        wrong += wrong_stuck_protocol(program, path, bare)
+        wrong += wrong_stuck_protocol(program, path, kept)
         write(path, f"# may end: {END};\n{ENDS}")
         found, _ = deadlock_answer(program, path)
         wrong += differs("an end that the head means", (found.returncode, f"--but '{END};'" in found.stderr), (0, True))
@@ -130,10 +130,10 @@ def deadlock_faults(program, hard):
     return wrong + differs("an interrupt", (status, out, "interrupted; tried" in err, "Traceback" in err, left), (130, "", True, False, []))
 
 
-def wrong_stuck_protocol(program, path, bare):
+def wrong_stuck_protocol(program, path, kept):
     """What --stuck prints is the protocol with rows, of which `check` gives the answer; and a refusal where there are none."""
     rows = call(program, "armc-portfolio", "--stuck", "--but", END, path)
-    found = run([program, "check", write(bare, rows.stdout)])
+    found = run([program, "check", write(kept, rows.stdout)])
     text = found.stdout.replace("armc 1 safe", "deadlock free", 1)
     told = run(tool_words("armc-second-opinion", path, "/dev/stdin", "--but", END), input=text)
     wrong = differs("the proof for the rows", (rows.returncode, found.returncode, told.stdout), (0, 0, "valid\n"))
@@ -245,15 +245,15 @@ def wrong_properties(program, path):
 
 def head_commands(program):
     """The commands in heads of protocols of a folder, ends that are meant, sizes of proofs, and words that mean nothing."""
-    bare = without_comments(read(example("tickets.armc")))
+    tickets = bare("tickets")
     with tempfile.TemporaryDirectory() as folder:
         write(os.path.join(folder, "p.props"), PROPS)
         for name, head, text in (
-            ("back", "# command: back\n# expect: safe\n", bare), ("past", "# command: past\n# options: --bound 1\n# expect: safe\n", bare),
-            ("check", "# expect: safe\n", bare), ("free", "# command: deadlock\n# expect: deadlock free\n", bare),
+            ("back", "# command: back\n# expect: safe\n", tickets), ("past", "# command: past\n# options: --bound 1\n# expect: safe\n", tickets),
+            ("check", "# expect: safe\n", tickets), ("free", "# command: deadlock\n# expect: deadlock free\n", tickets),
             ("end", "# command: deadlock\n# expect: deadlock\n", ENDS), ("meant", f"# command: deadlock\n# may end: {END}\n# expect: deadlock free\n", ENDS),
-            ("properties", "# command: properties p.props\n# expect: unsafe\n", bare), ("none", "# command: backward\n# expect: safe\n", bare),
-            ("options", "# options: --methods length\n# expect: safe\n", bare),
+            ("properties", "# command: properties p.props\n# expect: unsafe\n", tickets), ("none", "# command: backward\n# expect: safe\n", tickets),
+            ("options", "# options: --methods length\n# expect: safe\n", tickets),
         ):
             write(os.path.join(folder, f"{name}.armc"), f"{head}{text}\n")
         found = call(program, "check-folder", "--jobs", "2", folder)

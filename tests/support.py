@@ -65,6 +65,11 @@ def without_comments(text):
     return "".join(f"{line}\n" for line in text.splitlines() if line and not line.startswith("#"))
 
 
+def bare(name):
+    """The protocol of an example, without the lines of its head."""
+    return without_comments(read(example(f"{name}.armc")))
+
+
 # Calls
 
 def run(words, **how):
@@ -111,7 +116,9 @@ def interrupted(program, name, words, number, command="check"):
     """What a tool says that gets a signal when its first search has begun and it waits, and which processes that it started still run."""
     with tempfile.TemporaryDirectory() as folder:
         begun = os.path.join(folder, "begun")
-        script = write(os.path.join(folder, "program"), f'#!/bin/sh\ncase $1 in {command} | checkall) : >"{begun}" ;; esac\nexec "{program}" "$@"\n', script=True)
+        # (a text of properties is read by a call of `checkall` with the budget 1)
+        first = f'case "$*" in *"--budget 1") ;; "{command} "* | "checkall "*) : >"{begun}" ;; esac'
+        script = write(os.path.join(folder, "program"), f'#!/bin/sh\n{first}\nexec "{program}" "$@"\n', script=True)
         process = subprocess.Popen(tool_words(name, "--program", script, "--jobs", "2", *words), stdout=subprocess.PIPE, stderr=subprocess.PIPE, text=True, start_new_session=True)
         till(lambda: os.path.exists(begun) and all(state == "S" for state, _ in threads_of(process.pid).values()))
         os.kill(process.pid, number)

@@ -207,6 +207,8 @@ def explain(program):
     wrong += differs("a refused proof", (found.returncode, found.stderr), (7, "armc-explain: not valid: initial missing: P: i\n"))
     found = call(program, "armc-explain", example("tickets.armc"), "-", text="armc 1 unknown\ncounted 9\nbudget 9\nend\n")
     wrong += differs("a reached budget", found.returncode, 2)
+    found = call(program, "armc-explain", "--seconds", "1", example("hard", "lamport_fast.armc"))
+    wrong += wrong_refusal("a search that takes long", found, 2, "the search was stopped after 1 s")
     stuck = "deadlock\nstart P: i\nstep enter P: c\nend\n"
     found = call(program, "armc-explain", example("open_door.armc"), "-", text=stuck)
     told = (found.returncode, "not judged" in found.stdout, found.stdout.endswith("No rule can fire at its end.\n"))

@@ -27,6 +27,9 @@ NOT_RUN, INTERRUPTED = 126, 130
 # Of a template one byte more is read than it may have.
 MOST_READ = BYTES + 1
 
+# The status of a call that was stopped since its time was over.
+STOPPED = None
+
 Ended = collections.namedtuple("Ended", "status out err")
 
 
@@ -83,15 +86,17 @@ class Program:
     def has(self, command, option=""):
         return command in self.commands and option in self.commands[command]
 
-    def call(self, *words, memory=None):
-        """Status, standard output and standard error of one call, with at most so many bytes of memory, or those of its share."""
+    def call(self, *words, memory=None, seconds=None):
+        """Status, standard output and standard error of one call, with at most so many bytes of memory, or those of its share, and so many seconds."""
         try:
             process = subprocess.Popen([self.path, *words], stdin=subprocess.DEVNULL, stdout=subprocess.PIPE, stderr=subprocess.PIPE, preexec_fn=limited(memory or self.memory))
         except OSError as fault:
             raise Refused(NOT_RUN, f"{self.path} does not run: {fault.strerror}") from None
         self.running.add(process)
         try:
-            out, err = process.communicate()
+            out, err = process.communicate(timeout=seconds)
+        except subprocess.TimeoutExpired:
+            return Ended(STOPPED, "", "")
         finally:
             process.kill()
             process.wait()

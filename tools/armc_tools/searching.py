@@ -7,10 +7,8 @@ import subprocess
 import tempfile
 import time
 
-from .program import MEMORY, Ended, limited
+from .program import MEMORY, STOPPED, Ended, limited
 
-# The status of a call that was stopped since its time was over.
-STOPPED = None
 SIGNALS = {signal.SIGINT, signal.SIGTERM, signal.SIGHUP}
 # So many seconds are between two looks at what runs.
 PAUSE = 0.005
