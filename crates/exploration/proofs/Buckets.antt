@@ -143,6 +143,15 @@ module _ (b q hash : ℕ) (heads : List ℕ) (links : List HashLink) (s : AreInB
     other = other_hash;
   })
 
+-- the places up to one more have the hashes that they had elsewhere
+pub hashes_kept : (place hash : ℕ) (kept old new : List HashLink) → PutsHash place hash old new → hash ≡ hash_at kept place
+    → ((r : ℕ) → r < place → hash_at old r ≡ hash_at kept r) → (r : ℕ) → r < place + 1 → hash_at new r ≡ hash_at kept r
+hashes_kept place hash kept old new puts own others r l = elim (cases_order r place) [
+  | inl same ↦ ap (hash_at new) same ∙ puts.here ∙ own ∙ ap (hash_at kept) (sym same)
+  | inr (inl less) ↦ puts.other r less ∙ others r less
+  | inr (inr more) ↦ absurd (omega arith)
+]
+
 module _ {S : Type 0} (hash : S → ℕ) (states : List S) (heads : List ℕ) (links : List HashLink) (t : IsTable hash states heads links) where
   module _ (s : S) (h : ℕ) (is : h ≡ hash s) where
     abbrev bucket : ℕ → ℕ
@@ -186,18 +195,19 @@ module _ {S : Type 0} (hash : S → ℕ) (states : List S) (heads : List ℕ) (l
         let same : x ≡ s = read ∙ get_or_from_slice_get states p s x at in
         true≢false (sym (self s) ∙ ap (λ y. eq y s) (sym same) ∙ other)
 
-  pub table_placed : (more_heads : List ℕ) (more : List HashLink) → ArePlaced (length states) links more_heads more → IsTable hash states more_heads more
-  table_placed more_heads more placed = record {
-    buckets = placed.buckets;
-    hashes = λ r s at. placed.hashes r (slice_get_within states r s at) ∙ t.hashes r s at;
-  }
+  module _ (place : ℕ) (end : place ≡ length states) where
+    pub table_placed : (more_heads : List ℕ) (more : List HashLink) → ArePlaced place links more_heads more → IsTable hash states more_heads more
+    table_placed more_heads more placed = record {
+      buckets = subst (λ n. AreInBuckets (length more_heads) n more_heads more) end placed.buckets;
+      hashes = λ r s at. placed.hashes r (let l = slice_get_within states r s at in omega arith) ∙ t.hashes r s at;
+    }
 
-  pub table_push : (s : S) (h : ℕ) → h ≡ hash s → (more_heads : List ℕ) (more : List HashLink) → PutsHash (length states) h links more
-      → AreInBuckets (length more_heads) (length states + 1) more_heads more → IsTable hash (states ++ s ∷ []) more_heads more
-  table_push s h is more_heads more puts buckets = record {
-    buckets = subst (λ n. AreInBuckets (length more_heads) n more_heads more) (sym (length-append states (s ∷ []))) buckets;
-    hashes = λ r x at. elim (slice_get-push_cases states s x r at) [
-      | inl there ↦ puts.other r (slice_get_within states r x there) ∙ t.hashes r x there
-      | inr new ↦ ap (hash_at more) new.0 ∙ puts.here ∙ is ∙ ap hash new.1
-    ];
-  }
+    pub table_push : (s : S) (h : ℕ) → h ≡ hash s → (longer : List S) → longer ≡ states ++ s ∷ [] → (more_heads : List ℕ) (more : List HashLink)
+        → PutsHash place h links more → AreInBuckets (length more_heads) (place + 1) more_heads more → IsTable hash longer more_heads more
+    table_push s h is longer pushed more_heads more puts buckets = subst (λ l. IsTable hash l more_heads more) (sym pushed) (record {
+      buckets = subst (λ n. AreInBuckets (length more_heads) n more_heads more) (ap (λ n. n + 1) end ∙ sym (length-append states (s ∷ []))) buckets;
+      hashes = λ r x at. elim (slice_get-push_cases states s x r at) [
+        | inl there ↦ puts.other r (let l = slice_get_within states r x there in omega arith) ∙ t.hashes r x there
+        | inr new ↦ ap (hash_at more) (new.0 ∙ sym end) ∙ puts.here ∙ is ∙ ap hash new.1
+      ];
+    })

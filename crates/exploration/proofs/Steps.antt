@@ -312,6 +312,13 @@ module _ {S : Type 0} (letters : ℕ) (accepted : List ℕ → Type 0) (language
       subst (λ ks. Explored letters accepted language P ks after 0 []) (sym found)
       (subst (λ m. Explored letters accepted language P (s ∷ []) m 0 []) (sym built) (begun_with letters accepted language P s k.flag start valid k.flag_is))
 
+  -- the next successor has the property of the states
+  pub next_valid : (found : List S) (m : Automaton) (next : ℕ) (pairs rest : List (ℕ × S)) (letter : ℕ) (s : S)
+      → Expands letters accepted language P found m next pairs ((letter, s) ∷ rest) → P s
+  next_valid found m next pairs rest letter s e =
+      subst (λ (pair : ℕ × S). P pair.1) (get_or-append_seam pairs (letter, s) rest (letter, s))
+      (e.residuals.states (length pairs) (letter, s) (let l = length-append pairs ((letter, s) ∷ rest) in omega arith))
+
   module _ (found : List S) (m : Automaton) (next : ℕ) (pairs rest : List (ℕ × S)) (letter : ℕ) (s : S) (e : Expands letters accepted language P found m next pairs ((letter, s) ∷ rest))
       (new : List S) (after : Automaton) (number : ℕ) (numbers : Numbers language found new m after s number) where
     there : next < length found
@@ -319,10 +326,6 @@ module _ {S : Type 0} (letters : ℕ) (accepted : List ℕ → Type 0) (language
 
     below : All (λ pair. pair.0 < letter) pairs
     below = HasIncreasingLetters-front pairs (letter, s) rest e.residuals.increasing
-
-    valid : P s
-    valid = subst (λ (pair : ℕ × S). P pair.1) (get_or-append_seam pairs (letter, s) rest (letter, s))
-        (e.residuals.states (length pairs) (letter, s) (let l = length-append pairs ((letter, s) ∷ rest) in omega arith))
 
     -- after the successor is numbered, there is no edge to it yet
     pub none_after : target after next letter ≡ None
@@ -366,7 +369,8 @@ module _ {S : Type 0} (letters : ℕ) (accepted : List ℕ → Type 0) (language
     expanded n adds = record {
       state = e.state;
       at = by numbers;
-      explored = numbered letters accepted language P found m next pairs e.explored there letter s below new after n number valid numbers adds;
+      explored = numbered letters accepted language P found m next pairs e.explored there letter s below new after n number
+          (next_valid found m next pairs rest letter s e) numbers adds;
       residuals = subst (AreResiduals letters language P e.state) (sym (append_assoc pairs ((letter, s) ∷ []) rest)) e.residuals;
     }
       where

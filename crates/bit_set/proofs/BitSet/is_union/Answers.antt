@@ -14,3 +14,6 @@ returns-clause-all c = λ t p k there has.
     let fits = c.fit.ensures c.if-not-fit.false p there in
     let count = ap length c.self.view_is in
     (c.words.invariant (k / 64) (omega arith)).all p (k % 64) there has
+
+pub words-preserved : goal.words-preserved
+words-preserved c = ?

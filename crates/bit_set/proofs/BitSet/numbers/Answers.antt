@@ -13,3 +13,6 @@ words-preserved c =
     let adds = numbers_added old new (at * 64) c.index.result.now told.kept told.added told.only in
     numbers_more (Has c.args.self.now) (get_or c.args.self.now at 0) old new at (Has-word c.args.self.now at) c.words.invariant
     (subst (λ (w : ℕ). HasNumbers old new (at * 64) w 0) is adds)
+
+pub returns : goal.returns
+returns c = ?
