@@ -9,6 +9,10 @@ use Rattle.bit_set.specs.Bits.{Has}
 use Rattle.bit_set.specs.private.Words.{HasBit, IsPart, AddsBit, TakesBit, AreCommonBits, IsWordOfAll}
 use Rattle.bit_set.proofs.Bits.{HasBit-zero, HasBit-or, some_bit}
 
+-- what holds below a number and at it holds below the next one
+pub below_next : (P : ℕ → Type 0) (at : ℕ) → ((k : ℕ) → k < at → P k) → P at → (k : ℕ) → k < at + 1 → P k
+below_next P at below here k l = elim (cases_lt k at) [ inl less ↦ below k less | inr not ↦ subst P (let e : at ≡ k = omega arith in e) here ]
+
 -- the number of a bit of the word at a place is in the set
 pub Has-word : (words : List ℕ) (at i : ℕ) → i < 64 → HasBit (get_or words at 0) i ↔ Has words (at * 64 + i)
 Has-word words at i within =

@@ -1,6 +1,6 @@
-use Rattle.std.proofs.Common.{◌*◌, ℕ, get_or, subst, arith}
+use Rattle.std.proofs.Common.{◌*◌, ℕ, length, get_or, ap, subst, arith}
 use Rattle.bit_set.specs.Bits.{Has}
-use Rattle.bit_set.proofs.Sets.{HasNumbers, Has-word, numbers_added, numbers_more, word_read}
+use Rattle.bit_set.proofs.Sets.{HasNumbers, Has-word, Has-within, numbers_added, numbers_more, numbers_all, word_read}
 use Rattle.bit_set.proofs.BitSet.numbers.Goals as goal
 
 pub words-preserved : goal.words-preserved
@@ -15,4 +15,6 @@ words-preserved c =
     (subst (λ (w : ℕ). HasNumbers old new (at * 64) w 0) is adds)
 
 pub returns : goal.returns
-returns c = ?
+returns c =
+    numbers_all (Has c.args.self.now) c.words.numbers.items c.words.at c.words.invariant
+    (λ k has. let l = Has-within c.args.self.now k has in let e = ap length c.self.view_is in let t = c.words-test.false in omega arith)
