@@ -23,7 +23,6 @@ SECONDS = 600
 MUTANTS = 10
 # Proofs of few states, so that MONA is quick; each is mutated twice.
 MUTATED = ("token", "tickets", "handoff", "german", "philosophers")
-SETTLED = "valid", "not valid"
 # A pattern that looks back over so many letters has an automaton of 2^16 states.
 LOOKS_BACK = "protocol p\narray P { a b }\ninit { P: a; }\nbad { P: any* b " + "any " * 17 + "; }\n"
 
@@ -250,7 +249,7 @@ def judgements(program):
         wrong += differs(f"MONA on {command} {name}", (found.returncode, found.stdout, found.stderr), (0, "valid\n", ""))
     wrong += judged_properties(program) + told_example()
     shown, status = on_terminal(tool_words("armc-export", "--judge", example("tickets.armc"), example("tickets.cert")))
-    wrong += differs("MONA on a terminal", (status, shown), (0, "valid\r\n"))
+    wrong += differs("MONA on a terminal", (status, shown), (0, "valid\n"))
     with tempfile.NamedTemporaryFile("w", suffix=".armc") as file:
         file.write(LOOKS_BACK)
         file.flush()

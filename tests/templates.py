@@ -661,8 +661,8 @@ def interrupts():
     wrong = []
     for number in (signal.SIGINT, signal.SIGTERM):
         process = subprocess.Popen(tool_words("armc-expand", "-"), stdin=subprocess.PIPE, stdout=subprocess.PIPE, stderr=subprocess.PIPE, text=True)
-        # (the signals are taken over by the time that it reads)
-        till(lambda: process.poll() is not None or re.search(r"SigCgt:\t\w*[4-7c-f]\w{3}$", read(f"/proc/{process.pid}/status"), re.M))
+        # (it has taken over the signals, and sleeps, since it waits for the text)
+        till(lambda: process.poll() is not None or re.search(r"^State:\tS.*^SigCgt:\t\w*[4-7c-f]\w{3}$", read(f"/proc/{process.pid}/status"), re.M | re.S))
         process.send_signal(number)
         out, err = process.communicate(timeout=SECONDS)
         wrong += differs("an interrupt", (process.returncode, out, err), (130, "", "\narmc-expand: interrupted\n"))
