@@ -98,31 +98,44 @@ fn accepts_more(alloc: Global, a: &Dfa, b: &Dfa) -> Result<bool, Fail> {
     Ok(!is_empty(alloc, &rest)?)
 }
 
+/// Whether both together are all words, which are more than the first ones.
+fn are_all(alloc: Global, one: &Dfa, others: &Dfa) -> Result<bool, Fail> {
+    let all = united(alloc, one, others)?;
+    Ok(accepts_all(alloc, &all)? && accepts_more(alloc, &all, one)?)
+}
+
 #[test]
 fn languages_are_combined(rt: HostRuntime) -> Result<(), Fail> {
     let one = one_token(rt.alloc())?;
     let others = refused(rt.alloc(), &one)?;
-    let all = united(rt.alloc(), &one, &others)?;
-    assert!(rt; others.accepts(&[]) && !others.accepts(&[0, 1]));
-    assert!(rt; accepts_all(rt.alloc(), &all)?);
-    assert!(rt; accepts_more(rt.alloc(), &all, &one)?);
+    let are_apart = others.accepts(&[]) && !others.accepts(&[0, 1]);
+    assert!(rt; are_apart && are_all(rt.alloc(), &one, &others)?);
     Ok(())
 }
 
-/// Without a state no word is accepted.
-#[test]
-fn no_state(rt: HostRuntime) -> Result<(), Fail> {
-    let none = automaton(rt.alloc(), 1, &[], &[])?;
-    let all = refused(rt.alloc(), &none)?;
-    assert!(rt; !none.accepts(&[]) && all.accepts(&[0, 0]));
-    Ok(())
+/// How many letters there are, a word, and whether the complement of an automaton without a state accepts it. Without a letter there is no
+/// word but the empty one.
+const WITHOUT_STATES: [(u32, &[u32], bool); 4] = [
+    (1, &[], true),
+    (1, &[0, 0], true),
+    (0, &[], true),
+    (0, &[0], false),
+];
+
+/// Whether an automaton without a state accepts no word, and its complement accepts the words as told.
+fn refuse_all(alloc: Global) -> Result<bool, Fail> {
+    'words: for (letters, word, told) in &WITHOUT_STATES {
+        let none = automaton(alloc, *letters, &[], &[])?;
+        let all = refused(alloc, &none)?;
+        if none.accepts(word) || all.accepts(word) != *told {
+            return Ok(false);
+        }
+    }
+    Ok(true)
 }
 
-/// Without a letter there is no word but the empty one.
 #[test]
-fn no_letter(rt: HostRuntime) -> Result<(), Fail> {
-    let none = automaton(rt.alloc(), 0, &[], &[])?;
-    let empty = refused(rt.alloc(), &none)?;
-    assert!(rt; empty.accepts(&[]) && !empty.accepts(&[0]));
+fn few_letters_and_states(rt: HostRuntime) -> Result<(), Fail> {
+    assert!(rt; refuse_all(rt.alloc())?);
     Ok(())
 }

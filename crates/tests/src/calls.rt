@@ -1,9 +1,12 @@
-//! Calls of the whole program over a library and sinks in memory, and what they come to.
+//! Calls of the whole program over a library and sinks in memory, and whether they come to what is told.
 //! They cost what the commands cost on small protocols.
 
+use crate::gates::Meeting;
+use crate::outside::texts;
 use armc_commands::{Status, run};
-use armc_io::{Gate, Library, MemoryLibrary, MemorySink, Sink};
+use armc_io::{MemoryLibrary, MemorySink};
 use std::alloc::{AllocError, Global};
+use std::test::Fail;
 use std::thread::Threads;
 
 /// A protocol in which nobody moves to the bad letter.
@@ -21,51 +24,27 @@ const PROPERTIES: &[u8] = b"bad none { P: n*; } bad pairs { P: any* t any* t any
 /// A proof of the first protocol.
 const PROOF: &[u8] = b"armc 1 safe\nstates 1\nfinal 0\nedge 0 P.a 0\nedge 0 P.b 0\nend\n";
 
-/// A sink in memory: the most bytes that it takes in all, and the numbers of its calls that fail, each with the bytes that it takes.
-pub(crate) struct Room {
-    /// The most bytes in all.
-    pub capacity: usize,
-    /// The calls that fail, and how many bytes each takes.
-    pub failing: &'static [(u64, u64)],
-}
-
-/// A sink that never fails.
-pub(crate) const AMPLE: Room = Room {
-    capacity: 1_000,
-    failing: &[],
-};
-
-/// The words, the text of `f`, and the calls of the library and of the sinks that fail. The text of `c` is `PROOF`, and that of `p`
-/// `PROPERTIES`.
+/// The words, the text of `f`, the call of the library and the calls of the sinks that fail; and what comes. The text of `c` is `PROOF`, and
+/// that of `p` `PROPERTIES`.
 pub(crate) struct Call {
+    /// What it shows.
+    pub title: &'static str,
     /// The words after the program's name.
     pub words: &'static [&'static str],
     /// The text of `f`, a protocol.
     pub protocol: &'static [u8],
-    /// The numbers of the reads that fail.
-    pub failing: &'static [u64],
-    /// Standard output.
-    pub out: Room,
-    /// Standard error.
-    pub err: Room,
-}
-
-/// The status, and what both sinks took.
-#[derive(Drop)]
-pub(crate) struct Answer {
+    /// The number of the read that fails, if one does.
+    pub failing: Option<u64>,
+    /// How many bytes standard output takes of its first call, where this fails.
+    pub out_takes: Option<u64>,
+    /// How many bytes standard error takes of its first call, where this fails.
+    pub err_takes: Option<u64>,
     /// The exit status.
     pub status: Status,
-    /// What standard output took.
-    pub out: Vec<u8>,
-    /// What standard error took.
-    pub err: Vec<u8>,
-}
-
-impl Answer {
-    /// Whether the answer is this status with these bytes.
-    pub(crate) fn is(&self, status: Status, out: &[u8], err: &[u8]) -> bool {
-        self.status == status && self.out.as_slice() == out && self.err.as_slice() == err
-    }
+    /// What standard output takes.
+    pub out: &'static [u8],
+    /// What standard error takes.
+    pub err: &'static [u8],
 }
 
 /// The words as texts of their own.
@@ -77,71 +56,78 @@ fn owned(alloc: Global, words: &[&str]) -> Result<Vec<String>, AllocError> {
     Ok(texts)
 }
 
-/// The text with its name.
-fn named(alloc: Global, name: &str, text: &[u8]) -> Result<(String, Vec<u8>), AllocError> {
-    let name = String::from_str(alloc, name)?;
-    Ok((name, text.to_vec(alloc)?))
-}
-
-/// The texts with their names.
-pub(crate) fn texts(
-    alloc: Global,
-    all: &[(&str, &[u8])],
-) -> Result<Vec<(String, Vec<u8>)>, AllocError> {
-    let mut texts = Vec::new(alloc);
-    'texts: for (name, text) in all {
-        texts.push(named(alloc, name, text)?)?;
-    }
-    Ok(texts)
-}
-
 /// The library of the call.
 fn library(alloc: Global, call: &Call) -> Result<MemoryLibrary, AllocError> {
     let named = [("f", call.protocol), ("c", PROOF), ("p", PROPERTIES)];
     let texts = texts(alloc, &named)?;
-    Ok(MemoryLibrary::new(alloc, texts, call.failing.to_vec(alloc)?))
+    let mut failing = Vec::new(alloc);
+    if let Some(read) = call.failing {
+        failing.push(read)?;
+    }
+    Ok(MemoryLibrary::new(alloc, texts, failing))
 }
 
-/// A sink of this kind.
-fn sink(alloc: Global, room: &Room) -> Result<MemorySink, AllocError> {
-    MemorySink::new(alloc, room.capacity, room.failing.to_vec(alloc)?)
+/// A sink whose first call fails, where it is told how many bytes this takes.
+fn sink(alloc: Global, first: Option<u64>) -> Result<MemorySink, AllocError> {
+    let mut failing = Vec::new(alloc);
+    if let Some(bytes) = first {
+        failing.push((0, bytes))?;
+    }
+    MemorySink::new(alloc, 1_000, failing)
 }
 
-/// The status of the call. It promises nothing, and it is any library and any sinks here, so that neither this call nor those of this
-/// function are searched through what the promises of `run` are for ends in memory.
-fn status<L: Library, O: Sink, E: Sink, G: Gate, R: Threads + Sync>(
+/// The status of the call. It promises nothing, so that no call of it is searched through what `run` promises.
+fn status<R: Threads + Sync>(
     alloc: Global,
     rt: &R,
     words: &[String],
-    library: &mut L,
-    out: &mut O,
-    err: &mut E,
-    gate: &G,
+    library: &mut MemoryLibrary,
+    out: &mut MemorySink,
+    err: &mut MemorySink,
+    gate: &Meeting,
 ) -> Status {
     run(alloc, rt, words, library, out, err, gate)
 }
 
-/// The status, with what both sinks took.
-fn answer_with(
+/// Whether the words over this library have the status of the call, and both sinks take its bytes.
+fn delivers<R: Threads + Sync>(
     alloc: Global,
-    status: Status,
-    out: &MemorySink,
-    err: &MemorySink,
-) -> Result<Answer, AllocError> {
-    let (out, err) = (out.bytes().to_vec(alloc)?, err.bytes().to_vec(alloc)?);
-    Ok(Answer { status, out, err })
+    rt: &R,
+    words: &[String],
+    library: &mut MemoryLibrary,
+    call: &Call,
+    gate: &Meeting,
+) -> Result<bool, AllocError> {
+    let mut out = sink(alloc, call.out_takes)?;
+    let mut err = sink(alloc, call.err_takes)?;
+    let status = status(alloc, rt, words, library, &mut out, &mut err, gate);
+    Ok(status == call.status && out.bytes() == call.out && err.bytes() == call.err)
 }
 
-/// The answer of the call.
-pub(crate) fn answer_of<G: Gate, R: Threads + Sync>(
+/// Whether the call comes to what is told.
+fn is_answered<R: Threads + Sync>(
     alloc: Global,
     rt: &R,
     call: &Call,
-    gate: &G,
-) -> Result<Answer, AllocError> {
+    gate: &Meeting,
+) -> Result<bool, AllocError> {
     let words = owned(alloc, call.words)?;
     let mut library = library(alloc, call)?;
-    let (mut out, mut err) = (sink(alloc, &call.out)?, sink(alloc, &call.err)?);
-    let status = status(alloc, rt, &words, &mut library, &mut out, &mut err, gate);
-    answer_with(alloc, status, &out, &err)
+    delivers(alloc, rt, &words, &mut library, call, gate)
+}
+
+/// Fails with the title of the first call that comes to something else, or in which fewer than so many are ever in work at once.
+pub(crate) fn are_answered<R: Threads + Sync>(
+    alloc: Global,
+    rt: &R,
+    calls: &[Call],
+    awaited: u64,
+) -> Result<(), Fail> {
+    'calls: for call in calls {
+        let gate = Meeting::of(awaited);
+        if !is_answered(alloc, rt, call, &gate)? || !gate.has_met() {
+            return Err(call.title.into());
+        }
+    }
+    Ok(())
 }

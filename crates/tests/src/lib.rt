@@ -15,6 +15,8 @@ mod configurations;
 #[cfg(test)]
 mod failing_calls;
 #[cfg(test)]
+mod gates;
+#[cfg(test)]
 mod images;
 #[cfg(test)]
 mod large_automata;
@@ -22,10 +24,10 @@ mod large_automata;
 mod moves;
 #[cfg(test)]
 mod outside;
-#[cfg(test)]
-mod properties;
 mod systems;
 #[cfg(test)]
 mod threads;
+#[cfg(test)]
+mod whole_searches;
 
 pub use systems::read_system;

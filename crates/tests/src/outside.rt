@@ -1,15 +1,28 @@
-//! Libraries and sinks that fail in the middle, and those over files and streams.
-//! Each reads or writes a few bytes, or as many as a limit and one more.
+//! A library and sinks that fail in the middle, in memory and over a writer that takes a little at a time.
+//! Each reads or writes a few bytes.
 
-use crate::calls::texts;
-use armc_io::{
-    FileLibrary, Gate, Library, MemoryLibrary, MemorySink, NoGate, ReadFail, Sink, StreamSink,
-};
+use armc_io::{Library, MemoryLibrary, MemorySink, ReadFail, Sink, StreamSink};
 use std::alloc::{AllocError, Global};
 use std::io::{self, Write};
-use std::rt::Files;
 use std::test::Fail;
-use std::{fs, process};
+
+/// The text with its name.
+fn named(alloc: Global, name: &str, text: &[u8]) -> Result<(String, Vec<u8>), AllocError> {
+    let name = String::from_str(alloc, name)?;
+    Ok((name, text.to_vec(alloc)?))
+}
+
+/// The texts with their names.
+pub(crate) fn texts(
+    alloc: Global,
+    all: &[(&str, &[u8])],
+) -> Result<Vec<(String, Vec<u8>)>, AllocError> {
+    let mut texts = Vec::new(alloc);
+    'texts: for (name, text) in all {
+        texts.push(named(alloc, name, text)?)?;
+    }
+    Ok(texts)
+}
 
 // Two names, of which one is given twice. Calls 2 and 4 fail.
 fn two_texts(alloc: Global) -> Result<MemoryLibrary, AllocError> {
@@ -25,11 +38,7 @@ fn two_texts(alloc: Global) -> Result<MemoryLibrary, AllocError> {
 }
 
 /// A read: the name, the most bytes, and what comes.
-struct Read {
-    name: &'static str,
-    limit: u32,
-    told: Result<&'static [u8], ReadFail>,
-}
+type Read = (&'static str, u32, Result<&'static [u8], ReadFail>);
 
 /// Whether the read gives what is told.
 fn is_read<L: Library>(
@@ -47,8 +56,8 @@ fn is_read<L: Library>(
 
 /// How many of the reads give what is told, before one that does not.
 fn reads_as_told<L: Library>(library: &mut L, reads: &[Read]) -> usize {
-    'reads: for (number, read) in reads.iter().enumerate() {
-        if !is_read(library, read.name, read.limit, read.told) {
+    'reads: for (number, (name, limit, told)) in reads.iter().enumerate() {
+        if !is_read(library, name, *limit, *told) {
             return number;
         }
     }
@@ -56,41 +65,13 @@ fn reads_as_told<L: Library>(library: &mut L, reads: &[Read]) -> usize {
 }
 
 const TWO_TEXTS: [Read; 7] = [
-    Read {
-        name: "a",
-        limit: 5,
-        told: Ok(b"12345"),
-    },
-    Read {
-        name: "b",
-        limit: 0,
-        told: Ok(b""),
-    },
-    Read {
-        name: "a",
-        limit: 5,
-        told: Err(ReadFail::Failed),
-    },
-    Read {
-        name: "a",
-        limit: 4,
-        told: Err(ReadFail::TooLong),
-    },
-    Read {
-        name: "b",
-        limit: 9,
-        told: Err(ReadFail::Failed),
-    },
-    Read {
-        name: "c",
-        limit: 9,
-        told: Err(ReadFail::Failed),
-    },
-    Read {
-        name: "a",
-        limit: 6,
-        told: Ok(b"12345"),
-    },
+    ("a", 5, Ok(b"12345")),
+    ("b", 0, Ok(b"")),
+    ("a", 5, Err(ReadFail::Failed)),
+    ("a", 4, Err(ReadFail::TooLong)),
+    ("b", 9, Err(ReadFail::Failed)),
+    ("c", 9, Err(ReadFail::Failed)),
+    ("a", 6, Ok(b"12345")),
 ];
 
 #[test]
@@ -100,90 +81,22 @@ fn memory_library_reads(rt: HostRuntime) -> Result<(), Fail> {
     Ok(())
 }
 
-/// A directory, a device that never ends, and an empty one.
-const NO_FILES: [Read; 3] = [
-    Read {
-        name: ".",
-        limit: 9,
-        told: Err(ReadFail::Failed),
-    },
-    Read {
-        name: "/dev/zero",
-        limit: 99_999,
-        told: Err(ReadFail::TooLong),
-    },
-    Read {
-        name: "/dev/null",
-        limit: 0,
-        told: Ok(b""),
-    },
-];
-
-/// Whether a text of 20,000 bytes is read whole at that limit, and not below it, nor once it is taken away.
-fn reads_file<L: Library, R: Files>(rt: &R, library: &mut L, path: &str) -> Result<bool, Fail> {
-    let text = [7u8; 20_000];
-    fs::write(rt, path, text.as_slice())?;
-    let whole = is_read(library, path, 20_000, Ok(text.as_slice()));
-    let short = is_read(library, path, 19_999, Err(ReadFail::TooLong));
-    fs::remove_file(rt, path)?;
-    Ok(whole && short && is_read(library, path, 9, Err(ReadFail::Failed)))
-}
-
-#[test]
-fn file_library_reads(rt: HostRuntime) -> Result<(), Fail> {
-    let path = format!(in rt.alloc(); "armc_io-{}.tmp", process::id(rt.process()))?;
-    let mut library = FileLibrary::new(rt.clone()?);
-    assert!(rt; reads_file(&rt, &mut library, path.as_str())?);
-    assert!(rt; reads_as_told(&mut library, &NO_FILES) == 3);
-    NoGate.enter(0);
-    Ok(())
-}
-
 /// A piece, and whether all of it is taken.
-struct Piece {
-    bytes: &'static [u8],
-    is_taken: bool,
-}
+type Piece = (&'static [u8], bool);
 
 /// How many of the pieces are taken or not as told, before one that is not.
 fn puts_as_told<S: Sink>(sink: &mut S, pieces: &[Piece]) -> usize {
-    'pieces: for (number, piece) in pieces.iter().enumerate() {
-        if sink.put(piece.bytes).is_ok() != piece.is_taken {
+    'pieces: for (number, (bytes, is_taken)) in pieces.iter().enumerate() {
+        if sink.put(bytes).is_ok() != *is_taken {
             return number;
         }
     }
     pieces.len()
 }
 
-const BEGIN: [Piece; 2] = [
-    Piece {
-        bytes: b"abc",
-        is_taken: true,
-    },
-    Piece {
-        bytes: b"def",
-        is_taken: false,
-    },
-];
+const BEGIN: [Piece; 2] = [(b"abc", true), (b"def", false)];
 
-const END: [Piece; 4] = [
-    Piece {
-        bytes: b"",
-        is_taken: true,
-    },
-    Piece {
-        bytes: b"f",
-        is_taken: false,
-    },
-    Piece {
-        bytes: b"gh",
-        is_taken: true,
-    },
-    Piece {
-        bytes: b"i",
-        is_taken: false,
-    },
-];
+const END: [Piece; 4] = [(b"", true), (b"f", false), (b"gh", true), (b"i", false)];
 
 /// Whether the sink of eight bytes, of which three calls fail, takes what it has to.
 fn takes_as_told(sink: &mut MemorySink) -> bool {
@@ -220,24 +133,7 @@ impl Write for SlowWriter {
     }
 }
 
-const PIECES: [Piece; 4] = [
-    Piece {
-        bytes: b"abc",
-        is_taken: true,
-    },
-    Piece {
-        bytes: b"",
-        is_taken: true,
-    },
-    Piece {
-        bytes: b"def",
-        is_taken: false,
-    },
-    Piece {
-        bytes: b"",
-        is_taken: true,
-    },
-];
+const PIECES: [Piece; 4] = [(b"abc", true), (b"", true), (b"def", false), (b"", true)];
 
 #[test]
 fn stream_sink_writes(rt: HostRuntime) -> Result<(), Fail> {
