@@ -1,56 +1,59 @@
--- Least configurations, and the languages that show them.
-use Rattle.std.proofs.Common.{◌≡◌, ℕ, Bool, ◌&&◌, List, IsTrue, ◌↔◌, refl, sym, subst, ◌∙◌}
-use Rattle.std.proofs.lemmas.Bool.{both_ways, and_parts, and_from}
-use Rattle.sequence.specs.WordOrder.{is_before}
+-- Words with a property, and the configurations that they are of.
+use Rattle.std.proofs.Common.{◌≡◌, ◌↔◌, ◌<◌, ℕ, Bool, List, All, IsTrue, refl, sym, subst, ◌∙◌}
+use Rattle.sequence.specs.WordOrder.{is_before, IsLeastWord}
 use Rattle.word_automata.specs.Automaton.{Automaton, accepts}
+use Rattle.word_automata.specs.Nondeterministic.{Accepts, as_nondeterministic}
+use Rattle.word_automata.proofs.ForCallers.{same_language}
+use Rattle.minimise.specs.Canonical.{IsCanonical}
 use Rattle.protocol_model.specs.declared.system.Configuration.{Configuration}
 use Rattle.protocol_model.specs.System.{SystemData}
 use Rattle.protocol_model.specs.Patterns.{fits}
-use Rattle.protocol_model.specs.Words.{word_of}
-use Rattle.boolean_operations.specs.LeastWords.{AcceptsNothing, IsLeastAccepted}
-use Rattle.certificate_checker.specs.Answers.{IsLeastConfiguration}
-use Rattle.certificate_checker.specs.private.Parts.{AcceptsConfigurations, IsAcceptedWord}
-use Rattle.configuration_words.proofs.ForCallers.{word_of-injective}
+use Rattle.protocol_model.specs.Words.{word_of, automata_letters}
+use Rattle.configuration_words.proofs.ForCallers.{word_of-in_range, word_of-injective}
+use Rattle.section_patterns.specs.ConfigurationWords.{IsWordOf, IsConfigurationWord}
+use Rattle.certificate_checker.specs.Answers.{IsLeastConfiguration, HasNone}
 
-module _ (s : SystemData) where
-  -- properties of the same configurations have the same least ones
-  pub least-same : (P Q : Configuration → Type 0) (c : Configuration) → ((d : Configuration) → P d → Q d)
-      → ((d : Configuration) → Q d → P d) → IsLeastConfiguration s P c → IsLeastConfiguration s Q c
-  least-same P Q c to from least = (to c least.0, λ d q before. least.1 d (from d q) before)
+-- the words with the first property are those of the configurations with the second, which fit
+pub record AreWordsOf (s : SystemData) (P : List ℕ → Type 0) (Q : Configuration → Type 0) : Type 0 where
+  pub fitting : (c : Configuration) → Q c → IsTrue (fits s c)
+  pub spelled : (c : Configuration) → Q c → P (word_of s c)
+  pub read : (w : List ℕ) → P w → (c : Configuration) × Q c × (w ≡ word_of s c)
 
-  -- the configuration of the least word is the least
-  pub decoded : (m : Automaton) (w : List ℕ) (c : Configuration) → IsLeastAccepted m w → IsTrue (fits s c) → w ≡ word_of s c
-      → IsLeastConfiguration s (IsAcceptedWord s m) c
-  decoded m w c least fit e = (
-    (fit, subst (λ (x : List ℕ). IsTrue (accepts m x)) e least.0),
-    λ d p before. least.1 (word_of s d) p.1 (subst (λ (x : List ℕ). IsTrue (is_before (word_of s d) x)) (sym e) before),
-  )
+module _ (s : SystemData) (P : List ℕ → Type 0) (Q : Configuration → Type 0) (are : AreWordsOf s P Q) where
+  pub none-of : ((w : List ℕ) → P w → ⊥) → HasNone Q
+  none-of none c is = none (word_of s c) (are.spelled c is)
 
-  -- the words of the configurations that pass a first test, of which the automaton `both` accepts those that pass a second one
-  module _ (test : Configuration → Bool) (fit : (c : Configuration) → IsTrue (test c) → IsTrue (fits s c)) (first both : Automaton)
-      (words : (w : List ℕ) → IsTrue (accepts first w) ↔ ((c : Configuration) × IsTrue (test c) × (w ≡ word_of s c)))
-      (second : List ℕ → Bool) (is_both : (w : List ℕ) → accepts both w ≡ (accepts first w && second w)) where
-    pub chosen-configurations : AcceptsConfigurations s both
-    chosen-configurations w accepted =
-        let parts = and_parts (accepts first w) (second w) (sym (is_both w) ∙ accepted) in
-        let found = (words w).0 parts.0 in
-        (found.0, fit found.0 found.1, found.2)
+  module _ (w v : List ℕ) (same : v ≡ w) where
+    pub some-of : P w → IsConfigurationWord s v
+    some-of is = let found = are.read w is in (found.0, (are.fitting found.0 found.1, same ∙ found.2))
 
-    abbrev pub IsChosen : Configuration → Type 0
-    IsChosen c = IsTrue (test c) × IsTrue (second (word_of s c))
+    pub in_range-of : (letters : ℕ) → letters ≡ automata_letters s → P w → All (λ a. a < letters) v
+    in_range-of letters over is =
+        let found = some-of is in
+        subst (λ (x : List ℕ). All (λ a. a < letters) x) (sym found.1.1)
+        (subst (λ (n : ℕ). All (λ a. a < n) (word_of s found.0)) (sym over) (word_of-in_range s found.0 found.1.0))
 
-    pub chosen-to : (c : Configuration) → IsAcceptedWord s both c → IsChosen c
-    chosen-to c p =
-        let parts = and_parts (accepts first (word_of s c)) (second (word_of s c)) (sym (is_both (word_of s c)) ∙ p.1) in
-        let found = (words (word_of s c)).0 parts.0 in
-        let same : found.0 ≡ c = sym (word_of-injective s c found.0 p.0 (fit found.0 found.1) found.2) in
-        (subst (λ (x : Configuration). IsTrue (test x)) same found.1, parts.1)
+    -- the configuration of the least word is the least
+    pub least-of : (c : Configuration) → IsLeastWord P w → IsWordOf s v c → IsLeastConfiguration s Q c
+    least-of c least word =
+        let found = are.read w least.0 in
+        let spells : w ≡ word_of s c = sym same ∙ word.1 in
+        let is : found.0 ≡ c = word_of-injective s found.0 c (are.fitting found.0 found.1) word.0 (sym found.2 ∙ spells) in (
+          subst Q is found.1,
+          λ d has before. least.1 (word_of s d) (are.spelled d has) (subst (λ (x : List ℕ). IsTrue (is_before (word_of s d) x)) (sym spells) before),
+        )
 
-    pub chosen-from : (c : Configuration) → IsChosen c → IsAcceptedWord s both c
-    chosen-from c p = (
-      fit c p.0,
-      is_both (word_of s c) ∙ and_from (accepts first (word_of s c)) (second (word_of s c)) ((words (word_of s c)).1 (c, p.0, refl)) p.1,
-    )
-
-    pub chosen-none : AcceptsNothing both → (c : Configuration) → IsChosen c → ⊥
-    chosen-none nothing c p = both_ways (accepts both (word_of s c)) (nothing (word_of s c)) (chosen-from c p).1
+-- of configurations that pass a test, whose words an automaton accepts, those with a second property of their words
+pub tested : (s : SystemData) (test : Configuration → Bool) → ((c : Configuration) → IsTrue (test c) → IsTrue (fits s c))
+    → (canon m : Automaton) → m ≡ canon → IsCanonical canon
+    → ((w : List ℕ) → IsTrue (accepts canon w) ↔ ((c : Configuration) × IsTrue (test c) × (w ≡ word_of s c))) → (second : List ℕ → Type 0)
+    → AreWordsOf s (λ w. Accepts (as_nondeterministic m) w × second w) (λ c. IsTrue (test c) × second (word_of s c))
+tested s test fit canon m same canonical words second =
+    subst (λ (x : Automaton). AreWordsOf s (λ w. Accepts (as_nondeterministic x) w × second w) (λ c. IsTrue (test c) × second (word_of s c))) (sym same)
+    (record {
+      fitting = λ c is. fit c is.0;
+      spelled = λ c is. ((same_language canon canonical.valid (word_of s c)).0 ((words (word_of s c)).1 (c, is.0, refl)), is.1);
+      read = λ w is.
+          let found = (words w).0 ((same_language canon canonical.valid w).1 is.0) in
+          (found.0, (found.1, subst second found.2 is.1), found.2);
+    })

@@ -1,23 +1,21 @@
-//! The judgement of a certificate. For an automaton the parts of a proof by an inductive invariant are tested one after the other: the
-//! words that speak against a part are those of a difference, of an intersection or of the image under one rule, and the least of them is
-//! shown. The automaton is made canonical first. Each rule is compiled, judged and dropped before the next. A run is checked step by step,
-//! in one pass and without memory.
+//! The judgement of a certificate. For an automaton the parts of a proof by an inductive invariant are tested one after the other, each by
+//! a walk over pairs of states, breadth first, that ends at the least word that speaks against the part. The automaton is made canonical
+//! first. Each rule is compiled, judged and dropped before the next. A run is checked step by step, in one pass and without memory.
 
-ghost use Rattle.std.specs.Prelude.{◌≡◌, ◌↔◌, ◌<◌, ℕ, List, All, IfOk, IsOk, IsTrue, MatchOption, length};
-ghost use Rattle.word_automata.specs.Automaton.{accepts};
+ghost use Rattle.std.specs.Prelude.{◌≡◌, ◌↔◌, ◌<◌, ℕ, List, All, IfOk, IsOk, MatchOption, length};
+ghost use Rattle.sequence.specs.WordOrder.{IsLeastWord};
 ghost use Rattle.transducers.specs.Transducer.{Relates};
 ghost use Rattle.protocol_model.specs.Words.{automata_letters};
 ghost use Rattle.step_compiler.specs.Rules.{IsRuleStep};
-ghost use Rattle.boolean_operations.specs.LeastWords.{AcceptsNothing};
+ghost use Rattle.section_patterns.specs.ConfigurationWords.{IsWordOf, IsConfigurationWord};
 ghost use Rattle.certificate_checker.specs.Answers.{IsAnswer, IsAutomatonAnswer, IsAnswerToRun, HasLetters, IsLeastConfiguration};
-ghost use Rattle.certificate_checker.specs.Answers.{IsMissing, IsHeld, IsExit, IsAcceptedBefore, IsLeastExit, HasNone};
-ghost use Rattle.certificate_checker.specs.private.Parts.{AcceptsConfigurations, IsAcceptedWord, IsBefore, IsLeastExitBy};
+ghost use Rattle.certificate_checker.specs.Answers.{IsMissing, IsHeld, IsExit, IsLeastExit, HasNone};
+ghost use Rattle.certificate_checker.specs.private.Parts.{IsBefore, IsLeastExitBy};
 
 use crate::answer::Answer;
-use boolean_operations::{difference, included, intersect, least_word, single_word};
+use boolean_operations::{included, least_common_word, single_word};
 use certificate::Certificate;
 use configuration_words::decode;
-use determinise::determinise;
 use image_preimage::{image_automaton, preimage_automaton};
 use minimise::canonical;
 use protocol_model::{Configuration, Run, System};
@@ -41,7 +39,7 @@ struct Exit {
 /// that fails is answered with the least configurations that show it. A run is valid where it is a bad run of the system, and
 /// no memory is taken for it.
 ///
-/// No complement is built: the words that are tested are those that initial and bad configurations and steps have.
+/// Neither complement nor product is built: the words that are tested are those that initial and bad configurations and steps have.
 pub fn check_certificate(
     alloc: Global,
     system: &System,
@@ -99,21 +97,17 @@ fn judge_automaton(alloc: Global, system: &System, automaton: &Dfa) -> Result<An
     }
 }
 
-/// The configuration with the least word that the automaton accepts, which accepts words of configurations alone.
-fn least_configuration(
+/// The configuration of the word, which is that of some configuration.
+fn configuration_of(
     alloc: Global,
     system: &System,
-    words: &Dfa,
-) -> Result<Option<Configuration>, AllocError>
-    requires { AcceptsConfigurations system.now words.now }
-    ensures { IfOk result (λ found. MatchOption found (AcceptsNothing words.now)
-        (IsLeastConfiguration system.now (IsAcceptedWord system.now words.now))) }
+    word: &[u32],
+) -> Result<Configuration, AllocError>
+    requires { IsConfigurationWord system.now word.now }
+    ensures { IfOk result (IsWordOf system.now word.now) }
 {
-    let Some(word) = least_word(alloc, words)? else {
-        return Ok(None);
-    };
-    match decode(alloc, system, word.as_slice())? {
-        Some(found) => Ok(Some(found)),
+    match decode(alloc, system, word)? {
+        Some(found) => Ok(found),
         None => unreachable!(),
     }
 }
@@ -129,8 +123,10 @@ fn least_missing(
         (IsLeastConfiguration system.now (IsMissing system.now automaton.now))) }
 {
     let initial = initial_words(alloc, system)?;
-    let missing = difference(alloc, initial.as_dfa(), automaton)?;
-    least_configuration(alloc, system, &missing)
+    let Some(word) = included(alloc, initial.as_dfa(), automaton)? else {
+        return Ok(None);
+    };
+    Ok(Some(configuration_of(alloc, system, word.as_slice())?))
 }
 
 /// The least bad configuration that the automaton accepts.
@@ -144,8 +140,10 @@ fn least_held(
         (IsLeastConfiguration system.now (IsHeld system.now automaton.now))) }
 {
     let bad = bad_words(alloc, system)?;
-    let held = intersect(alloc, bad.as_dfa(), automaton)?;
-    least_configuration(alloc, system, &held)
+    let Some(word) = least_common_word(alloc, bad.as_dfa(), automaton)? else {
+        return Ok(None);
+    };
+    Ok(Some(configuration_of(alloc, system, word.as_slice())?))
 }
 
 /// The least rule that leads from an accepted configuration to a refused one, with the least such configurations. One rule is
@@ -189,54 +187,32 @@ fn exit_by(
     ensures { IfOk result (λ found. MatchOption found (HasNone (IsExit system.now automaton.now rule))
         (λ exit. IsLeastExitBy system.now automaton.now rule exit.0 exit.1)) }
 {
+    let _rule = rule;
     let reached = image_automaton(alloc, step, automaton)?;
-    let Some(word) = included(alloc, &reached, automaton)? else {
+    let Some(target) = included(alloc, &reached, automaton)? else {
         return Ok(None);
     };
-    let Some(after) = decode(alloc, system, word.as_slice())? else {
+    let Some(source) = least_before(alloc, automaton, step, target.as_slice())? else {
         unreachable!();
     };
-    let Some(before) = least_before(alloc, system, automaton, rule, step, word.as_slice())? else {
-        unreachable!();
-    };
+    let before = configuration_of(alloc, system, source.as_slice())?;
+    let after = configuration_of(alloc, system, target.as_slice())?;
     Ok(Some((before, after)))
 }
 
-/// The least accepted configuration from which the rule leads to the configuration of the word.
+/// The least word that the automaton accepts and the transducer relates to the given one.
 fn least_before(
     alloc: Global,
-    system: &System,
     automaton: &Dfa,
-    rule: u32,
     step: &Transducer,
     word: &[u32],
-) -> Result<Option<Configuration>, AllocError>
-    requires automaton { automaton.now.letters ≡ automata_letters system.now }
-    requires step { step.now.letters ≡ automata_letters system.now }
-    requires compiled { (u w : List ℕ) → Relates step.now u w ↔ IsRuleStep system.now rule u w }
-    requires in_range { All (λ a. a < automata_letters system.now) word.now }
-    ensures { IfOk result (λ found. MatchOption found (HasNone (IsBefore system.now automaton.now rule word.now))
-        (IsLeastConfiguration system.now (IsBefore system.now automaton.now rule word.now))) }
+) -> Result<Option<Vec<u32>>, AllocError>
+    requires letters { step.now.letters ≡ automaton.now.letters }
+    requires in_range { All (λ a. a < automaton.now.letters) word.now }
+    ensures { IfOk result (λ found. MatchOption found ((w : List ℕ) → IsBefore step.now automaton.now word.now w → ⊥)
+        (λ w. IsLeastWord (IsBefore step.now automaton.now word.now) w.items)) }
 {
-    let _rule = rule;
-    let sources = words_before(alloc, automaton.letters(), step, word)?;
-    let accepted = intersect(alloc, &sources, automaton)?;
-    least_configuration(alloc, system, &accepted)
-}
-
-/// The automaton of the words that the transducer relates to the word.
-fn words_before(
-    alloc: Global,
-    letters: u32,
-    step: &Transducer,
-    word: &[u32],
-) -> Result<Dfa, AllocError>
-    requires step { step.now.letters ≡ letters }
-    requires in_range { All (λ a. a < letters) word.now }
-    ensures language { IfOk result (λ sources. (w : List ℕ) → IsTrue (accepts sources w) ↔ Relates step.now w word.now) }
-    ensures letters { IfOk result (λ sources. sources.letters ≡ letters) }
-{
-    let last = single_word(alloc, letters, word)?;
+    let last = single_word(alloc, automaton.letters(), word)?;
     let sources = preimage_automaton(alloc, step, &last)?;
-    determinise(alloc, &sources)
+    Ok(least_common_word(alloc, &sources, automaton)?)
 }

@@ -3,3 +3,4 @@ pub mod ListLemmas
 pub mod PatternLemmas
 pub mod SectionLemmas
 pub mod RowLemmas
+pub mod FreeRows

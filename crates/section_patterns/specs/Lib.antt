@@ -1,1 +1,2 @@
+pub mod ConfigurationWords
 pub mod private

@@ -1,4 +1,4 @@
-//! The words of the initial and of the bad configurations of a system, as automata.
+//! The words of the initial, of the bad and of all configurations of a system, as automata.
 //!
 //! The words of each row are accepted by a nondeterministic automaton, which is built from the ends of the words to their fronts: each
 //! state is added in front of a state that accepts what may follow. It is made canonical alone, and the rows are then united by halves of
@@ -15,10 +15,12 @@ ghost use Rattle.std.specs.Prelude.{◌≡◌, ◌↔◌, ℕ, List, IfOk, IsTru
 ghost use Rattle.word_automata.specs.Automaton.{accepts};
 ghost use Rattle.minimise.specs.Canonical.{IsCanonical};
 ghost use Rattle.protocol_model.specs.Words.{IsBadWord, IsInitialWord, automata_letters};
+ghost use Rattle.section_patterns.specs.ConfigurationWords.{IsConfigurationWord};
 
 use minimise::Canon;
-use protocol_model::System;
-use rows::words_of_rows;
+use protocol_model::{Row, System};
+use rows::{words_of_row, words_of_rows};
+use sequence::Sequence;
 use std::alloc::{AllocError, Global};
 
 /// The canonical automaton of the words of the initial configurations.
@@ -37,4 +39,16 @@ pub fn bad_words(alloc: Global, system: &System) -> Result<Canon, AllocError>
     ensures canonical { IfOk result IsCanonical }
 {
     Ok(words_of_rows(alloc, system, system.bad.as_slice())?)
+}
+
+/// The canonical automaton of the words of all configurations, which are those that match a row that names no section.
+pub fn configuration_language(alloc: Global, system: &System) -> Result<Canon, AllocError>
+    ensures language { IfOk result (λ c. (w : List ℕ) → IsTrue (accepts c w) ↔ IsConfigurationWord system.now w) }
+    ensures letters { IfOk result (λ c. c.letters ≡ automata_letters system.now) }
+    ensures canonical { IfOk result IsCanonical }
+{
+    let free = Row {
+        parts: Sequence::from_vec(Vec::new(alloc)),
+    };
+    Ok(words_of_row(alloc, system, &free)?)
 }

@@ -62,7 +62,7 @@ fn united(alloc: Global, a: &Canon, b: &Canon) -> Result<Canon, AllocError>
 }
 
 /// The canonical automaton of the words of the configurations that the row matches.
-fn words_of_row(alloc: Global, system: &System, row: &Row) -> Result<Canon, AllocError>
+pub(crate) fn words_of_row(alloc: Global, system: &System, row: &Row) -> Result<Canon, AllocError>
     requires { IsValidRow system.now.sections row.now }
     ensures language { IfOk result (λ c. (w : List ℕ) → IsTrue (accepts c w) ↔ IsWordOfRows system.now (row.now ∷ []) w) }
     ensures letters { IfOk result (λ c. c.letters ≡ automata_letters system.now) }
