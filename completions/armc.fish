@@ -42,7 +42,7 @@ end
 for option in 'budget:the largest budget of a search' 'seconds:the time for all of it' 'memory:megabytes for each search' 'jobs:searches at once' 'show:print the certificate of a letter or a rule'
     complete -c armc-coverage -l (string split -m1 : $option)[1] -r -d (string split -m1 : $option)[2]
 end
-for option in 'budget:of the search' 'width:the longest expression' 'svg:draw into a file' 'html:write a page to look at and step through'
+for option in 'budget:of the search' 'seconds:the time of the search' 'width:the longest expression' 'svg:draw into a file' 'html:write a page to look at and step through'
     complete -c armc-explain -l (string split -m1 : $option)[1] -r -d (string split -m1 : $option)[2]
 end
 complete -c armc-explain -l start -x -a 'bad none' -d 'of the search'

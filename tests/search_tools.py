@@ -86,7 +86,7 @@ def stuck_rows(_):
 
 def deadlock_answer(program, path, *words):
     """The answer of the portfolio, and what the second checker says of it."""
-    found = call(program, "armc-portfolio", "--deadlock", "--jobs", "2", *words, path)
+    found = call(program, "armc-portfolio", "--deadlock", "--jobs", "2", "--seconds", "900", *words, path)
     buts = [word for at, word in enumerate(words) if "--but" in (word, words[at - 1])]
     told = run(tool_words("armc-second-opinion", path, "/dev/stdin", *buts), input=found.stdout)
     return found, told.stdout.strip()
