@@ -10,6 +10,7 @@ import itertools
 
 from .automata import NONE, every_list, language, reached, union
 from .certificate import Automaton
+from .ways import walk_of
 
 # More rows, or more values of the cells, are not taken apart.
 ROWS = 1000
@@ -20,30 +21,8 @@ class TooMany(Exception):
 
 
 def trimmed(automaton, sections):
-    """The smallest automaton of the words of configurations that the proof accepts. Letters are (section, place); the separator is (section, -1).
-
-    A state is the section that is read, whether it is a cell that has its letter, and the state of the proof.
-    """
-    moves = {}
-    for state, letter, target in automaton.edges:
-        moves.setdefault(state, {})[letter] = target
-
-    def complete(k, full):
-        return full or sections[k].kind != "cell"
-
-    def step(state):
-        (k, full, q), found = state, []
-        if k + 1 < len(sections) and complete(k, full) and None in moves.get(q, {}):
-            found.append(((k, -1), (k + 1, False, moves[q][None])))
-        for place, letter in enumerate([] if full else sections[k].letters):
-            if (sections[k].name, letter) in moves.get(q, {}):
-                found.append(((k, place), (k, sections[k].kind == "cell", moves[q][sections[k].name, letter])))
-        return found
-
-    def accepts(state):
-        k, full, q = state
-        return k + 1 == len(sections) and complete(k, full) and q in automaton.finals
-    return language((0, False, 0), step, accepts) if automaton.states else NONE
+    """The smallest automaton of the words of configurations that the proof accepts."""
+    return language((0, False, 0), *walk_of(automaton, sections)) if automaton.states else NONE
 
 
 def certificate_of_words(words, sections):

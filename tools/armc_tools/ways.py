@@ -6,7 +6,8 @@ one from it to an end. Words are compared by their lengths, and then letter by l
 
 
 def walk_of(automaton, sections):
-    """The steps of the walk: its states are the section, whether that is a cell that has its letter, and the state of the automaton."""
+    """The steps of the walk, and whether a configuration ends in a state: the section, whether that is a cell that has its letter, and the state of
+    the automaton. Letters are (section, place); the separator behind a section is (section, -1)."""
     moves = {}
     for p, letter, q in automaton.edges:
         moves.setdefault(p, {})[letter] = q
@@ -20,7 +21,11 @@ def walk_of(automaton, sections):
                 yield (k, place), (k, cell, target)
         if k + 1 < len(sections) and full == cell and None in moves.get(q, {}):
             yield (k, -1), (k + 1, False, moves[q][None])
-    return step
+
+    def is_end(state):
+        k, full, q = state
+        return k + 1 == len(sections) and full == (sections[k].kind == "cell") and q in automaton.finals
+    return step, is_end
 
 
 def order_of(word):
@@ -76,10 +81,9 @@ def least_words(automaton, sections, letters):
     is left out, since all these words together would have more letters than these."""
     if not automaton.states:
         return {}, set()
-    last = len(sections) - 1
-    before, near, back = ahead_of(walk_of(automaton, sections), (0, False, 0))
-    ends = [state for state in before if state[0] == last and state[1] == (sections[last].kind == "cell") and state[2] in automaton.finals]
-    behind, far = behind_of(back, ends)
+    step, is_end = walk_of(automaton, sections)
+    before, near, back = ahead_of(step, (0, False, 0))
+    behind, far = behind_of(back, list(filter(is_end, before)))
     lengths, found, left_out = {}, {}, set()
     for state in before.keys() & behind.keys():
         lengths.setdefault(state[2], {}).setdefault(near[state] + far[state], []).append(state)
