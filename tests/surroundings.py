@@ -54,6 +54,12 @@ def differences(found, wanted):
     return [f"{name} is {f!r}, and must be {w!r}" for name, (f, w) in {name: (found.get(name), wanted[name]) for name in wanted}.items() if f != w]
 
 
+def wrong_end(what, found, words, asked, lines=None):
+    """Where the launcher does not end with 126 and these words, in so many lines, and has asked for these crates."""
+    right = found["status"] == 126 and words in found["stderr"] and found["asked"] == asked and lines in (None, found["stderr"].count("\n"))
+    return [] if right else [f"with {what}: {found}"]
+
+
 class Tree:
     """A small repository with the launcher and its surroundings, six crates without content and the toolchain above."""
 
@@ -120,29 +126,17 @@ def launcher_faults(tree):
     one, an old kit, one without its checker, and none."""
     wrong = []
     tree.change("top")
-    found = tree.call("x", FAKE_FAULT="top")
-    if found["status"] != 126 or "could not be built, at crate top; " not in found["stderr"] or found["asked"] != ["top"]:
-        wrong.append(f"with a crate that is not proved: {found}")
-    found = tree.call("x", FAKE_EDIT="top")
-    if found["status"] != 126 or "at crate top, whose files were changed meanwhile" not in found["stderr"] or found["asked"] != ["top"]:
-        wrong.append(f"with a crate that is changed meanwhile: {found}")
-    found = tree.call("x", FAKE_EDIT="armc")
-    if found["status"] != 126 or "changed while the program was built" not in found["stderr"] or found["asked"] != ["top", "armc"]:
-        wrong.append(f"with a file that is changed while the program is built: {found}")
+    wrong += wrong_end("a crate that is not proved", tree.call("x", FAKE_FAULT="top"), "could not be built, at crate top; ", ["top"])
+    wrong += wrong_end("a crate that is changed meanwhile", tree.call("x", FAKE_EDIT="top"), "at crate top, whose files were changed meanwhile", ["top"])
+    wrong += wrong_end("a file that is changed in the end", tree.call("x", FAKE_EDIT="armc"), "changed while the program was built", ["top", "armc"])
     tree.change("top")
     wrong += differences(tree.call("x", FAKE_KILL="top"), {"status": 3, "stdout": "words: x\n", "asked": ["top", "top", "armc"]})
     tree.forget()
-    found = tree.call("x", FAKE_KIT="rattle-kit-13a")
-    if found["status"] != 126 or found["asked"] or found["stderr"].count("\n") != 1 or "rattle-kit-13b or later is needed" not in found["stderr"]:
-        wrong.append(f"with an old kit: {found}")
-    found = tree.call("x", FAKE_TOP=tree.top)
-    if found["status"] != 126 or found["asked"] or "has no bin/rattle" not in found["stderr"]:
-        wrong.append(f"with a kit without its checker: {found}")
+    wrong += wrong_end("an old kit", tree.call("x", FAKE_KIT="rattle-kit-13a"), "rattle-kit-13b or later is needed", [], 1)
+    wrong += wrong_end("a kit without its checker", tree.call("x", FAKE_TOP=tree.top), "has no bin/rattle", [])
     os.remove(os.path.join(tree.bin, "rt"))
     if not shutil.which("rt", path=tree.environment["PATH"]):
-        found = tree.call("x")
-        if found["status"] != 126 or found["stderr"].count("\n") != 1 or "is not on the path" not in found["stderr"]:
-            wrong.append(f"without rt: {found}")
+        wrong += wrong_end("no rt", tree.call("x"), "is not on the path", [], 1)
     return wrong
 
 
@@ -154,10 +148,7 @@ def launcher_unproved(_):
         wrong = differences(found, {"status": 5, "stdout": f"words: verify {tree.top}/examples/first.armc nowhere\n", "asked": []})
         lines = found["stderr"].splitlines()
         wrong += [] if lines[1:] == ["armc: not proved"] and "nothing of this run is proved" in lines[0] else [f"it says {lines}"]
-        found = tree.call("x", ARMC_TRY="1", FAKE_KIT="rattle-kit-12")
-        if found["status"] != 126 or found["stderr"].count("\n") != 1 or "rattle-kit-13b or later is needed" not in found["stderr"]:
-            wrong.append(f"with an old kit: {found}")
-        return wrong
+        return wrong + wrong_end("an old kit", tree.call("x", ARMC_TRY="1", FAKE_KIT="rattle-kit-12"), "rattle-kit-13b or later is needed", [], 1)
 
 
 def stopped_build(tree, number):

@@ -82,6 +82,21 @@ def side_by_side(program, tasks, jobs, memory, end):
             search.stop()
 
 
+class Searches:
+    """The searches of a tool for a protocol, within the time and the memory that its words give."""
+
+    def __init__(self, program, protocol, given, kept):
+        self.program, self.protocol, self.given, self.kept = program, protocol, given, kept
+        self.end = time.monotonic() + given.seconds
+
+    def run(self, tasks):
+        return side_by_side(self.program, tasks, self.given.jobs, self.program.memory, self.end)
+
+    def seconds(self, part=1):
+        """A part of all the time."""
+        return max(1, self.given.seconds / part)
+
+
 def why_unknown(ended):
     """Why a call has no answer."""
     if ended.status is STOPPED:
