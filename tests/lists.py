@@ -46,7 +46,7 @@ def without_times(text):
 def portfolio(program):
     """A list of one protocol, run by bash half by half: what is missing, and the answer of the tool with one search at a time."""
     file, wrong = example("tutorial", "height.armc"), []
-    words = ["--budget", "1000", file]
+    words = ["--seconds", "900", "--budget", "1000", file]
     alone = call(program, PORTFOLIO, "--jobs", "1", *words, "--reordered", os.devnull)
     with made(program, PORTFOLIO, *words) as folder:
         lines, rest = lines_of(folder), os.path.join(folder, "rest")
@@ -65,7 +65,7 @@ def portfolio(program):
 
 def first_answer(program, more):
     """With --first an answer ends the searches behind it, in every order; a search without one ends with status 1."""
-    with made(program, PORTFOLIO, "--first", "--budget", "1000", *more, example("handoff.armc")) as folder:
+    with made(program, PORTFOLIO, "--first", "--seconds", "900", "--budget", "1000", *more, example("handoff.armc")) as folder:
         lines = lines_of(folder)
         run_lines(folder, lines)
         found = [results.read(results.path_of(f"{at:05d}", folder)) for at in range(len(lines))]
