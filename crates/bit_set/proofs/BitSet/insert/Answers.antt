@@ -14,18 +14,25 @@ adds c =
 
 pub returns-then-at-len-clause-only : goal.returns-then-at-len-clause-only
 returns-then-at-len-clause-only c = λ k has.
-    elim (inserted_only c.self.inside.words.items (c.args.number / 64) (c.args.number % 64) c.with_bit.result (let l = c.if-at-len.true in omega arith) (omega arith)
-    (adds (goal.at.returns-then-at-len-clause-only c).After-with_bit) k has) [
+    let number = c.args.number in
+    let more = adds (goal.at.returns-then-at-len-clause-only c).After-with_bit in
+    let l = c.if-at-len.true in
+    elim (inserted_only c.self.inside.words.items (number / 64) (number % 64) c.with_bit.result (omega arith) (omega arith) more k has) [
       | inl had ↦ inl (subst (λ words. Has words k) c.self.view_is had)
       | inr own ↦ inr (omega arith)
     ]
 
 pub returns-then-at-len-clause-kept : goal.returns-then-at-len-clause-kept
 returns-then-at-len-clause-kept c = λ k had.
-    inserted_kept c.self.inside.words.items (c.args.number / 64) (c.args.number % 64) c.with_bit.result (let l = c.if-at-len.true in omega arith) (omega arith)
-    (adds (goal.at.returns-then-at-len-clause-kept c).After-with_bit) k (subst (λ words. Has words k) (sym c.self.view_is) had)
+    let number = c.args.number in
+    let more = adds (goal.at.returns-then-at-len-clause-kept c).After-with_bit in
+    let l = c.if-at-len.true in
+    inserted_kept c.self.inside.words.items (number / 64) (number % 64) c.with_bit.result (omega arith) (omega arith) more k
+    (subst (λ words. Has words k) (sym c.self.view_is) had)
 
 pub returns-then-at-len-clause-added : goal.returns-then-at-len-clause-added
 returns-then-at-len-clause-added c = λ room.
-    inserted_added c.self.inside.words.items (c.args.number / 64) (c.args.number % 64) c.with_bit.result (let l = c.if-at-len.true in omega arith) (omega arith)
-    (adds (goal.at.returns-then-at-len-clause-added c).After-with_bit) c.args.number (omega arith)
+    let number = c.args.number in
+    let more = adds (goal.at.returns-then-at-len-clause-added c).After-with_bit in
+    let l = c.if-at-len.true in
+    inserted_added c.self.inside.words.items (number / 64) (number % 64) c.with_bit.result (omega arith) (omega arith) more number (omega arith)

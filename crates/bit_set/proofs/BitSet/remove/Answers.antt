@@ -14,7 +14,9 @@ takes : (c : After-without_bit) (within : c.args.number / 64 < length c.self.ins
     → TakesBit (get_or c.self.inside.words.items (c.args.number / 64) 0) (c.args.number % 64) c.without_bit.result
 takes c within =
     let words = c.self.inside.words.items in
-    subst (λ word. TakesBit word (c.args.number % 64) c.without_bit.result) (word_read words words (c.args.number / 64) c.index.result.now within c.index.ensures refl) c.without_bit.ensures
+    let word = c.index.result.now in
+    subst (λ word. TakesBit word (c.args.number % 64) c.without_bit.result) (word_read words words (c.args.number / 64) word within c.index.ensures refl)
+    c.without_bit.ensures
 
 pub index-requires : goal.index-requires
 index-requires c = let l = there (goal.at.index-requires c).Else-not-has in omega arith
@@ -28,15 +30,23 @@ without_bit-requires-clause-bit c =
 
 pub returns-clause-taken : goal.returns-clause-taken
 returns-clause-taken c =
+    let number = c.args.number in
     let within = there (goal.at.returns-clause-taken c).Else-not-has in
-    removed_taken c.self.inside.words.items (c.args.number / 64) (c.args.number % 64) c.without_bit.result within (takes (goal.at.returns-clause-taken c).After-without_bit within) c.args.number refl refl
+    let less = takes (goal.at.returns-clause-taken c).After-without_bit within in
+    removed_taken c.self.inside.words.items (number / 64) (number % 64) c.without_bit.result within less number refl refl
 
 pub returns-clause-kept : goal.returns-clause-kept
-returns-clause-kept c = let within = there (goal.at.returns-clause-kept c).Else-not-has in λ k had other.
-    removed_kept c.self.inside.words.items (c.args.number / 64) (c.args.number % 64) c.without_bit.result within (takes (goal.at.returns-clause-kept c).After-without_bit within) k
+returns-clause-kept c = λ k had other.
+    let number = c.args.number in
+    let within = there (goal.at.returns-clause-kept c).Else-not-has in
+    let less = takes (goal.at.returns-clause-kept c).After-without_bit within in
+    removed_kept c.self.inside.words.items (number / 64) (number % 64) c.without_bit.result within less k
     (λ q r. other (omega arith)) (subst (λ words. Has words k) (sym c.self.view_is) had)
 
 pub returns-clause-only : goal.returns-clause-only
-returns-clause-only c = let within = there (goal.at.returns-clause-only c).Else-not-has in λ k has.
+returns-clause-only c = λ k has.
+    let number = c.args.number in
+    let within = there (goal.at.returns-clause-only c).Else-not-has in
+    let less = takes (goal.at.returns-clause-only c).After-without_bit within in
     subst (λ words. Has words k) c.self.view_is
-    (removed_only c.self.inside.words.items (c.args.number / 64) (c.args.number % 64) c.without_bit.result within (takes (goal.at.returns-clause-only c).After-without_bit within) k has)
+    (removed_only c.self.inside.words.items (number / 64) (number % 64) c.without_bit.result within less k has)

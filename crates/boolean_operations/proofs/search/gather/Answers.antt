@@ -61,7 +61,8 @@ returns-else-groups-place g c =
     let groups = c.args.groups.now in
     let place = c.states.place in
     let within : place < length groups = omega (arith, c.states-test.true) in
-    gathered_all (t.is_state graph) (t.edge graph) (t.goal graph) c.args.found.now.states.items groups c.args.group c.args.from c.requires.count c.requires.rising c.requires.begins place c.states.pending.items c.states.invariant
+    gathered_all (t.is_state graph) (t.edge graph) (t.goal graph) c.args.found.now.states.items groups c.args.group c.args.from
+    c.requires.count c.requires.rising c.requires.begins place c.states.pending.items c.states.invariant
     (λ h at same. let eq = same_Some h (get_or groups place 0) (sym at ∙ slice_get-get_or groups place 0 within) in c.if-groups-place.false (sym eq ∙ same))
 
 pub returns-after-states : goal.returns-after-states
@@ -70,5 +71,6 @@ returns-after-states g c =
     let graph = c.args.graph.now in
     let groups = c.args.groups.now in
     let place = c.states.place in
-    gathered_all (t.is_state graph) (t.edge graph) (t.goal graph) c.args.found.now.states.items groups c.args.group c.args.from c.requires.count c.requires.rising c.requires.begins place c.states.pending.items c.states.invariant
+    gathered_all (t.is_state graph) (t.edge graph) (t.goal graph) c.args.found.now.states.items groups c.args.group c.args.from
+    c.requires.count c.requires.rising c.requires.begins place c.states.pending.items c.states.invariant
     (λ h at same. let within = slice_get_within groups place h at in absurd (omega (arith, within, c.states-test.false)))

@@ -10,13 +10,14 @@ all_places : (g : Over) (c : After-make_room g) → c.len-place.result ≡ lengt
 all_places g c = search rules
 
 -- the states stand in the buckets that have room for one more
-with_room : (g : Over) (c : After-make_room g)
-    → IsTable (hash_by g.S.Hash.hash_input) c.self.inside.states.items c.make_room.new.self.heads.items c.make_room.new.self.links.items
+with_room : (g : Over) (c : After-make_room g) → IsTable (hash_by g.S.Hash.hash_input) c.self.inside.states.items
+    c.make_room.new.self.heads.items c.make_room.new.self.links.items
 with_room g c =
+    let states = c.self.inside.states.items in
     let buckets = c.self.inside.buckets in
     let more = c.make_room.new.self in
-    table_placed (hash_by g.S.Hash.hash_input) c.self.inside.states.items buckets.heads.items buckets.links.items c.self.invariant c.len-place.result (all_places g c)
-    more.heads.items more.links.items c.make_room.ensures.kept
+    table_placed (hash_by g.S.Hash.hash_input) states buckets.heads.items buckets.links.items c.self.invariant
+    c.len-place.result (all_places g c) more.heads.items more.links.items c.make_room.ensures.kept
 
 pub make_room-requires : goal.make_room-requires
 make_room-requires g c =
@@ -37,8 +38,10 @@ put-requires-clause-buckets g c = c.make_room.ensures.kept.buckets
 
 pub invariant_of-self-2 : goal.invariant_of-self-2
 invariant_of-self-2 g c =
-    let now = (goal.at.invariant_of-self-2 g c).After-make_room in
+    let before = (goal.at.invariant_of-self-2 g c).After-make_room in
+    let states = c.self.inside.states.items in
     let more = c.make_room.new.self in
     let put = c.put.new.self in
-    table_push (hash_by g.S.Hash.hash_input) c.self.inside.states.items more.heads.items more.links.items (with_room g now)
-    c.len-place.result (all_places g now) c.args.state c.args.hash c.requires.hash c.push.new.self.items c.in_ok-push.ensures.items put.heads.items put.links.items c.put.ensures.hashes c.put.ensures.buckets
+    table_push (hash_by g.S.Hash.hash_input) states more.heads.items more.links.items (with_room g before) c.len-place.result (all_places g before)
+    c.args.state c.args.hash c.requires.hash c.push.new.self.items c.in_ok-push.ensures.items
+    put.heads.items put.links.items c.put.ensures.hashes c.put.ensures.buckets
