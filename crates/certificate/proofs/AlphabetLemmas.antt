@@ -1,14 +1,12 @@
 -- The names of letters: no two are the same, what they lack, and that each is found by its own.
-use Rattle.std.proofs.Common.{◌≡◌, ◌≢◌, ℕ, zero, suc, false, ◌+◌, ◌<◌, List, [], ◌∷◌, ◌++◌, Option, Some, None, Vec, AllPairs, Contains, IfSome, IsSome, length, slice_get, get_or, unwrap_or, option_map, codes, flat_map, refl, sym, ap, subst, ◌∙◌, arith, inl, inr, ◌⊎◌}
-use Rattle.std.specs.HashMap.{HashMap}
+use Rattle.std.proofs.Common.{◌≡◌, ◌≢◌, ℕ, suc, false, true, ◌+◌, ◌<◌, List, [], ◌∷◌, ◌++◌, Some, Vec, AllPairs, length, slice_get, get_or, unwrap_or, option_map, codes, flat_map, refl, sym, ap, subst, ◌∙◌, arith, inl, inr, ◌⊎◌}
 use Rattle.std.specs.List.{AllByRecursion, position}
 use Rattle.std.specs.Str.{bytes_eq}
 use Rattle.std.specs.Cmp.Lexicographic.{bytes_decides}
 use Rattle.std.proofs.lemmas.List.{append_assoc, append_cancel_left, length-append, length-map}
-use Rattle.std.proofs.lemmas.List.Elements.{All-from_recursion}
-use Rattle.std.proofs.lemmas.List.Quantifiers.{position-Some}
+use Rattle.std.proofs.lemmas.List.Elements.{All-from_recursion, recursion_from_All}
 use Rattle.std.proofs.lemmas.List.Sums.{sum_by-cons}
-use Rattle.std.proofs.lemmas.Option.{none-some, slice_get_within, unwrap_or-slice_get, slice_get-map}
+use Rattle.std.proofs.lemmas.Option.{unwrap_or-slice_get, slice_get-map}
 use Rattle.protocol_lexer.specs.Piece.{is_word_byte}
 use Rattle.protocol_model.specs.declared.system.Section.{Section}
 use Rattle.protocol_model.specs.System.{SystemData, letter_count, total_letters, IsValid, IsValidSection}
@@ -18,9 +16,9 @@ use Rattle.lines.specs.Bytes.{Lacks}
 use Rattle.lines.specs.Grammar.{Says}
 use Rattle.sequence.proofs.ForCallers.{cut_unique, no_cut, Lacks-append}
 use Rattle.certificate.specs.Words.{section_texts, letter_texts, letter_text, letter, letter_layout}
-use Rattle.certificate.specs.private.Alphabet.{lists_of, get_by_bytes, IsAlphabetOf}
-use Rattle.certificate.proofs.ListFacts.{AllByRecursion-append, AllByRecursion-mapped, AllByRecursion-weaker, AllPairs-append, AllPairs-first, AllPairs-mapped, AllPairs-tail}
-use Rattle.certificate.proofs.Places.{name_lacks, numbered_says, place_of_name}
+use Rattle.certificate.specs.private.Alphabet.{lists_of, IsAlphabetOf}
+use Rattle.certificate.proofs.ListFacts.{AllByRecursion-append, AllByRecursion-mapped, AllByRecursion-weaker, AllPairs-append, AllPairs-mapped, AllPairs-tail}
+use Rattle.certificate.proofs.Places.{name_lacks, numbered_says, place_of_name, position_mapped}
 
 -- the names of the first section's letters come first
 letter_texts-cons : (section : Section) (sections : List Section)
@@ -60,59 +58,44 @@ texts_lack byte apart dot bar sections h =
     (Lacks-append byte section.name (codes ".") (name_lacks byte apart section.name valid.named) (dot, tt)) (name_lacks byte apart letter named))
     section.letters valid.letters_named) sections h
 
--- the name is the bar, or that of a section with a dot and more behind it
-abbrev IsLetterText : List Section → List ℕ → Type 0
-IsLetterText sections text =
-    (text ≡ codes "|") ⊎ ((section : Section) × (letter : List ℕ) × Contains sections section × Lacks 46 section.name ×
-    (text ≡ section.name ++ codes "." ++ letter))
-
 -- two texts with a dot behind a name are the same in both parts
 dotted_unique : (a b x y : List ℕ) → Lacks 46 a → Lacks 46 b → a ++ codes "." ++ x ≡ b ++ codes "." ++ y → a ≡ b
 dotted_unique a b x y la lb e = (cut_unique 46 a b x y la lb (sym (append_assoc a (codes ".") x) ∙ e ∙ append_assoc b (codes ".") y)).0
 
 module _ (section : Section) (sections : List Section) (valid : AllByRecursion IsValidSection (section ∷ sections))
     (names : AllPairs (λ a b. a.name ≢ b.name) (section ∷ sections)) where
-  -- a letter of the first section has no later one's name
-  apart_later : (letter text : List ℕ) → IsLetterText sections text → section.name ++ codes "." ++ letter ≢ text
-  apart_later letter text (inl bar) = λ e.
+  abbrev named : List ℕ → List ℕ
+  named letter = section.name ++ codes "." ++ letter
+
+  -- the name is the bar, or has that of another section, and a dot and more behind it
+  abbrev IsOther : List ℕ → Type 0
+  IsOther text =
+      (text ≡ codes "|")
+      ⊎ ((name : List ℕ) × (letter : List ℕ) × (section.name ≢ name) × Lacks 46 name × (text ≡ name ++ codes "." ++ letter))
+
+  abbrev IsOtherSection : Section → Type 0
+  IsOtherSection other = IsValidSection other × (section.name ≢ other.name)
+
+  are_others : AllByRecursion IsOther (letter_texts sections)
+  are_others =
+      all_texts IsOther IsOtherSection (inl refl) (λ other h. recursion_from_All (λ letter. IsOther (other.name ++ codes "." ++ letter)) other.letters
+      (λ i d within. inr (other.name, get_or other.letters i d, h.1, name_lacks 46 refl other.name h.0.named, refl)))
+      sections
+      (recursion_from_All IsOtherSection sections (λ i d within.
+      (All-from_recursion IsValidSection sections valid.1 i d within, names 0 (suc i) d (omega arith) (omega (arith, within)))))
+
+  apart : (letter text : List ℕ) → IsOther text → named letter ≢ text
+  apart letter text (inl bar) = λ e.
       no_cut 46 section.name letter (subst (Lacks 46) (sym (sym (append_assoc section.name (codes ".") letter) ∙ e ∙ bar)) (omega arith, tt))
-  apart_later letter text (inr named) = λ e.
-      AllPairs-first (λ a b. a.name ≢ b.name) section named.0 sections names named.2
-      (dotted_unique section.name named.0.name letter named.1 (name_lacks 46 refl section.name valid.0.named) named.3 (e ∙ named.4))
+  apart letter text (inr other) = λ e.
+      other.2 (dotted_unique section.name other.0 letter other.1 (name_lacks 46 refl section.name valid.0.named) other.3 (e ∙ other.4))
 
-  first_apart : AllByRecursion (IsLetterText sections) (letter_texts sections)
-      → AllByRecursion (λ text. AllByRecursion (λ later. text ≢ later) (letter_texts sections)) (section_texts section)
-  first_apart later =
-      AllByRecursion-mapped (λ text. AllByRecursion (λ other. text ≢ other) (letter_texts sections)) (λ letter. section.name ++ codes "." ++ letter)
-      section.letters (each section.letters)
-    where
-      each : (letters : List (List ℕ))
-          → AllByRecursion (λ letter. AllByRecursion (λ other. section.name ++ codes "." ++ letter ≢ other) (letter_texts sections)) letters
-      each [] = tt
-      each (letter ∷ letters) = (
-        AllByRecursion-weaker (IsLetterText sections) (λ other. section.name ++ codes "." ++ letter ≢ other) (apart_later letter) (letter_texts sections) later,
-        each letters,
-      )
-
-later_texts : (first : Section) (sections : List Section) (text : List ℕ) → IsLetterText sections text → IsLetterText (first ∷ sections) text
-later_texts first sections text (inl bar) = inl bar
-later_texts first sections text (inr named) =
-    let at = named.2 in
-    inr (named.0, named.1, (suc at.0, (omega (arith, at.1)), at.2), named.3, named.4)
-
-are_letter_texts : (sections : List Section) → AllByRecursion IsValidSection sections → AllByRecursion (IsLetterText sections) (letter_texts sections)
-are_letter_texts [] valid = (inl refl, tt)
-are_letter_texts (section ∷ sections) valid =
-    subst (AllByRecursion (IsLetterText (section ∷ sections))) (sym (letter_texts-cons section sections))
-    (AllByRecursion-append (IsLetterText (section ∷ sections)) (section_texts section) (letter_texts sections)
-    (AllByRecursion-mapped (IsLetterText (section ∷ sections)) (λ letter. section.name ++ codes "." ++ letter) section.letters (own section.letters))
-    (AllByRecursion-weaker (IsLetterText sections) (IsLetterText (section ∷ sections)) (later_texts section sections) (letter_texts sections)
-    (are_letter_texts sections valid.1)))
-  where
-    own : (letters : List (List ℕ)) → AllByRecursion (λ letter. IsLetterText (section ∷ sections) (section.name ++ codes "." ++ letter)) letters
-    own [] = tt
-    own (letter ∷ letters) =
-        (inr (section, letter, (0, omega arith, refl), name_lacks 46 refl section.name valid.0.named, refl), own letters)
+  first_apart : AllByRecursion (λ text. AllByRecursion (λ later. text ≢ later) (letter_texts sections)) (section_texts section)
+  first_apart =
+      AllByRecursion-mapped (λ text. AllByRecursion (λ other. text ≢ other) (letter_texts sections)) named section.letters
+      (recursion_from_All (λ letter. AllByRecursion (λ other. named letter ≢ other) (letter_texts sections)) section.letters (λ i d within.
+      AllByRecursion-weaker IsOther (λ other. named (get_or section.letters i d) ≢ other) (apart (get_or section.letters i d)) (letter_texts sections)
+      are_others))
 
 distinct_texts : (sections : List Section) → AllByRecursion IsValidSection sections → AllPairs (λ a b. a.name ≢ b.name) sections
     → AllPairs ◌≢◌ (letter_texts sections)
@@ -123,7 +106,7 @@ distinct_texts (section ∷ sections) valid names =
     (AllPairs-mapped ◌≢◌ (λ letter. section.name ++ codes "." ++ letter) section.letters
     (λ i j d less within e. valid.0.distinct i j d less within (append_cancel_left (section.name ++ codes ".") _ _ e)))
     (distinct_texts sections valid.1 (AllPairs-tail (λ a b. a.name ≢ b.name) section sections names))
-    (first_apart section sections valid names (are_letter_texts sections valid.1)))
+    (first_apart section sections valid names))
 
 module _ (s : SystemData) (valid : IsValid s) where
   pub letter_texts_distinct : AllPairs ◌≢◌ (letter_texts s.sections)
@@ -146,33 +129,6 @@ module _ (s : SystemData) (valid : IsValid s) where
       All-from_recursion (Lacks 10) (letter_texts s.sections) (texts_lack 10 refl (omega arith) (omega arith) s.sections valid.each_section) a []
       (within_texts a within)
 
-get_at : (xs : List (List ℕ)) (i : ℕ) → i < length xs → slice_get xs i ≡ Some (get_or xs i [])
-get_at [] i within = absurd (omega arith)
-get_at (x ∷ xs) zero within = refl
-get_at (x ∷ xs) (suc i) within = get_at xs i (omega (arith, within))
-
-not_there : {X : Type 0} (o : Option X) → o ≡ None → IsSome o → ⊥
-not_there None is some = cc some
-not_there (Some x) is some = none-some x (sym is)
-
--- the first letter with a text is kept for it
-pub letter_position : {X Y S : Type 0} (s : SystemData) (texts : List (Vec ℕ X)) (numbers : HashMap (Vec ℕ Y) ℕ S) (text : List ℕ)
-    (r : Option ℕ)
-    → IsAlphabetOf s texts numbers
-    → r ≡ get_by_bytes numbers text → r ≡ position (bytes_eq text) (letter_texts s.sections)
-letter_position s texts numbers text r h e = by r e (position (bytes_eq text) (letter_texts s.sections)) refl
-  where
-    by : (r : Option ℕ) → r ≡ get_by_bytes numbers text → (o : Option ℕ) → position (bytes_eq text) (letter_texts s.sections) ≡ o → r ≡ position (bytes_eq text) (letter_texts s.sections)
-    by (Some a) e o is =
-        let at : slice_get (letter_texts s.sections) a ≡ Some text = subst (λ o. IfSome o (λ a. slice_get (letter_texts s.sections) a ≡ Some text)) (sym e) (h.index.place text) in
-        let found = place_of_name (letter_texts s.sections) (letter_texts_distinct s h.valid) a (slice_get_within (letter_texts s.sections) a text at) in
-        sym (subst (λ name. position (bytes_eq name) (letter_texts s.sections) ≡ Some a) (sym (unwrap_or-slice_get (letter_texts s.sections) a []) ∙ ap (λ o. unwrap_or o []) at) found)
-    by None e None is = sym is
-    by None e (Some i) is =
-        let at = position-Some (bytes_eq text) (letter_texts s.sections) i [] is in
-        let same : text ≡ get_or (letter_texts s.sections) i [] = (bytes_decides text (get_or (letter_texts s.sections) i [])).0 at.1 in
-        absurd (not_there (get_by_bytes numbers text) (sym e) (h.index.each text i (get_at (letter_texts s.sections) i at.0 ∙ ap Some (sym same))))
-
 -- there are as many texts as letters
 pub letters_counted : {X : Type 0} (s : SystemData) (texts : List (Vec ℕ X)) → lists_of texts ≡ letter_texts s.sections → length texts
     ≡ automata_letters s
@@ -185,3 +141,16 @@ letter_text-at s texts e a text at =
     sym (sym (unwrap_or-slice_get (lists_of texts) a [])
     ∙ ap (λ o. unwrap_or o []) (slice_get-map (λ text. text.items) texts a ∙ ap (option_map (λ text. text.items)) at))
     ∙ ap (λ all. get_or all a []) e
+
+-- a letter whose text stands at a place is found there, or by a search of all texts
+module _ {X : Type 0} (s : SystemData) (texts : List (Vec ℕ X)) (h : IsAlphabetOf s texts) (bytes : List ℕ) where
+  pub letter-found : (a : ℕ) (text : Vec ℕ X) → a < length texts → slice_get texts a ≡ Some text → bytes_eq bytes text.items ≡ true
+      → Some a ≡ position (bytes_eq bytes) (letter_texts s.sections)
+  letter-found a text within at same =
+      let is : bytes ≡ letter_text s.sections a = (bytes_decides bytes text.items).0 same ∙ letter_text-at s texts h.texts_are a text at in
+      sym (ap (λ name. position (bytes_eq name) (letter_texts s.sections)) is
+      ∙ place_of_name (letter_texts s.sections) (letter_texts_distinct s h.valid) a
+      (within_texts s h.valid a (omega (arith, within, letters_counted s texts h.texts_are))))
+
+  pub letter-searched : position (λ (text : Vec ℕ X). bytes_eq bytes text.items) texts ≡ position (bytes_eq bytes) (letter_texts s.sections)
+  letter-searched = position_mapped (bytes_eq bytes) (λ text. text.items) texts ∙ ap (position (bytes_eq bytes)) h.texts_are

@@ -1,9 +1,9 @@
 -- What the builder of an automaton does, by the lines that were read.
-use Rattle.std.proofs.Common.{◌≡◌, ◌≢◌, ◌<◌, ℕ, ◌&&◌, ◌==◌, true, false, eqb, List, [], ◌∷◌, ◌++◌, Option, Some, None, IsSome, Contains, nat_lt, refl, sym, ap, subst, ◌∙◌, arith, inl, inr, ◌⊎◌}
+use Rattle.std.proofs.Common.{◌≡◌, ◌≢◌, ℕ, ◌&&◌, ◌==◌, true, false, eqb, List, [], ◌∷◌, ◌++◌, Option, Some, None, IsSome, Contains, nat_lt, refl, sym, ap, subst, ◌∙◌, arith, inl, inr, ◌⊎◌}
 use Rattle.std.specs.List.{list_any}
 use Rattle.std.proofs.lemmas.List.Elements.{Contains-append_left, Contains-push, Contains-push_cases}
 use Rattle.std.proofs.lemmas.List.Folds.{list_any-from_Any, Any-from_list_any}
-use Rattle.std.proofs.lemmas.Bool.{cases_eq, cases_Bool, eq-eqb, eqb-true, ne_eqb, cond-true, cond-false, and_from, and_left, and_right, and_parts, lt-ltb, ltb-true}
+use Rattle.std.proofs.lemmas.Bool.{cases_eq, cases_Bool, eq-eqb, eqb-true, ne_eqb, cond-true, cond-false, and_from, and_left, and_right, and_parts, lt-ltb}
 use Rattle.std.proofs.lemmas.Option.{same_Some, none-some}
 use Rattle.word_automata.specs.Automaton.{Automaton, target}
 use Rattle.word_automata.specs.Building.{AddsEdge, MakesAccepting, IsEdgeInRange}
@@ -107,18 +107,6 @@ module _ (size count : ℕ) (lines : List Line) (m : Automaton) (h : HasLines si
   pub in_range : (p a q : ℕ) → IsEdgeInRange m p a q → (nat_lt p count && nat_lt q count) ≡ true
   in_range p a q is =
       and_from _ _ (lt-ltb p count (omega (arith, is.from_state, h.states_are))) (lt-ltb q count (omega (arith, is.to_state, h.states_are)))
-
-  pub out_of_range : (p a q : ℕ) → a < size → (IsEdgeInRange m p a q → ⊥) → (nat_lt p count && nat_lt q count) ≡ false
-  out_of_range p a q letter not = elim (cases_Bool (nat_lt p count && nat_lt q count)) [
-    | inl both ↦
-        let parts = and_parts (nat_lt p count) (nat_lt q count) both in
-        absurd (not (record {
-          from_state = omega (arith, ltb-true p count parts.0, h.states_are);
-          in_alphabet = omega (arith, letter, h.letters_are);
-          to_state = omega (arith, ltb-true q count parts.1, h.states_are);
-        }))
-    | inr outside ↦ outside
-  ]
 
   is_edge : (p a : ℕ) (line : Line) → is_edge_of p a line ≡ true → (q : ℕ) × (line ≡ Edge p a q)
   is_edge p a (Final q) e = absurd (let f : false ≡ true = e in cc)

@@ -1,7 +1,7 @@
--- A configuration and its text: what is written is read so, and what is read was written so.
-use Rattle.std.proofs.Common.{◌≡◌, ◌≢◌, ◌<◌, ◌==◌, ◌||◌, ℕ, zero, suc, Bool, true, false, List, [], ◌∷◌, ◌++◌, AllPairs, IsTrue, length, nat_lt, codes, flat_map, refl, sym, subst, ap, ◌∙◌, inl, inr, arith, true≢false}
+-- The text that is written of a configuration is read so.
+use Rattle.std.proofs.Common.{◌≡◌, ◌≢◌, ◌<◌, ◌==◌, ◌||◌, ℕ, Bool, true, false, List, [], ◌∷◌, ◌++◌, AllPairs, IsTrue, length, nat_lt, codes, flat_map, refl, sym, subst, ◌∙◌, inl, inr, arith, true≢false}
 use Rattle.std.specs.List.{AllByRecursion, list_all, join_by}
-use Rattle.std.proofs.lemmas.Bool.{and_parts, cond-false, eqb-true, ltb-true, ne_eqb}
+use Rattle.std.proofs.lemmas.Bool.{and_parts, eqb-true, ltb-true}
 use Rattle.std.proofs.lemmas.List.{append_assoc, append-nil}
 use Rattle.std.proofs.lemmas.Option.{unwrap_or-slice_get}
 use Rattle.protocol_lexer.specs.Piece.{is_word_byte}
@@ -15,11 +15,11 @@ use Rattle.configuration_words.specs.Texts.{letter_name, list_text, part_text, p
 use Rattle.configuration_words.proofs.ForCallers.{letter_is_name}
 use Rattle.sequence.proofs.ForCallers.{no_cut, Lacks-append}
 use Rattle.lines.specs.Bytes.{Lacks}
-use Rattle.lines.proofs.ForCallers.{fields_are, fields_say}
-use Rattle.lines.specs.Grammar.{Says, SaysFields, numbered, after, each}
-use Rattle.certificate.specs.Configurations.{list, of_section, part, configuration}
+use Rattle.lines.proofs.ForCallers.{fields_say}
+use Rattle.lines.specs.Grammar.{Says, SaysFields, numbered, each}
+use Rattle.certificate.specs.Configurations.{list, part, configuration}
 use Rattle.certificate.specs.Words.{a_name}
-use Rattle.certificate.proofs.Places.{name_lacks, numbered_is, numbered_says, word_bytes_lack}
+use Rattle.certificate.proofs.Places.{name_lacks, numbered_says, word_bytes_lack}
 
 empty_is_no_name : (name : List ℕ) → IsName name → name ≡ codes "empty" → ⊥
 unfolding keyword_of
@@ -36,10 +36,6 @@ module _ (section : Section) (valid : IsValidSection section) where
   letter_says a within =
       subst (λ text. Says (numbered section.letters a_name) text a) (sym (unwrap_or-slice_get section.letters a []))
       (numbered_says section.letters a_name valid.distinct a within)
-
-  letter_is : (bytes : List ℕ) (a : ℕ) → Says (numbered section.letters a_name) bytes a → a < letter_count section → bytes ≡ letter_name section a
-  letter_is bytes a says within =
-      numbered_is section.letters a_name bytes a says within ∙ sym (unwrap_or-slice_get section.letters a [])
 
   abbrev AreLetters : List ℕ → Type 0
   AreLetters letters = list_all (λ a. nat_lt a (letter_count section)) letters ≡ true
@@ -59,17 +55,6 @@ module _ (section : Section) (valid : IsValidSection section) where
       each_says (b ∷ letters) h =
           let parts = first_within b letters h in
           ((name_lacks 32 refl (letter_name section b) (letter_is_name section valid b parts.0), letter_says b parts.0), each_says letters parts.1)
-
-  letters_are : (bytes : List ℕ) (a : ℕ) (letters : List ℕ) → SaysFields 32 (Says (numbered section.letters a_name)) bytes (a ∷ letters)
-      → AreLetters (a ∷ letters) → bytes ≡ letter_name section a ++ names letters
-  letters_are bytes a letters h all =
-      fields_are 32 (Says (numbered section.letters a_name)) (letter_name section) bytes a letters (each_is (a ∷ letters) all) h
-    where
-      each_is : (letters : List ℕ) → AreLetters letters
-          → AllByRecursion (λ b. (word : List ℕ) → Says (numbered section.letters a_name) word b → word ≡ letter_name section b) letters
-      each_is [] h = tt
-      each_is (b ∷ letters) h =
-          let parts = first_within b letters h in (λ word says. letter_is word b says parts.0, each_is letters parts.1)
 
   not_empty : (a : ℕ) (letters : List ℕ) → AreLetters (a ∷ letters) → letter_name section a ++ names letters ≡ codes "empty" → ⊥
   not_empty a [] h e =
@@ -91,15 +76,6 @@ module _ (section : Section) (valid : IsValidSection section) where
       let two : length (a ∷ (b ∷ letters)) ≡ 1 = eqb-true (length (a ∷ (b ∷ letters))) 1 one in
       absurd (omega (arith, two))
 
-  list_is : (any : Bool) (bytes letters : List ℕ) → Says (list any section.letters) bytes letters → AreLetters letters
-      → bytes ≡ list_text section letters
-  list_is true bytes letters (inl h) all = h.0 ∙ ap (list_text section) (sym h.1)
-  list_is true bytes [] (inr h) all = absurd h.1
-  list_is true bytes (a ∷ letters) (inr h) all = letters_are bytes a letters h.1 all
-  list_is false bytes letters h all =
-      let within = first_within h.0 [] (subst AreLetters h.2 all) in
-      letter_is bytes h.0 h.1 within.0 ∙ sym (append-nil (letter_name section h.0)) ∙ ap (list_text section) (sym h.2)
-
   part_joined : (letters : List ℕ) → part_text section letters ≡ section.name ++ 58 ∷ (32 ∷ list_text section letters)
   part_joined letters = append_assoc section.name (codes ": ") (list_text section letters)
 
@@ -117,29 +93,6 @@ module _ (section : Section) (valid : IsValidSection section) where
         ),
         refl,
       )
-
-  not_there : (letters : List ℕ) → letters ≡ letter_count section ∷ [] → AreLetters letters → ⊥
-  not_there letters is all =
-      let within = first_within (letter_count section) [] (subst AreLetters is all) in
-      absurd (omega (arith, within.0))
-
-  part_is : (bytes letters : List ℕ) → Says (part section) bytes letters → list_fits section letters ≡ true → bytes ≡ part_text section letters
-  part_is bytes letters ((name, read), (front, back, cut, named, behind), is) fit = by name named behind is
-    where
-      all : AreLetters letters
-      all = (and_parts (list_all (λ a. nat_lt a (letter_count section)) letters) (has_any_length section.kind || (length letters == 1)) fit).0
-
-      by : (name : ℕ) → Says (numbered (section.name ∷ []) a_name) front name
-          → Says (after (codes " ") (list (has_any_length section.kind) section.letters)) back read → letters ≡ of_section section (name, read)
-          → bytes ≡ part_text section letters
-      by zero named (inl rest) is =
-          let front_is = numbered_is (section.name ∷ []) a_name front 0 named (omega arith) in
-          let list_text_is = list_is (has_any_length section.kind) rest.0 read rest.2 (subst AreLetters is all) in
-          cut.joined
-          ∙ (λ i. front_is i ++ 58 ∷ (rest.1 ∙ ap (λ text. 32 ∷ text) (list_text_is ∙ ap (list_text section) (sym is))) i)
-          ∙ sym (part_joined letters)
-      by zero named (inr none) is = absurd none.1
-      by (suc n) named rest is = absurd (not_there letters (is ∙ cond-false _ _ _ (ne_eqb (suc n) 0 (λ e. absurd (omega (arith, e))))) all)
 
   -- what the part of a section lacks
   module _ (byte : ℕ) (apart : is_word_byte byte ≡ false) (no_space : 32 ≢ byte) (no_colon : 58 ≢ byte) where
@@ -196,22 +149,6 @@ parts_say (section ∷ (next ∷ sections)) (list ∷ (other ∷ lists)) valid f
       refl,
     )
 
-parts_are : (sections : List Section) (bytes : List ℕ) (lists : List (List ℕ)) → AllByRecursion IsValidSection sections
-    → Says (each 59 (codes " ") part sections) bytes lists → lists_fit sections lists ≡ true → bytes ≡ joined sections lists
-parts_are [] bytes lists valid h fit = h.0
-parts_are (section ∷ []) bytes lists valid h fit =
-    let fits_one = and_parts (list_fits section h.0) true (subst (λ l. lists_fit (section ∷ []) l ≡ true) h.2 fit) in
-    part_is section valid.0 bytes h.0 h.1 fits_one.0 ∙ sym (append-nil (part_text section h.0)) ∙ ap (joined (section ∷ [])) (sym h.2)
-parts_are (section ∷ (next ∷ sections)) bytes lists valid ((list, []), says, is) fit =
-    absurd (true≢false (sym (and_parts (list_fits section list) false (subst (λ l. lists_fit (section ∷ (next ∷ sections)) l ≡ true) is fit)).1))
-parts_are (section ∷ (next ∷ sections)) bytes lists valid ((list, other ∷ lists'), (front, back, cut, first, inr none), is) fit = absurd none.1
-parts_are (section ∷ (next ∷ sections)) bytes lists valid ((list, other ∷ lists'), (front, back, cut, first, inl rest), is) fit =
-    let parts = and_parts (list_fits section list) (lists_fit (next ∷ sections) (other ∷ lists'))
-    (subst (λ l. lists_fit (section ∷ (next ∷ sections)) l ≡ true) is fit) in
-    let front_is = part_is section valid.0 front list first parts.0 in
-    let rest_is = parts_are (next ∷ sections) rest.0 (other ∷ lists') valid.1 rest.2 parts.1 in
-    cut.joined ∙ (λ i. front_is i ++ 59 ∷ (rest.1 ∙ ap (λ text. 32 ∷ text) rest_is) i) ∙ ap (joined (section ∷ (next ∷ sections))) (sym is)
-
 module _ (byte : ℕ) (apart : is_word_byte byte ≡ false) (no_space : 32 ≢ byte) (no_colon : 58 ≢ byte) (no_semicolon : 59 ≢ byte) where
   later_lacks : (sections : List Section) (lists : List (List ℕ)) → AllByRecursion IsValidSection sections → lists_fit sections lists ≡ true
       → Lacks byte (later (part_texts sections lists))
@@ -239,11 +176,6 @@ module _ (byte : ℕ) (apart : is_word_byte byte ≡ false) (no_space : 32 ≢ b
 module _ (s : SystemData) (valid : IsValid s) (c : Configuration) (fit : fits s c ≡ true) where
   pub configuration_says : Says (configuration s.sections) (configuration_text s c) c
   configuration_says = (c.lists, parts_say s.sections c.lists valid.each_section fit, refl)
-
-  pub configuration_is : (bytes : List ℕ) → Says (configuration s.sections) bytes c → bytes ≡ configuration_text s c
-  configuration_is bytes h =
-      let same : h.0 ≡ c.lists = ap (λ (d : Configuration). d.lists) (sym h.2) in
-      parts_are s.sections bytes c.lists valid.each_section (subst (λ lists. Says (each 59 (codes " ") part s.sections) bytes lists) same h.1) fit
 
   pub configuration_lacks : Lacks 10 (configuration_text s c)
   configuration_lacks = parts_lack 10 refl (omega arith) (omega arith) (omega arith) s.sections c.lists valid.each_section fit

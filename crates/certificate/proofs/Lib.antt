@@ -1,8 +1,6 @@
 mod AlphabetLemmas
-mod AwayFromRuns
 mod Building
 mod ConfigurationReading
-mod IndexLemmas
 mod ListFacts
 mod OneReadingLemmas
 mod Places

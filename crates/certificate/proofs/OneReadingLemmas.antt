@@ -1,9 +1,11 @@
 -- A text means one certificate or has one first fault, and never both.
-use Rattle.std.proofs.Common.{◌≡◌, ◌≢◌, ◌↔◌, true, false, ℕ, List, refl, sym, subst, ap, ◌∙◌}
+use Rattle.std.proofs.Common.{◌≡◌, ◌≢◌, ◌↔◌, false, true≢false, IsTrue, ℕ, List, refl, sym, subst, ap, ◌∙◌}
+use Rattle.std.specs.List.{AllByRecursion}
 use Rattle.protocol_model.specs.declared.system.Run.{Run}
 use Rattle.protocol_model.specs.System.{SystemData, IsValid}
+use Rattle.protocol_model.specs.Patterns.{fits}
 use Rattle.protocol_model.specs.Words.{automata_letters}
-use Rattle.word_automata.specs.Automaton.{IsValid as IsValidAutomaton}
+use Rattle.word_automata.specs.Automaton.{Automaton as AnyAutomaton, IsValid as IsValidAutomaton}
 use Rattle.lines.specs.Document.{Answer, HasAnswer, means, fails}
 use Rattle.lines.specs.declared.fault.Fault.{Fault}
 use Rattle.lines.specs.declared.fault.Fault.TheVariants as Of
@@ -20,11 +22,10 @@ use Rattle.certificate.specs.declared.said.What.TheVariants as W
 use Rattle.certificate.specs.Faults.{HasFault, text_fault}
 use Rattle.certificate.specs.Meaning.{IsCertificateOf}
 use Rattle.certificate.specs.OneReading.{MeaningIsDetermined, FaultIsDetermined, FaultExcludesMeaning}
-use Rattle.certificate.specs.RunText.{MeansRun}
-use Rattle.certificate.specs.SafeText.{IsAutomatonOf}
+use Rattle.certificate.specs.RunText.{IsStepOf, MeansRun}
+use Rattle.certificate.specs.SafeText.{IsAutomatonOf, MeansAutomaton}
 use Rattle.certificate.specs.Stages.{Stage, certificate, is_run}
 use Rattle.certificate.specs.private.Kept.{IsKept, IsBuiltFrom}
-use Rattle.certificate.proofs.RunReading.{run_stage, run_is_read, read_is_run}
 use Rattle.certificate.proofs.SameAutomatonLemmas.{automaton_unique}
 
 same_stage : (t u : Stage) → (let a : Answer Stage What = means t in a) ≡ means u → t ≡ u
@@ -36,59 +37,47 @@ same_fault f g e = cc e
 no_fault : (t : Stage) (f : Fault What) → (let a : Answer Stage What = means t in a) ≡ fails f → ⊥
 no_fault t f e = cc e
 
-same_run : (r q : Run) → run_stage r ≡ run_stage q → r ≡ q
-same_run r q e = λ i. record { first = (e i).first; steps = (e i).steps }
-
 -- what was read of a text that means a certificate
-stage_of : (s : SystemData) → IsValid s → (text : List ℕ) (c : Certificate) → IsCertificateOf s text c
-    → (t : Stage) × HasAnswer (certificate s) text (means t)
-stage_of s valid text (Automaton m) h = (h.read, h.is_read)
-stage_of s valid text (BadRun run) h = (run_stage run, run_is_read s valid text run h)
+stage_of : (s : SystemData) (text : List ℕ) (c : Certificate) → IsCertificateOf s text c → (t : Stage) × HasAnswer (certificate s) text (means t)
+stage_of s text (Automaton m) h = (h.read, h.is_read)
+stage_of s text (BadRun run) h = (h.read, h.is_read)
+
+same_read : (s : SystemData) (text : List ℕ) (t u : Stage) → HasAnswer (certificate s) text (means t) → HasAnswer (certificate s) text (means u) → t ≡ u
+same_read s text t u h k = same_stage t u (answer_one (certificate s) text (means t) (means u) h k)
+
+not_both : (s : SystemData) (text : List ℕ) (m : AnyAutomaton) (run : Run) → MeansAutomaton s text m → MeansRun s text run → ⊥
+not_both s text m run h k =
+    true≢false (sym k.of_run ∙ ap (λ (t : Stage). is_run t.place) (same_read s text k.read h.read k.is_read h.is_read) ∙ h.no_run)
 
 pub meaning_once : MeaningIsDetermined
 meaning_once s valid text (Automaton m) (Automaton n) h k =
-    let same = same_stage h.read k.read (answer_one (certificate s) text (means h.read) (means k.read) h.is_read k.is_read) in
+    let same = same_read s text h.read k.read h.is_read k.is_read in
     ap Automaton (automaton_unique (automata_letters s) k.read.count k.read.lines m n
     (subst (λ (t : Stage). IsAutomatonOf (automata_letters s) t.count t.lines m) same h.automaton) k.automaton)
-meaning_once s valid text (Automaton m) (BadRun run) h k =
-    let is = run_is_read s valid text run k in
-    let same = same_stage h.read (run_stage run) (answer_one (certificate s) text (means h.read) (means (run_stage run)) h.is_read is) in
-    absurd (let e : false ≡ true = sym h.no_run ∙ ap (λ (t : Stage). is_run t.place) same in cc e)
-meaning_once s valid text (BadRun run) (Automaton m) h k =
-    let is = run_is_read s valid text run h in
-    let same = same_stage k.read (run_stage run) (answer_one (certificate s) text (means k.read) (means (run_stage run)) k.is_read is) in
-    absurd (let e : false ≡ true = sym k.no_run ∙ ap (λ (t : Stage). is_run t.place) same in cc e)
+meaning_once s valid text (Automaton m) (BadRun run) h k = absurd (not_both s text m run h k)
+meaning_once s valid text (BadRun run) (Automaton m) h k = absurd (not_both s text m run k h)
 meaning_once s valid text (BadRun run) (BadRun other) h k =
-    ap BadRun (same_run run other (same_stage (run_stage run) (run_stage other)
-    (answer_one (certificate s) text (means (run_stage run)) (means (run_stage other)) (run_is_read s valid text run h) (run_is_read s valid text other k))))
+    let same = same_read s text h.read k.read h.is_read k.is_read in
+    let first = h.first_is ∙ ap (λ (t : Stage). t.first) same ∙ sym k.first_is in
+    let steps = h.steps_are ∙ ap (λ (t : Stage). t.steps) same ∙ sym k.steps_are in
+    λ i. BadRun (record { first = first i; steps = steps i })
 
 -- the fault that it is the same of
-abbrev wrong_with : What → ℕ → CertFault
-wrong_with W.Version n = Version n
-wrong_with W.NothingToVerify n = NothingToVerify n
-wrong_with W.TooMany n = TooMany n
-wrong_with W.UnknownName n = UnknownName n
-wrong_with W.TwoLetters n = TwoLetters n
-wrong_with W.OutOfRange n = OutOfRange n
-wrong_with W.TwoEdges n = TwoEdges n
-
 abbrev fault_of : Fault What → CertFault
 fault_of (Of.Truncated n) = Truncated n
 fault_of (Of.BadLine n) = BadLine n
-fault_of (Of.Wrong w n) = wrong_with w n
+fault_of (Of.Wrong W.Version n) = Version n
+fault_of (Of.Wrong W.NothingToVerify n) = NothingToVerify n
+fault_of (Of.Wrong W.TooMany n) = TooMany n
+fault_of (Of.Wrong W.UnknownName n) = UnknownName n
+fault_of (Of.Wrong W.TwoLetters n) = TwoLetters n
+fault_of (Of.Wrong W.OutOfRange n) = OutOfRange n
+fault_of (Of.Wrong W.TwoEdges n) = TwoEdges n
 fault_of Of.Memory = Memory
 
 known_fault : (f : CertFault) → fault_of (text_fault f) ≡ f
 known_fault (Version n) = refl
-known_fault (BadLine n) = refl
-known_fault (UnknownName n) = refl
-known_fault (OutOfRange n) = refl
-known_fault (TwoEdges n) = refl
-known_fault (Truncated n) = refl
-known_fault (NothingToVerify n) = refl
-known_fault (TooMany n) = refl
-known_fault Memory = refl
-known_fault (TwoLetters n) = refl
+known_fault f = refl
 
 pub fault_once : FaultIsDetermined
 fault_once s valid text f g h k =
@@ -98,7 +87,7 @@ fault_once s valid text f g h k =
 
 pub fault_excludes : FaultExcludesMeaning
 fault_excludes s valid text f c h k =
-    let stage = stage_of s valid text c k in
+    let stage = stage_of s text c k in
     no_fault stage.0 (text_fault f) (answer_one (certificate s) text (means stage.0) (fails (text_fault f)) stage.1 h)
 
 module _ (s : SystemData) (valid : IsValid s) (text : List ℕ) where
@@ -121,9 +110,20 @@ module _ (s : SystemData) (valid : IsValid s) (text : List ℕ) where
         });
       }
   certificate_meant t read (BadRun run) answer kept h =
-      let same : run ≡ record { first = t.first; steps = t.steps } =
-      λ i. record { first = (h.1 ∙ kept.first_is) i; steps = (h.2 ∙ kept.steps_are) i } in
-      subst (λ r. MeansRun s text r) (sym same) (read_is_run s valid text t answer (sym (ap is_run kept.place_is) ∙ ap is_run h.0))
+      let of_run = sym (ap is_run kept.place_is) ∙ ap is_run h.0 in
+      let first = h.1 ∙ kept.first_is in
+      let steps = h.2 ∙ kept.steps_are in
+      record {
+        read = t;
+        is_read = answer;
+        of_run = of_run;
+        first_is = first;
+        steps_are = steps;
+        is_run = record {
+          first_fits = subst (λ c. IsTrue (fits s c)) (sym first) (kept.first_fits of_run);
+          steps_fit = subst (AllByRecursion (IsStepOf s)) (sym steps) kept.steps_fit;
+        };
+      }
 
   -- memory ran out where a text with a meaning is refused
   pub only_memory : (f : CertFault) → (f ≢ Memory → HasFault s text f) → (c : Certificate) → IsCertificateOf s text c → f ≡ Memory

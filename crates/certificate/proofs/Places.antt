@@ -1,13 +1,11 @@
 -- The place of the first element that passes a test, and names by their places.
-use Rattle.std.proofs.Common.{◌≡◌, ◌≢◌, ◌<◌, ◌||◌, ◌&&◌, true≢false, nat_le, is_none, ℕ, zero, suc, Bool, true, false, List, [], ◌∷◌, Some, None, AllPairs, cond, map, length, get_or, nat_lt, slice_get, refl, sym, subst, ap, ◌∙◌, inl, inr, arith}
+use Rattle.std.proofs.Common.{◌≡◌, ◌≢◌, ◌<◌, ◌&&◌, true≢false, nat_le, is_none, ℕ, Bool, true, false, List, [], ◌∷◌, Some, None, AllPairs, cond, map, length, get_or, nat_lt, refl, sym, subst, ap, ◌∙◌, inl, arith}
 use Rattle.std.specs.List.{list_all, list_any, position, position_or_len}
 use Rattle.std.specs.Str.{bytes_eq}
 use Rattle.std.specs.Cmp.Lexicographic.{bytes_decides}
-use Rattle.std.proofs.lemmas.Bool.{and_parts, cond-true, lt-ltb}
-use Rattle.std.proofs.lemmas.List.Quantifiers.{position-Some}
+use Rattle.std.proofs.lemmas.Bool.{and_parts, lt-ltb}
 use Rattle.std.proofs.lemmas.List.Sums.{position_or_len_is}
 use Rattle.std.proofs.lemmas.List.{map-id}
-use Rattle.std.proofs.lemmas.Option.{none-some}
 use Rattle.protocol_model.proofs.ForCallers.{position_is}
 use Rattle.protocol_lexer.specs.Piece.{is_word_byte}
 use Rattle.forms.specs.Symbol.{keyword_of}
@@ -19,20 +17,6 @@ module _ {X : Type 0} (p : X → Bool) where
   position_known : (xs : List X) → position p xs ≡ cond (list_any p xs) (Some (position_or_len p xs)) None
   position_known xs =
       subst (λ ys. position p xs ≡ cond (list_any p ys) (Some (position_or_len p ys)) None) (map-id xs) (position_is p (λ y. y) xs)
-
-  any_later : (b : Bool) → (b || true) ≡ true
-  any_later true = refl
-  any_later false = refl
-
-  any_at : (xs : List X) (i : ℕ) (x : X) → slice_get xs i ≡ Some x → p x ≡ true → list_any p xs ≡ true
-  any_at [] i x at passes = absurd (none-some x at)
-  any_at (y ∷ ys) zero x at passes =
-      let same : y ≡ x = cc at in subst (λ b. (b || list_any p ys) ≡ true) (sym (ap p same ∙ passes)) refl
-  any_at (y ∷ ys) (suc i) x at passes = subst (λ b. (p y || b) ≡ true) (sym (any_at ys i x at passes)) (any_later (p y))
-
-  -- there is a first element that passes where one passes
-  pub position_there : (xs : List X) (i : ℕ) (x : X) → slice_get xs i ≡ Some x → p x ≡ true → position p xs ≡ Some (position_or_len p xs)
-  position_there xs i x at passes = position_known xs ∙ cond-true _ _ _ (any_at xs i x at passes)
 
 -- a test of elements, and of what they are mapped to
 pub position_mapped : {X Y : Type 0} (p : Y → Bool) (f : X → Y) (xs : List X) → position (λ x. p (f x)) xs ≡ position p (map f xs)
@@ -58,10 +42,6 @@ place_of_name names distinct i within =
 module _ {A : Type 0} (names : List (List ℕ)) (x : Line A) where
   pub numbered_says : AllPairs (λ a b. a ≢ b) names → (i : ℕ) → i < length names → Says (numbered names x) (get_or names i []) i
   numbered_says distinct i within = inl (place_of_name names distinct i within)
-
-  pub numbered_is : (bytes : List ℕ) (i : ℕ) → Says (numbered names x) bytes i → i < length names → bytes ≡ get_or names i []
-  numbered_is bytes i (inl h) within = (bytes_decides bytes (get_or names i [])).0 (position-Some (bytes_eq bytes) names i [] h).1
-  numbered_is bytes i (inr h) within = absurd (omega (arith, within, h.1.2))
 
 -- words lack each byte that is no word's
 pub word_bytes_lack : (byte : ℕ) → is_word_byte byte ≡ false → (name : List ℕ) → list_all is_word_byte name ≡ true → Lacks byte name

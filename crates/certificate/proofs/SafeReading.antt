@@ -104,14 +104,11 @@ module _ (s : SystemData) (valid : IsValid s) (count : ℕ) (few : count ≤ 100
   small_lacks : (byte n : ℕ) → byte < 48 → n ≤ 1000000 → Lacks byte (decimal n)
   small_lacks byte n low le = decimal_lacks byte n low (omega arith)
 
-  no_final : (bytes : List ℕ) → BeginsOtherwise (codes "final ") (codes "e" ++ bytes)
-  no_final bytes rest e = heads_differ 101 102 _ _ (omega arith) e
-
-  no_edge : BeginsOtherwise (codes "edge ") (codes "end")
-  no_edge rest e = second_differ 101 110 100 _ _ (omega arith) e
+  no_edge : (bytes : List ℕ) → BeginsOtherwise (codes "edge ") (codes "final " ++ bytes)
+  no_edge bytes rest e = heads_differ 102 101 _ _ (omega arith) e
 
   final_says : (edge : Grammar Said) (q : ℕ) → q < count → Says (body edge) (line_text s (Final q)) (S.Final q)
-  final_says edge q less = inl (decimal q, refl, (q, state_says q (omega (arith, less)), refl))
+  final_says edge q less = inr (no_edge (decimal q), inl (decimal q, refl, (q, state_says q (omega (arith, less)), refl)))
 
   edge_says : (p a q : ℕ) → p < count → a < size → q < count → Says (body (named_edge s)) (line_text s (Edge p a q)) (S.Edge p a q)
   edge_says p a q from is to =
@@ -122,7 +119,7 @@ module _ (s : SystemData) (valid : IsValid s) (count : ℕ) (few : count ≤ 100
       (state_says p (omega (arith, from)))
       (cut_says 32 (letter s) state name (decimal q) a q (letter_text-no_space s valid a is) (letter_says s valid a is) (state_says q (omega (arith, to)))) in
       subst (λ line. Says (body (named_edge s)) line (S.Edge p a q)) (sym (ap (λ bytes. codes "edge " ++ bytes) (three_joined (decimal p) name (decimal q))))
-      (inr (no_final (codes "dge " ++ rest), inl (rest, refl, ((p, (a, q)), fields, refl))))
+      (inl (rest, refl, ((p, (a, q)), fields, refl)))
 
   module _ (bound : ℕ) (low : bound ≤ 257) where
     within_limit : (i : ℕ) → i < bound → i ≤ 1000000
@@ -151,10 +148,11 @@ module _ (s : SystemData) (valid : IsValid s) (count : ℕ) (few : count ≤ 100
         (state_says q (omega (arith, to))) (indices_say i indices h)) in
         subst (λ line. Says (body indexed_edges) line (S.Edges p q (i ∷ indices)))
         (sym (ap (λ bytes. codes "edge " ++ bytes) (three_joined (decimal p) (decimal q) numbers)))
-        (inr (no_final (codes "dge " ++ rest), inl (rest, refl, ((p, (q, i ∷ indices)), fields, refl))))
+        (inl (rest, refl, ((p, (q, i ∷ indices)), fields, refl)))
 
   end_says : (edge : Grammar Said) → Says (body edge) (codes "end") S.End
-  end_says edge = inr (no_final (codes "nd"), inr (no_edge, (tt, inl (refl, refl), refl)))
+  end_says edge =
+      inr (λ rest e. second_differ 101 110 100 _ _ (omega arith) e, inr (λ rest e. heads_differ 101 102 _ _ (omega arith) e, (tt, inl (refl, refl), refl)))
 
   line_says : (v : Version) (x : Line) → length (letters_of v) ≤ 257 → IsInRange v size count x
       → Says (line_at s (place_of v)) (line_text s x) (said x)

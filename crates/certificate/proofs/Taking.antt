@@ -1,7 +1,7 @@
 -- What a line does, and how what was read is kept after it.
-use Rattle.std.proofs.Common.{Bool, None, ◌≡◌, ◌==◌, ◌<◌, ◌≤◌, ◌&&◌, ℕ, true, false, List, [], ◌∷◌, ◌++◌, nat_lt, length, get_or, drop, cond, ◌+◌, add-one, refl, sym, subst, ap, ◌∙◌, arith}
-use Rattle.std.specs.List.{list_any, list_all}
-use Rattle.std.proofs.lemmas.Bool.{lt-ltb, le-ltb, cond-true, cond-false, and_from}
+use Rattle.std.proofs.Common.{Bool, None, ◌≡◌, ◌==◌, ◌<◌, ◌≤◌, ◌&&◌, ℕ, true, false, true≢false, IsTrue, List, [], ◌∷◌, ◌++◌, nat_lt, length, get_or, drop, cond, ◌+◌, add-one, refl, sym, subst, ap, ◌∙◌, arith}
+use Rattle.std.specs.List.{AllByRecursion, list_any, list_all}
+use Rattle.std.proofs.lemmas.Bool.{lt-ltb, le-ltb, ltb-true, cond-true, cond-false, and_from, and_parts}
 use Rattle.std.proofs.lemmas.List.{nil_from_length, length-drop}
 use Rattle.std.proofs.Math.Seq.{drop-cons}
 use Rattle.lines.specs.Document.{Effect, leads, ends, wrong}
@@ -21,11 +21,17 @@ use Rattle.protocol_model.specs.Words.{automata_letters}
 use Rattle.certificate.specs.declared.said.Said.TheVariants as S
 use Rattle.certificate.specs.declared.said.What.{What}
 use Rattle.certificate.specs.declared.said.What.TheVariants.{UnknownName, TwoLetters, TwoEdges, OutOfRange}
-use Rattle.certificate.specs.Stages.{Stage, effect, after_states, titled, then_at, with_line, with_edge, with_edges, follow, is_edge_of}
+use Rattle.certificate.specs.RunText.{IsStepOf}
+use Rattle.certificate.specs.Stages.{Stage, effect, is_run, after_states, titled, then_at, with_line, with_edge, with_edges, follow, is_edge_of}
 use Rattle.certificate.specs.private.Kept.{HasLines, IsKept}
-use Rattle.certificate.proofs.Building.{HasLines-final, HasLines-edge, in_range, out_of_range, no_second, second}
+use Rattle.certificate.proofs.ListFacts.{AllByRecursion-append}
+use Rattle.certificate.proofs.Building.{HasLines-final, HasLines-edge, in_range, no_second, second}
 use Rattle.word_automata.specs.Automaton.{Automaton, target}
 use Rattle.word_automata.specs.Building.{AddsEdge, MakesAccepting, IsEdgeInRange, IsSecondEdge}
+
+states_no_run : (place : Place) → is_run (after_states place) ≡ false
+states_no_run At.Letters = refl
+states_no_run place = refl
 
 module _ (system : SystemData) (s : Stage) (old : Reading) (kept : IsKept system s old) where
   abbrev size : ℕ
@@ -33,14 +39,27 @@ module _ (system : SystemData) (s : Stage) (old : Reading) (kept : IsKept system
 
   -- what was read is kept part by part
   keeps : (t : Stage) (new : Reading) → new.place ≡ t.place → new.letters.items ≡ t.letters → HasLines size t.count t.lines new.builder
-      → t.count ≤ 1000000 → new.first ≡ t.first → new.steps.items ≡ t.steps → IsKept system t new
-  keeps t new place letters built few first steps =
-      record { place_is = place; letters_are = letters; built = built; few = few; first_is = first; steps_are = steps }
+      → t.count ≤ 1000000 → new.first ≡ t.first → new.steps.items ≡ t.steps → (is_run t.place ≡ true → IsTrue (fits system t.first))
+      → AllByRecursion (IsStepOf system) t.steps → IsKept system t new
+  keeps t new place letters built few first steps first_fit steps_fit = record {
+    place_is = place;
+    letters_are = letters;
+    built = built;
+    few = few;
+    first_is = first;
+    steps_are = steps;
+    first_fits = first_fit;
+    steps_fit = steps_fit;
+  }
 
   keeps_lines : (lines : List Line) (m : Automaton) → HasLines size s.count lines m
       → IsKept system (record s { lines = lines }) (record old { builder = m })
   keeps_lines lines m built =
       keeps (record s { lines = lines }) (record old { builder = m }) kept.place_is kept.letters_are built kept.few kept.first_is kept.steps_are
+      kept.first_fits kept.steps_fit
+
+  no_run : (place : Place) → is_run place ≡ false → is_run place ≡ true → IsTrue (fits system s.first)
+  no_run place not run = absurd (true≢false (sym run ∙ not))
 
   pub takes_final : (q : ℕ) (m : Automaton) → q < length old.builder.states → MakesAccepting old.builder m q
       → HasEffect (IsKept system) (effect system s (S.Final q)) s (record old { builder = m }) More
@@ -50,16 +69,14 @@ module _ (system : SystemData) (s : Stage) (old : Reading) (kept : IsKept system
     keeps_lines (s.lines ++ L.Final q ∷ []) m (HasLines-final size s.count s.lines old.builder m kept.built q made),
   )
 
-  pub refuses_final : (q : ℕ) → length old.builder.states ≤ q → effect system s (S.Final q) ≡ wrong OutOfRange
-  refuses_final q past = cond-false _ _ _ (le-ltb q s.count (subst (λ n. n ≤ q) kept.built.states_are past))
-
   pub takes_states : (n : ℕ) (place : Place) (m : Automaton) → n ≤ 1000000 → HasLines size n [] m → place ≡ after_states old.place
       → HasEffect (IsKept system) (effect system s (S.States n)) s (record old { place = place; builder = m }) More
   takes_states n place m few built is =
       let t : Stage = record s { place = after_states s.place; count = n; lines = [] } in (
         t,
         cond-false _ _ _ (le-ltb 1000000 n few),
-        keeps t (record old { place = place; builder = m }) (is ∙ ap after_states kept.place_is) kept.letters_are built few kept.first_is kept.steps_are,
+        keeps t (record old { place = place; builder = m }) (is ∙ ap after_states kept.place_is) kept.letters_are built few kept.first_is kept.steps_are
+            (no_run (after_states s.place) (states_no_run s.place)) kept.steps_fit,
       )
 
   pub takes_edge : (p a q : ℕ) (m : Automaton) → AddsEdge old.builder m p a q → IsEdgeInRange old.builder p a q → target old.builder p a ≡ None
@@ -72,24 +89,20 @@ module _ (system : SystemData) (s : Stage) (old : Reading) (kept : IsKept system
     keeps_lines (s.lines ++ L.Edge p a q ∷ []) m (HasLines-edge size s.count s.lines old.builder m kept.built p a q none added),
   )
 
-  pub unknown_letter : (p a q : ℕ) → size ≤ a → with_edge system s p a q ≡ wrong UnknownName
-  unknown_letter p a q past = cond-false _ _ _ (le-ltb a size past)
-
-  pub refuses_edge : (p a q : ℕ) → a < size → (IsEdgeInRange old.builder p a q → ⊥) → with_edge system s p a q ≡ wrong OutOfRange
-  refuses_edge p a q letter not =
-      cond-true _ _ _ (lt-ltb a size letter) ∙ cond-false _ _ _ (out_of_range size s.count s.lines old.builder kept.built p a q letter not)
-
   pub second_edge : (p a q : ℕ) → IsSecondEdge old.builder p a q → with_edge system s p a q ≡ wrong TwoEdges
   second_edge p a q is =
       cond-true _ _ _ (lt-ltb a size (omega (arith, is.0.in_alphabet, kept.built.letters_are)))
       ∙ cond-true _ _ _ (in_range size s.count s.lines old.builder kept.built p a q is.0)
       ∙ cond-true _ _ _ (second size s.count s.lines old.builder kept.built p a is.1)
 
-  pub takes_title : (n : ℕ) (k : Kind) (at : Place) → titled n k ≡ leads at
+  pub takes_title : (n : ℕ) (k : Kind) (at : Place) → titled n k ≡ leads at → is_run at ≡ false
       → HasEffect (IsKept system) (effect system s (S.Title n k)) s (record old { place = at }) More
-  takes_title n k at is =
-      let t : Stage = record s { place = at } in
-      (t, ap (then_at s) is, keeps t (record old { place = at }) refl kept.letters_are kept.built kept.few kept.first_is kept.steps_are)
+  takes_title n k at is not =
+      let t : Stage = record s { place = at } in (
+        t,
+        ap (then_at s) is,
+        keeps t (record old { place = at }) refl kept.letters_are kept.built kept.few kept.first_is kept.steps_are (no_run at not) kept.steps_fit,
+      )
 
   pub takes_start : (c : Configuration) → fits system c ≡ true
       → HasEffect (IsKept system) (effect system s (S.Start c)) s (record old { place = At.Steps; first = c }) More
@@ -97,19 +110,21 @@ module _ (system : SystemData) (s : Stage) (old : Reading) (kept : IsKept system
       let t : Stage = record s { place = At.Steps; first = c } in (
         t,
         cond-true _ _ _ fit,
-        keeps t (record old { place = At.Steps; first = c }) refl kept.letters_are kept.built kept.few refl kept.steps_are,
+        keeps t (record old { place = At.Steps; first = c }) refl kept.letters_are kept.built kept.few refl kept.steps_are (λ run. fit) kept.steps_fit,
       )
 
   pub takes_step : (r : ℕ) (c : Configuration) (new : Reading) → (nat_lt r (length system.rules) && fits system c) ≡ true
       → new ≡ record old { steps = new.steps } → new.steps.items ≡ old.steps.items ++ (r, c) ∷ []
       → HasEffect (IsKept system) (effect system s (S.Step r c)) s new More
   takes_step r c new fit same steps =
-      let t : Stage = record s { steps = s.steps ++ (r, c) ∷ [] } in (
+      let t : Stage = record s { steps = s.steps ++ (r, c) ∷ [] } in
+      let parts = and_parts (nat_lt r (length system.rules)) (fits system c) fit in (
         t,
         cond-true _ _ _ fit,
         subst (IsKept system t) (sym same)
             (keeps t (record old { steps = new.steps }) kept.place_is kept.letters_are kept.built kept.few kept.first_is
-            (steps ∙ ap (λ before. before ++ (r, c) ∷ []) kept.steps_are)),
+            (steps ∙ ap (λ before. before ++ (r, c) ∷ []) kept.steps_are) kept.first_fits
+            (AllByRecursion-append (IsStepOf system) s.steps ((r, c) ∷ []) kept.steps_fit ((ltb-true r _ parts.0, parts.1), tt))),
       )
 
   pub takes_letter : (a : ℕ) (new : Reading) → a < size → list_any (λ b. b == a) old.letters.items ≡ false
@@ -122,7 +137,7 @@ module _ (system : SystemData) (s : Stage) (old : Reading) (kept : IsKept system
             ∙ cond-false _ _ _ (subst (λ before. list_any (λ b. b == a) before ≡ false) kept.letters_are fresh),
         subst (IsKept system t) (sym same)
             (keeps t (record old { letters = new.letters }) kept.place_is (letters ∙ ap (λ before. before ++ a ∷ []) kept.letters_are) kept.built kept.few
-            kept.first_is kept.steps_are),
+            kept.first_is kept.steps_are kept.first_fits kept.steps_fit),
       )
 
   pub second_letter : (a : ℕ) → a < size → list_any (λ b. b == a) old.letters.items ≡ true → effect system s (S.Letter a) ≡ wrong TwoLetters

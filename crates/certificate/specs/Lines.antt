@@ -40,9 +40,9 @@ indexed_edges = means (λ p. Edges p.0 p.1.0 p.1.1) (cut 32 state (cut 32 state 
 abbrev pub end : Line Said
 end = means (λ (nothing : ⊤). End) (word (codes "end") tt)
 
--- an accepting state, an edge, or the end
+-- an edge, an accepting state, or the end
 abbrev pub body : Line Said → Line Said
-body edge = case (codes "final ") (means Final state) (case (codes "edge ") edge end)
+body edge = case (codes "edge ") edge (case (codes "final ") (means Final state) end)
 
 -- a rule, and the configuration after it
 abbrev pub step : SystemData → Line Said

@@ -37,11 +37,16 @@ title (Two letters) = codes "armc 2 safe"
 abbrev pub states_line : ℕ → List ℕ
 states_line count = codes "states " ++ decimal count
 
--- the text of a certificate with so many states and these lines; each line ends with a line feed
-abbrev pub safe_text : Version → SystemData → ℕ → List Line → List ℕ
-safe_text v s count lines =
+-- the text of an automaton under a first line, with a line for each of these letters, the number of states, and these lines; each line ends
+-- with a line feed
+abbrev pub text_under : List ℕ → List ℕ → SystemData → ℕ → List Line → List ℕ
+text_under first letters s count lines =
     flat_map (λ line. line ++ 10 ∷ [])
-    (title v ∷ (map (letter_line s) (letters_of v) ++ states_line count ∷ (map (line_text s) lines ++ codes "end" ∷ [])))
+    (first ∷ (map (letter_line s) letters ++ states_line count ∷ (map (line_text s) lines ++ codes "end" ∷ [])))
+
+-- the text of a certificate with so many states and these lines
+abbrev pub safe_text : Version → SystemData → ℕ → List Line → List ℕ
+safe_text v s count lines = text_under (title v) (letters_of v) s count lines
 
 -- the text of lines, each ended by a line feed
 abbrev pub lines_text : SystemData → List Line → List ℕ
@@ -50,15 +55,3 @@ lines_text s lines = flat_map (λ x. line_text s x ++ 10 ∷ []) lines
 -- the text of the lines that name letters
 abbrev pub letters_text : SystemData → List ℕ → List ℕ
 letters_text s letters = flat_map (λ a. letter_line s a ++ 10 ∷ []) letters
-
--- the text before the line on states
-abbrev pub before_states : Version → SystemData → List ℕ
-before_states v s = title v ++ 10 ∷ letters_text s (letters_of v)
-
--- the text before the lines of states and edges
-abbrev pub opening_text : Version → SystemData → ℕ → List ℕ
-opening_text v s count = before_states v s ++ (states_line count ++ 10 ∷ [])
-
--- the text of lines and of the line `end` after them
-abbrev pub body_text : SystemData → List Line → List ℕ
-body_text s lines = flat_map (λ line. line ++ 10 ∷ []) (map (line_text s) lines ++ codes "end" ∷ [])

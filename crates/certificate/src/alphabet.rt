@@ -1,13 +1,15 @@
 //! The letters of a system's automata, found by their texts.
-//! The texts of all letters are made once and kept in a hash map: a letter is found in constant expected time.
+//! The texts of all letters are made once, and a hash map says where one of them stands: a letter is found in constant expected time. What
+//! the map says is compared with the text that stands there, and a text that it does not have is searched for among all.
 
-ghost use Rattle.std.specs.Prelude.{◌≡◌, ◌++◌, ◌^◌, ◌<◌, IfOk, OnOk, codes, length, position};
+ghost use Rattle.std.specs.Prelude.{◌≡◌, ◌++◌, ◌<◌, IfOk, OnOk, codes, length, position};
 ghost use Rattle.std.specs.Str.{bytes_eq};
 ghost use Rattle.protocol_model.specs.System.{IsValid};
 ghost use Rattle.protocol_model.specs.Words.{automata_letters};
 ghost use Rattle.certificate.specs.Words.{letter_text, letter_texts, section_texts};
-ghost use Rattle.certificate.specs.private.Alphabet.{lists_of, IsIndexOf};
+ghost use Rattle.certificate.specs.private.Alphabet.{lists_of};
 
+use crate::words::is;
 use protocol_model::{Rule, Section, System};
 use std::alloc::{AllocError, Global};
 use std::collections::HashMap;
@@ -19,7 +21,7 @@ use std::marker::Model;
 pub struct Alphabet<'a> {
     system: &'a System,
     texts: Vec<Vec<u8>>,
-    numbers: HashMap<Vec<u8>, u32>,
+    places: HashMap<Vec<u8>, usize>,
 }
 
 impl<'a> Model for Alphabet<'a> {
@@ -30,7 +32,7 @@ impl<'a> Model for Alphabet<'a> {
 
     ghost view = { λ alphabet. alphabet.system.now };
 
-    ghost invariant = { λ alphabet. IsAlphabetOf alphabet.system.now alphabet.texts.items alphabet.numbers };
+    ghost invariant = { λ alphabet. IsAlphabetOf alphabet.system.now alphabet.texts.items };
 }
 
 impl<'a> Alphabet<'a> {
@@ -40,11 +42,11 @@ impl<'a> Alphabet<'a> {
         ensures valid { OnOk result (IsValid system.now) }
     {
         let texts = letter_texts(alloc, system)?;
-        let numbers = index_of(alloc, &texts)?;
+        let places = places_of(alloc, texts.as_slice())?;
         Ok(Alphabet {
             system,
             texts,
-            numbers,
+            places,
         })
     }
 
@@ -88,12 +90,24 @@ impl<'a> Alphabet<'a> {
         text.as_slice()
     }
 
-    /// The letter with this text, if there is one.
-    pub fn letter(&self, text: &[u8]) -> Option<u32>
+    /// The number of the letter with this text, if there is one.
+    pub fn letter(&self, text: &[u8]) -> Option<usize>
         ensures { result ≡ position (bytes_eq text.now) (letter_texts self.now.sections) }
     {
-        self.numbers.get(text).copied()
+        if let Some(place) = self.places.get(text).copied() {
+            if place < self.texts.len() && is(text, self.texts[place].as_slice()) {
+                return Some(place);
+            }
+        }
+        place_in(self.texts.as_slice(), text)
     }
+}
+
+/// The place of the first of these texts with the bytes, if there is one.
+fn place_in(texts: &[Vec<u8>], bytes: &[u8]) -> Option<usize>
+    ensures { result ≡ position (λ text. bytes_eq bytes.now text.items) texts.now }
+{
+    texts.iter().position(|text| is(bytes, text.as_slice()))
 }
 
 /// The texts of all letters, in the order of their numbers.
@@ -133,16 +147,11 @@ fn joined(alloc: Global, section: &str, letter: &str) -> Result<Vec<u8>, AllocEr
     Ok(text)
 }
 
-/// The place of each text, by the text.
-fn index_of(alloc: Global, texts: &[Vec<u8>]) -> Result<HashMap<Vec<u8>, u32>, AllocError>
-    requires { length texts.now < 2 ^ 32 }
-    ensures { IfOk result (λ places. IsIndexOf (lists_of texts.now) places) }
-{
+/// The place of each text.
+fn places_of(alloc: Global, texts: &[Vec<u8>]) -> Result<HashMap<Vec<u8>, usize>, AllocError> {
     let mut places = HashMap::new(alloc);
-    let mut place = 0;
-    'texts: for text in texts {
-        places.insert(Vec::from_slice(alloc, text)?, place)?;
-        place += 1;
+    'texts: for place in 0..texts.len() {
+        places.insert(Vec::from_slice(alloc, texts[place].as_slice())?, place)?;
     }
     Ok(places)
 }

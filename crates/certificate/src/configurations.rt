@@ -10,10 +10,13 @@ ghost use Rattle.certificate.specs.Configurations.{configuration, list, of_secti
 
 use crate::alphabet::Alphabet;
 use crate::words::{Name, is, place_among};
-use lines::{After, Cut, Fields, Form, FormOf, Means, Meant, Names, Numbered, OrEmpty, read_each};
+use lines::{
+    Case, Cut, Fields, Form, FormOf, Means, Meant, Names, NoLine, Numbered, OrEmpty, read_each,
+};
 use protocol_model::{Configuration, Rule, Section};
 use sequence::Sequence;
 use std::alloc::{AllocError, Global};
+use std::marker::PhantomData;
 use std::slice::from_ref;
 
 /// The letters of a section.
@@ -56,19 +59,12 @@ impl<'a> Names for Rules<'a> {
     ghost names = { λ x. map (λ rule. rule.name) x.0.now.rules };
 
     fn place_of(&self, bytes: &[u8]) -> Option<usize> {
-        rule_called(self.0.rules(), bytes)
+        rule_place(self.0.rules(), bytes)
     }
 
     fn count(&self) -> usize {
         self.0.rules().len()
     }
-}
-
-/// The place of the first rule with this name, if there is one.
-fn rule_called(rules: &[Rule], name: &[u8]) -> Option<usize>
-    ensures { result ≡ position (bytes_eq name.now) (map (λ rule. rule.name) rules.now) }
-{
-    rule_place(rules, name)
 }
 
 /// The place of the first rule with this name, if there is one.
@@ -190,7 +186,7 @@ impl FormOf for Parts {
         bytes: &[u8],
     ) -> Result<Option<Sequence<u32>>, AllocError> {
         let name = Numbered(Called(section), Name);
-        let parts = Cut(b':', name, After(b" ", List(section)));
+        let parts = Cut(b':', name, Case(b" ", List(section), NoLine(PhantomData)));
         Means(parts, OfSection(section)).read(alloc, bytes)
     }
 }

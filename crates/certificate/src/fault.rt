@@ -4,7 +4,7 @@
 ghost use Rattle.std.specs.Prelude.{◌≡◌};
 ghost use Rattle.certificate.specs.declared.fault.CertFault.TheVariants.{Memory};
 
-use std::alloc::{AllocError, AllocFailed};
+use std::alloc::AllocError;
 use thiserror::Error;
 
 /// Why a text is no certificate, with the number of the first line that has a fault. Lines are counted from 1.
@@ -64,14 +64,6 @@ impl From<AllocError> for CertFault {
     ghost from_gives = { λ _ e. e ≡ Memory };
 
     fn from(_e: AllocError) -> CertFault {
-        CertFault::Memory
-    }
-}
-
-impl<T: Drop> From<AllocFailed<T>> for CertFault {
-    ghost from_gives = { λ _ e. e ≡ Memory };
-
-    fn from(_e: AllocFailed<T>) -> CertFault {
         CertFault::Memory
     }
 }

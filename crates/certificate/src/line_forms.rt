@@ -10,7 +10,7 @@ use crate::alphabet::Alphabet;
 use crate::configurations::{Configurations, Rules};
 use crate::said::{Kind, Place, Said};
 use crate::words::{Letter, Name};
-use lines::{After, Case, Cut, Fields, Form, Just, Means, Meant, NoLine, Number, Numbered};
+use lines::{Case, Cut, Fields, Form, Just, Means, Meant, NoLine, Number, Numbered};
 use protocol_model::Configuration;
 use sequence::Sequence;
 use std::alloc::{AllocError, Global};
@@ -178,31 +178,33 @@ pub fn read_line<'a>(
 ) -> Result<Option<Said>, AllocError>
     ensures { IfOk result (IsReading (line_at alphabet.now place) line.now) }
 {
-    let states = After(b"states ", Means(COUNT, SaysStates));
-    let accepting = Means(STATE, SaysFinal);
-    let end = Means(Just(b"end", (), NoLine(PhantomData)), SaysEnd);
     let letter = Letter(alphabet);
     let configuration = Configurations(alphabet);
+    let states = Case(b"states ", Means(COUNT, SaysStates), NoLine(PhantomData));
+    let end = Means(Just(b"end", (), NoLine(PhantomData)), SaysEnd);
+    let others = Case(b"final ", Means(STATE, SaysFinal), end);
     match place {
         Place::Title => {
             let unknown = Just(b"unknown", Kind::Unknown, NoLine(PhantomData));
             let kind = Just(b"safe", Kind::Safe, Just(b"unsafe", Kind::Unsafe, unknown));
             let fields = Cut(b' ', Number { limit: 3 }, kind);
-            Means(After(b"armc ", fields), SaysTitle).read(alloc, line)
+            let title = Case(b"armc ", fields, NoLine(PhantomData));
+            Means(title, SaysTitle).read(alloc, line)
         }
         Place::States => states.read(alloc, line),
         Place::Letters => { Case(b"letter ", Means(letter, SaysLetter), states).read(alloc, line) }
         Place::NamedEdges => {
             let edge = Cut(b' ', STATE, Cut(b' ', letter, STATE));
-            let others = Case(b"edge ", Means(edge, SaysEdge), end);
-            Case(b"final ", accepting, others).read(alloc, line)
+            Case(b"edge ", Means(edge, SaysEdge), others).read(alloc, line)
         }
         Place::IndexedEdges => {
             let edge = Cut(b' ', STATE, Cut(b' ', STATE, Fields(b' ', STATE)));
-            let others = Case(b"edge ", Means(edge, SaysEdges), end);
-            Case(b"final ", accepting, others).read(alloc, line)
+            Case(b"edge ", Means(edge, SaysEdges), others).read(alloc, line)
         }
-        Place::Start => { After(b"start ", Means(configuration, SaysStart)).read(alloc, line) }
+        Place::Start => {
+            let start = Means(configuration, SaysStart);
+            Case(b"start ", start, NoLine(PhantomData)).read(alloc, line)
+        }
         Place::Steps => {
             let rule = Numbered(Rules(alphabet), Name);
             let step = Means(Cut(b' ', rule, configuration), SaysStep);

@@ -7,8 +7,8 @@ ghost use Rattle.protocol_model.specs.Patterns.{fits};
 ghost use Rattle.protocol_model.specs.System.{SystemData};
 ghost use Rattle.lines.specs.Reading.{HasEffect};
 ghost use Rattle.certificate.specs.declared.said.Said.TheVariants as S;
-ghost use Rattle.certificate.specs.Stages.{Stage, after_states, certificate, effect, titled, with_edge, with_edges};
-ghost use Rattle.certificate.specs.private.Kept.{HasLines, IsKept, IsTitled};
+ghost use Rattle.certificate.specs.Stages.{Stage, after_states, certificate, titled, with_edge, with_edges};
+ghost use Rattle.certificate.specs.private.Kept.{HasLines, IsKept, IsTitled, Takes};
 
 use crate::alphabet::Alphabet;
 use crate::line_forms::read_line;
@@ -66,33 +66,30 @@ impl<'a> TextForm for Certificates<'a> {
         said: Said,
     ) -> Result<Next<What>, AllocError> {
         match said {
-            Said::Title(version, kind) => Ok(take_title(read, version, kind)),
+            Said::Title(version, kind) => take_title(read, version, kind),
             Said::Letter(letter) => take_letter(self.0, read, letter),
             Said::States(count) => take_states(alloc, self.0, read, count),
-            Said::Final(state) => Ok(take_final(read, state)),
+            Said::Final(state) => take_final(read, state),
             Said::Edge(from, letter, to) => add_edge(self.0, read, from, letter, to),
             Said::Edges(from, to, indices) => {
                 take_edges(self.0, read, from, to, indices.as_slice())
             }
             Said::End => Ok(Next::End),
-            Said::Start(configuration) => Ok(take_start(self.0.system(), read, configuration)),
-            Said::Step(rule, configuration) => {
-                take_step(self.0.system(), read, rule, configuration)
-            }
+            Said::Start(configuration) => take_start(self.0, read, configuration),
+            Said::Step(rule, configuration) => take_step(self.0, read, rule, configuration),
         }
     }
 }
 
-fn take_title(read: &mut Reading, version: u32, kind: Kind) -> Next<What>
-    ensures { (s : SystemData) (t : Stage) → IsKept s t read.old
-        → HasEffect (IsKept s) (effect s t (S.Title version kind)) t read.new result }
+fn take_title(read: &mut Reading, version: u32, kind: Kind) -> Result<Next<What>, AllocError>
+    ensures { (s : SystemData) → Takes s read.old (S.Title version kind) result read.new }
 {
     match titled(version, kind) {
         Ok(place) => {
             read.place = place;
-            Next::More
+            Ok(Next::More)
         }
-        Err(what) => Next::Fails(what),
+        Err(what) => Ok(Next::Fails(what)),
     }
 }
 
@@ -122,8 +119,7 @@ fn take_letter(
     read: &mut Reading,
     letter: u32,
 ) -> Result<Next<What>, AllocError>
-    ensures { (t : Stage) → IsKept alphabet.now t read.old
-        → IfOk result (HasEffect (IsKept alphabet.now) (effect alphabet.now t (S.Letter letter)) t read.new) }
+    ensures { Takes alphabet.now read.old (S.Letter letter) result read.new }
 {
     let size = alphabet.size();
     if letter >= size {
@@ -148,8 +144,7 @@ fn take_states(
     read: &mut Reading,
     count: u32,
 ) -> Result<Next<What>, AllocError>
-    ensures { (t : Stage) → IsKept alphabet.now t read.old
-        → IfOk result (HasEffect (IsKept alphabet.now) (effect alphabet.now t (S.States count)) t read.new) }
+    ensures { Takes alphabet.now read.old (S.States count) result read.new }
 {
     if count > MAX_STATES {
         return Ok(Next::Fails(What::TooMany));
@@ -181,13 +176,12 @@ fn after_states(place: Place) -> Place
     }
 }
 
-fn take_final(read: &mut Reading, state: u32) -> Next<What>
-    ensures { (s : SystemData) (t : Stage) → IsKept s t read.old
-        → HasEffect (IsKept s) (effect s t (S.Final state)) t read.new result }
+fn take_final(read: &mut Reading, state: u32) -> Result<Next<What>, AllocError>
+    ensures { (s : SystemData) → Takes s read.old (S.Final state) result read.new }
 {
     match read.builder.accept(state as usize) {
-        Ok(()) => Next::More,
-        Err(_) => Next::Fails(What::OutOfRange),
+        Ok(()) => Ok(Next::More),
+        Err(_) => Ok(Next::Fails(What::OutOfRange)),
     }
 }
 
@@ -227,8 +221,7 @@ fn take_edges(
     to: u32,
     indices: &[u32],
 ) -> Result<Next<What>, AllocError>
-    ensures { (t : Stage) → IsKept alphabet.now t read.old
-        → IfOk result (HasEffect (IsKept alphabet.now) (effect alphabet.now t (S.Edges from to indices.now)) t read.new) }
+    ensures { Takes alphabet.now read.old (S.Edges from to indices.now) result read.new }
 {
     let bound = read.letters.as_slice().len();
     let states = read.builder.states();
@@ -259,28 +252,30 @@ fn add_edges(
     Ok(Next::More)
 }
 
-fn take_start(system: &System, read: &mut Reading, configuration: Configuration) -> Next<What>
-    ensures { (t : Stage) → IsKept system.now t read.old
-        → HasEffect (IsKept system.now) (effect system.now t (S.Start configuration)) t read.new result }
+fn take_start(
+    alphabet: &Alphabet<'_>,
+    read: &mut Reading,
+    configuration: Configuration,
+) -> Result<Next<What>, AllocError>
+    ensures { Takes alphabet.now read.old (S.Start configuration) result read.new }
 {
-    if !fits(system, &configuration) {
-        return Next::Fails(What::UnknownName);
+    if !fits(alphabet.system(), &configuration) {
+        return Ok(Next::Fails(What::UnknownName));
     }
     read.place = Place::Steps;
     read.first = configuration;
-    Next::More
+    Ok(Next::More)
 }
 
 fn take_step(
-    system: &System,
+    alphabet: &Alphabet<'_>,
     read: &mut Reading,
     rule: u32,
     configuration: Configuration,
 ) -> Result<Next<What>, AllocError>
-    ensures { (t : Stage) → IsKept system.now t read.old
-        → IfOk result (HasEffect (IsKept system.now) (effect system.now t (S.Step rule configuration)) t read.new) }
+    ensures { Takes alphabet.now read.old (S.Step rule configuration) result read.new }
 {
-    if !is_step(system, rule, &configuration) {
+    if !is_step(alphabet.system(), rule, &configuration) {
         return Ok(Next::Fails(What::UnknownName));
     }
     read.steps.push((rule, configuration))?;

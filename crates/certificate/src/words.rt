@@ -93,10 +93,7 @@ impl<'a> Names for Letters<'a> {
     ghost names = { λ x. letter_texts x.0.now.sections };
 
     fn place_of(&self, bytes: &[u8]) -> Option<usize> {
-        match self.0.letter(bytes) {
-            Some(letter) => Some(letter as usize),
-            None => None,
-        }
+        self.0.letter(bytes)
     }
 
     fn count(&self) -> usize {

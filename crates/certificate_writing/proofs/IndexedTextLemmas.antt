@@ -1,15 +1,25 @@
--- The text of edges that are sorted by target is that of their lines, target after target.
+-- The text of version 2 of an automaton. The text of edges that are sorted by target is that of their lines, target after target.
 use Rattle.std.proofs.Common.{◌≡◌, ℕ, zero, suc, ◌+◌, ◌<◌, ◌≤◌, Bool, true, false, List, [], ◌∷◌, ◌++◌, None, Some, All, cond, not, eqb, ltb}
-use Rattle.std.proofs.Common.{◌&&◌, codes, decimal, filter, flat_map, get_or, refl, sym, ap, ◌∙◌, arith, inl, inr}
+use Rattle.std.proofs.Common.{◌&&◌, codes, decimal, filter, flat_map, get_or, length, refl, sym, ap, ◌∙◌, arith, inl, inr}
 use Rattle.std.specs.List.{range_with_len}
 use Rattle.std.specs.List.Sorted.{IsNonDecreasingBy, IsStableByKey, ties}
 use Rattle.std.specs.Ordering.{is_lt, nat_cmp}
 use Rattle.std.specs.declared.cmp.Ordering.TheVariants.{Less, Equal, Greater}
 use Rattle.std.proofs.lemmas.Bool.{cases_eq, cases_order, cond-true, cond-false, eq-eqb, ne_eqb, lt-ltb, le-ltb}
-use Rattle.std.proofs.lemmas.List.{append_assoc}
+use Rattle.std.proofs.lemmas.List.{append_assoc, append-nil}
 use Rattle.std.proofs.lemmas.List.Elements.{All-head, All-tail, filter_agree}
 use Rattle.std.proofs.lemmas.List.Sorted.{All-permutation}
-use Rattle.certificate_writing.specs.private.IndexedWritingParts.{AreByTarget, has_target, line_start, sorted_text, text_between, indices_on}
+use Rattle.word_automata.specs.Path.{edges_of}
+use Rattle.word_automata.specs.Automaton.{Automaton, IsValid}
+use Rattle.protocol_model.specs.System.{SystemData}
+use Rattle.certificate.specs.SafeText.{line_text, lines_text}
+use Rattle.certificate_writing.specs.Writing.{final_states}
+use Rattle.certificate_writing.specs.private.WritingParts.{opening_text}
+use Rattle.certificate_writing.specs.IndexedWriting.{used_letters, indices_between, line_between, indexed_edges_from, indexed_edges, indexed_text}
+use Rattle.certificate_writing.specs.private.IndexedWritingParts.{AreByTarget, AreIndicesOf, has_target, line_start, sorted_text, text_between, indices_on, text_from}
+use Rattle.certificate_writing.proofs.Ranges.{flat_map_nested}
+use Rattle.certificate_writing.proofs.TextLemmas.{text_under-is}
+use Rattle.certificate_writing.proofs.LetterIndexLemmas.{indices_between-is}
 
 -- the targets do not fall
 abbrev Rise : List (ℕ × ℕ) → Type 0
@@ -170,3 +180,31 @@ stable_by_target edges sorted stable q =
     sym (filter_agree (ties key (0, q)) (has_target q) (ties_target q) sorted)
     ∙ stable (0, q)
     ∙ filter_agree (ties key (0, q)) (has_target q) (ties_target q) edges
+
+-- the text of version 2 of an automaton
+text_between-is : (s : SystemData) (p q : ℕ) (indices : List ℕ) → lines_text s (line_between p q indices) ≡ text_between p q indices
+text_between-is s p q [] = refl
+text_between-is s p q (i ∷ indices) = append-nil (text_between p q (i ∷ indices))
+
+module _ (s : SystemData) (m : Automaton) (valid : IsValid m) (indices : List ℕ) (h : AreIndicesOf (used_letters m) m.letters indices) where
+  text_from-is : (p : ℕ) → text_from indices m p ≡ lines_text s (indexed_edges_from m (used_letters m) p)
+  text_from-is p =
+      let between : ℕ → List ℕ = λ q. indices_between m (used_letters m) p q in
+      let same : (q : ℕ) → lines_text s (line_between p q (between q))
+      ≡ text_between p q (indices_on indices (filter (has_target q) (edges_of m.states p))) =
+      λ q. text_between-is s p q (between q) ∙ ap (text_between p q) (indices_between-is m valid indices h p q) in
+      sym (flat_map_nested (λ x. line_text s x ++ 10 ∷ []) (λ q. line_between p q (between q)) (range_with_len 0 (length m.states))
+      ∙ (λ i. flat_map (λ q. same q i) (range_with_len 0 (length m.states))))
+
+  edges_text-is : flat_map (text_from indices m) (range_with_len 0 (length m.states)) ≡ lines_text s (indexed_edges m (used_letters m))
+  edges_text-is =
+      (λ i. flat_map (λ p. text_from-is p i) (range_with_len 0 (length m.states)))
+      ∙ sym (flat_map_nested (λ x. line_text s x ++ 10 ∷ []) (indexed_edges_from m (used_letters m)) (range_with_len 0 (length m.states)))
+
+  pub indexed_text-is :
+      (opening_text (codes "armc 2 safe") (used_letters m) s m ++ flat_map (text_from indices m) (range_with_len 0 (length m.states)))
+      ++ (codes "end" ++ 10 ∷ [])
+      ≡ indexed_text s m
+  indexed_text-is =
+      ap (λ text. (opening_text (codes "armc 2 safe") (used_letters m) s m ++ text) ++ (codes "end" ++ 10 ∷ [])) edges_text-is
+      ∙ text_under-is (codes "armc 2 safe") (used_letters m) s (length m.states) (final_states m) (indexed_edges m (used_letters m))

@@ -1,13 +1,13 @@
 -- The indices of the letters that lead from one state to another, by its edges and the index of each letter.
-use Rattle.std.proofs.Common.{◌≡◌, ℕ, zero, suc, ◌+◌, ◌<◌, ◌≤◌, Bool, true, false, List, [], ◌∷◌, Option, None, Some, All, Contains, length, map}
+use Rattle.std.proofs.Common.{◌≡◌, ℕ, zero, suc, ◌+◌, ◌<◌, ◌≤◌, ◌||◌, take, Bool, true, false, List, [], ◌∷◌, Option, None, Some, All, Contains, length, map}
 use Rattle.std.proofs.Common.{cond, eqb, filter, get_or, refl, sym, ap, subst, ◌∙◌, arith, inl, inr}
-use Rattle.std.specs.List.{range_with_len}
+use Rattle.std.specs.List.{list_any, range_with_len}
 use Rattle.std.proofs.lemmas.Bool.{cases_eq, cases_Bool, cond-false, eq-eqb, eqb-true, false≢true, true≢false}
 use Rattle.std.proofs.lemmas.List.Elements.{All-head, All-tail, All-cons, All-nil, All-weaker}
-use Rattle.std.proofs.lemmas.List.Folds.{list_any_at}
+use Rattle.std.proofs.lemmas.List.Folds.{list_any_at, list_any_more}
 use Rattle.word_automata.specs.Path.{Node, edges_of}
 use Rattle.word_automata.specs.Automaton.{Automaton, find_target, target, HasIncreasingLetters, IsValid}
-use Rattle.word_automata.proofs.ForCallers.{found_edge, leads_within, All-edges_of, ordered_edges}
+use Rattle.word_automata.proofs.ForCallers.{found_edge, leads_within, All-edges_of, edges_of-get_or, ordered_edges}
 use Rattle.certificate_writing.specs.IndexedWriting.{has_letter, labels_edge, used_letters, leads_to, indices_between}
 use Rattle.certificate_writing.specs.private.IndexedWritingParts.{AreIndicesOf, has_target, indices_on}
 use Rattle.certificate.proofs.ForCallers.{first_target, later_target, below_target}
@@ -20,11 +20,6 @@ leads_is (Some r) q h = ap Some (eqb-true r q h)
 pub leads_at : (o : Option ℕ) (q : ℕ) → o ≡ Some q → leads_to o q ≡ true
 leads_at o q e = ap (λ o. leads_to o q) e ∙ eq-eqb q q refl
 
-pub edges_at : (states : List (Node ℕ)) (p : ℕ) (d : Node ℕ) → p < length states → edges_of states p ≡ (get_or states p d).edges
-edges_at [] p d l = absurd (omega arith)
-edges_at (node ∷ states) zero d l = refl
-edges_at (node ∷ states) (suc p) d l = edges_at states p d (omega arith)
-
 -- a letter that leads somewhere labels an edge
 pub leads_labels : (m : Automaton) (p a r : ℕ) → target m p a ≡ Some r → labels_edge m a ≡ true
 leads_labels m p a r leads =
@@ -35,7 +30,16 @@ leads_labels m p a r leads =
     let has : has_letter edges a ≡ true = list_any_at (λ edge. eqb edge.0 a) edges found.0 (a, r) found.1 (eq-eqb _ a same) in
     let within : p < length m.states = leads_within m p a r leads in
     list_any_at (λ node. has_letter node.edges a) m.states p none within
-    (subst (λ (es : List (ℕ × ℕ)). has_letter es a ≡ true) (edges_at m.states p none within) has)
+    (subst (λ (es : List (ℕ × ℕ)). has_letter es a ≡ true) (edges_of-get_or m.states p none within) has)
+
+-- a letter is on an edge of one more state
+pub labels_more : (states : List (Node ℕ)) (i a : ℕ) → i < length states
+    → (list_any (λ node. has_letter node.edges a) (take i states) || has_letter (edges_of states i) a)
+    ≡ list_any (λ node. has_letter node.edges a) (take (i + 1) states)
+labels_more states i a l =
+    let none : Node ℕ = record { accepting = false; edges = [] } in
+    ap (λ edges. list_any (λ node. has_letter node.edges a) (take i states) || has_letter edges a) (edges_of-get_or states i none l)
+    ∙ sym (list_any_more (λ node. has_letter node.edges a) states i none l)
 
 -- of letters from one on, those that lead to q are those of the edges to q
 module _ (leads : ℕ → Bool) (index : ℕ → ℕ) (q : ℕ) where

@@ -1,9 +1,6 @@
-mod IndexedLineLemmas
 mod IndexedMeaningLemmas
 mod IndexedTextLemmas
 mod LetterIndexLemmas
-mod LetterTableLemmas
-mod RunWritingLemmas
-mod WritingLemmas
+mod Ranges
 mod WrittenLemmas
 mod TextLemmas

@@ -1,12 +1,19 @@
 -- The texts of automata and runs, piece by piece.
-use Rattle.std.proofs.Common.{◌≡◌, ℕ, List, [], ◌∷◌, ◌++◌, map, flat_map, codes, ap, ◌∙◌}
-use Rattle.std.proofs.lemmas.List.{append_assoc}
+use Rattle.std.proofs.Common.{◌≡◌, ℕ, Bool, true, false, List, [], ◌∷◌, ◌++◌, ◌+◌, cond, filter, length, map, flat_map, codes, refl, sym, ap, ◌∙◌}
+use Rattle.std.specs.List.{range_with_len}
+use Rattle.std.proofs.lemmas.List.{append_assoc, append-nil}
 use Rattle.std.proofs.lemmas.List.Concat.{flat_map-append}
 use Rattle.std.proofs.lemmas.List.Folds.{flat_map-map}
-use Rattle.protocol_model.specs.declared.system.Configuration.{Configuration}
+use Rattle.word_automata.specs.Path.{edges_of}
+use Rattle.word_automata.specs.Automaton.{Automaton}
+use Rattle.protocol_model.specs.declared.system.Run.{Run}
 use Rattle.protocol_model.specs.System.{SystemData}
-use Rattle.certificate.specs.RunText.{step_line, steps_text}
-use Rattle.certificate.specs.SafeText.{Line, Version, all_said, body_text, letter_line, letters_of, line_text, lines_text, opening_text, safe_text, said_by, states_line}
+use Rattle.configuration_words.specs.Texts.{configuration_text}
+use Rattle.certificate.specs.RunText.{run_text, start_line, step_line, steps_text}
+use Rattle.certificate.specs.SafeText.{Line, Final, letter_line, letters_text, line_text, lines_text, states_line, text_under}
+use Rattle.certificate_writing.specs.Writing.{automaton_text, edge_lines, final_states, lines_from}
+use Rattle.certificate_writing.specs.private.WritingParts.{final_text, named_text_from, opening_text}
+use Rattle.certificate_writing.proofs.Ranges.{filter_range_more, flat_map_nested}
 
 -- each line of a text with a line feed
 abbrev ended : List (List ℕ) → List ℕ
@@ -19,17 +26,61 @@ module _ {X : Type 0} (text : X → List ℕ) where
       flat_map-append (λ line. line ++ 10 ∷ []) (map text xs) last
       ∙ ap (λ front. front ++ ended last) (flat_map-map (λ line. line ++ 10 ∷ []) text xs)
 
-pub body_text-is_lines : (s : SystemData) (lines : List Line) → body_text s lines ≡ lines_text s lines ++ (codes "end" ++ 10 ∷ [])
-body_text-is_lines s lines = ended-append (line_text s) lines (codes "end" ∷ [])
+-- the text of a run under a first line
+pub run_text-is : (first : List ℕ) (s : SystemData) (run : Run)
+    → (((first ++ 10 ∷ codes "start ") ++ (configuration_text s run.first ++ 10 ∷ [])) ++ steps_text s run.steps) ++ (codes "end" ++ 10 ∷ [])
+    ≡ run_text first s run
+run_text-is first s run =
+    let end : List ℕ = codes "end" ++ 10 ∷ [] in
+    let start : List ℕ = configuration_text s run.first ++ 10 ∷ [] in
+    let steps = steps_text s run.steps in
+    append_assoc ((first ++ 10 ∷ codes "start ") ++ start) steps end
+    ∙ append_assoc (first ++ 10 ∷ codes "start ") start (steps ++ end)
+    ∙ append_assoc first (10 ∷ codes "start ") (start ++ (steps ++ end))
+    ∙ sym (append_assoc first (10 ∷ []) ((start_line s run.first ++ 10 ∷ []) ++ (steps ++ end)))
+    ∙ ap (λ rest. (first ++ 10 ∷ []) ++ ((start_line s run.first ++ 10 ∷ []) ++ rest)) (sym (ended-append (step_line s) run.steps (codes "end" ∷ [])))
 
-pub lines_of_steps : (s : SystemData) (steps : List (ℕ × Configuration))
-    → ended (map (step_line s) steps ++ codes "end" ∷ []) ≡ steps_text s steps ++ (codes "end" ++ 10 ∷ [])
-lines_of_steps s steps = ended-append (step_line s) steps (codes "end" ∷ [])
+regrouped : (f l s p q n : List ℕ) → ((((f ++ l) ++ s) ++ p) ++ q) ++ n ≡ f ++ (l ++ (s ++ ((p ++ q) ++ n)))
+regrouped f l s p q n = simp append_assoc
 
-pub all_said-append : (v : Version) (lines later : List Line) → all_said v (lines ++ later) ≡ all_said v lines ++ all_said v later
-all_said-append v lines later = flat_map-append (said_by v) lines later
+-- the text of an automaton under a first line
+pub text_under-is : (first letters : List ℕ) (s : SystemData) (count : ℕ) (states : List ℕ) (later : List Line)
+    → (((((first ++ 10 ∷ []) ++ letters_text s letters) ++ (states_line count ++ 10 ∷ [])) ++ flat_map final_text states) ++ lines_text s later)
+    ++ (codes "end" ++ 10 ∷ [])
+    ≡ text_under first letters s count (map Final states ++ later)
+text_under-is first letters s count states later =
+    let named = letters_text s letters in
+    let counted : List ℕ = states_line count ++ 10 ∷ [] in
+    let end : List ℕ = codes "end" ++ 10 ∷ [] in
+    let lines : List Line = map Final states ++ later in
+    let both : lines_text s lines ≡ flat_map final_text states ++ lines_text s later =
+    flat_map-append (λ x. line_text s x ++ 10 ∷ []) (map Final states) later
+    ∙ ap (λ text. text ++ lines_text s later) (flat_map-map (λ x. line_text s x ++ 10 ∷ []) Final states) in
+    regrouped (first ++ 10 ∷ []) named counted (flat_map final_text states) (lines_text s later) end
+    ∙ ap (λ text. (first ++ 10 ∷ []) ++ text)
+    (ap (λ text. named ++ (counted ++ text)) (ap (λ text. text ++ end) (sym both) ∙ sym (ended-append (line_text s) lines (codes "end" ∷ [])))
+    ∙ sym (ended-append (letter_line s) letters (states_line count ∷ (map (line_text s) lines ++ codes "end" ∷ []))))
 
-pub safe_text-is : (v : Version) (s : SystemData) (count : ℕ) (lines : List Line)
-    → safe_text v s count lines ≡ opening_text v s count ++ body_text s lines
-safe_text-is v s count lines =
-    simp (ended-append (letter_line s) (letters_of v) (states_line count ∷ (map (line_text s) lines ++ codes "end" ∷ [])), append_assoc)
+pub automaton_text-is : (first : List ℕ) (s : SystemData) (m : Automaton)
+    → (opening_text first [] s m ++ flat_map (named_text_from s m) (range_with_len 0 (length m.states))) ++ (codes "end" ++ 10 ∷ [])
+    ≡ automaton_text first s m
+automaton_text-is first s m =
+    let edges = flat_map_nested (λ x. line_text s x ++ 10 ∷ []) (λ p. lines_from p (edges_of m.states p)) (range_with_len 0 (length m.states)) in
+    ap (λ text. (opening_text first [] s m ++ text) ++ (codes "end" ++ 10 ∷ [])) (sym edges)
+    ∙ text_under-is first [] s (length m.states) (final_states m) (edge_lines m)
+
+-- one more state's line is written, where it accepts
+pub finals_more : (text : List ℕ) (p : ℕ → Bool) (i : ℕ)
+    → (text ++ flat_map final_text (filter p (range_with_len 0 i))) ++ cond (p i) (final_text i) []
+    ≡ text ++ flat_map final_text (filter p (range_with_len 0 (i + 1)))
+finals_more text p i =
+    let before = filter p (range_with_len 0 i) in
+    append_assoc text (flat_map final_text before) (cond (p i) (final_text i) [])
+    ∙ ap (λ all. text ++ all)
+    (ap (λ last. flat_map final_text before ++ last) (one (p i))
+    ∙ sym (flat_map-append final_text before (cond (p i) (i ∷ []) []))
+    ∙ ap (flat_map final_text) (sym (filter_range_more p i)))
+  where
+    one : (b : Bool) → cond b (final_text i) [] ≡ flat_map final_text (cond b (i ∷ []) [])
+    one true = sym (append-nil (final_text i))
+    one false = refl

@@ -43,7 +43,7 @@ indexed_edges m letters = flat_map (indexed_edges_from m letters) (range_with_le
 
 -- the lines of an automaton: those of its accepting states, and then those of its edges
 abbrev pub indexed_lines : Automaton → List ℕ → List Line
-indexed_lines m letters = map Final (final_states 0 m.states) ++ indexed_edges m letters
+indexed_lines m letters = map Final (final_states m) ++ indexed_edges m letters
 
 -- the text of version 2 of an automaton
 abbrev pub indexed_text : SystemData → Automaton → List ℕ

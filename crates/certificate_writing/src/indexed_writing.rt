@@ -1,17 +1,16 @@
 //! The text of version 2 of an automaton. The edges of each state are sorted by target, and those to the same state stay in the order of
 //! their letters, so that the indices of a line increase. Time is linear in the states, the letters and the text, up to this sorting.
 
-ghost use Rattle.std.specs.Prelude.{◌≡◌, ◌<◌, ◌≤◌, ◌++◌, ◌∷◌, [], All, IfOk, OnOk, None, length, flat_map};
-ghost use Rattle.std.specs.Prelude.{codes, decimal};
+ghost use Rattle.std.specs.Prelude.{◌≡◌, ◌<◌, ◌≤◌, ◌++◌, All, IfOk, OnOk, None, codes, decimal, length, flat_map};
 ghost use Rattle.std.specs.List.{range_with_len};
 ghost use Rattle.protocol_model.specs.Words.{automata_letters};
-ghost use Rattle.certificate.specs.SafeText.{letter_line, MeansAutomaton, letters_text, states_line};
+ghost use Rattle.certificate.specs.SafeText.{MeansAutomaton};
 ghost use Rattle.certificate_writing.specs.IndexedWriting.{indexed_text, used_letters};
 ghost use Rattle.certificate_writing.specs.private.IndexedWritingParts.{AreByTarget, AreIndicesOf, before_index, line_start, sorted_text};
 ghost use Rattle.certificate_writing.specs.private.IndexedWritingParts.{text_from};
 
 use crate::letter_table::{indices_of, used_letters};
-use crate::writing::{push_final_states, push_number};
+use crate::writing::{opening, push_number};
 use certificate::Alphabet;
 use protocol_model::System;
 use std::alloc::{AllocError, Global};
@@ -63,46 +62,11 @@ fn text_by_table(
     requires indices { AreIndicesOf letters.now proof.now.letters indices.now }
     ensures { IfOk result (λ text. text.items ≡ indexed_text alphabet.now proof.now) }
 {
-    let count = proof.states();
-    let mut text = Vec::from_slice(alloc, b"armc 2 safe\n")?;
-    push_letters(&mut text, alphabet, letters)?;
-    push_states_line(&mut text, count)?;
-    push_final_states(&mut text, proof)?;
+    let _states = proof.states();
+    let mut text = opening(alloc, "armc 2 safe", alphabet, letters, proof)?;
     push_edges(alloc, &mut text, indices, proof)?;
     text.extend_from_slice(b"end\n")?;
     Ok(text)
-}
-
-/// Adds the lines that name the letters.
-fn push_letters(text: &mut Vec<u8>, alphabet: &Alphabet, letters: &[u32]) -> Result<(), AllocError>
-    requires { All (λ a. a < automata_letters alphabet.now) letters.now }
-    ensures { OnOk result (text.new.items ≡ text.old.items ++ letters_text alphabet.now letters.now) }
-{
-    'letters: for letter in letters {
-        push_letter(text, alphabet, *letter)?;
-    }
-    Ok(())
-}
-
-/// Adds the line that names a letter.
-fn push_letter(text: &mut Vec<u8>, alphabet: &Alphabet, letter: u32) -> Result<(), AllocError>
-    requires { letter < automata_letters alphabet.now }
-    ensures { OnOk result (text.new.items ≡ text.old.items ++ (letter_line alphabet.now letter ++ 10 ∷ [])) }
-{
-    text.extend_from_slice(b"letter ")?;
-    text.extend_from_slice(alphabet.text(letter))?;
-    text.push(b'\n')?;
-    Ok(())
-}
-
-/// Adds the line on states.
-fn push_states_line(text: &mut Vec<u8>, count: usize) -> Result<(), AllocError>
-    ensures { OnOk result (text.new.items ≡ text.old.items ++ (states_line count ++ 10 ∷ [])) }
-{
-    text.extend_from_slice(b"states ")?;
-    push_number(text, count)?;
-    text.push(b'\n')?;
-    Ok(())
 }
 
 /// Adds the lines of all edges. The letters have these indices.

@@ -4,8 +4,7 @@
 ghost use Rattle.std.specs.Prelude.{◌≡◌, ◌++◌, ◌∷◌, ◌<◌, [], All, IfOk, OnOk, IsTrue, length};
 ghost use Rattle.protocol_model.specs.Patterns.{fits};
 ghost use Rattle.configuration_words.specs.Texts.{configuration_text};
-ghost use Rattle.certificate.specs.RunText.{rule_name, step_line, IsRunOf, IsStepOf, MeansRun, steps_text};
-ghost use Rattle.certificate_writing.specs.Writing.{run_text};
+ghost use Rattle.certificate.specs.RunText.{rule_name, step_line, IsRunOf, IsStepOf, MeansRun, run_text, steps_text, unsafe_text};
 
 use configuration_words::configuration_text;
 use protocol_model::{Configuration, Run, System};
@@ -15,8 +14,10 @@ use std::alloc::{AllocError, Global};
 /// configuration after it. The only error is that memory ran out.
 pub fn write_unsafe(alloc: Global, system: &System, run: &Run) -> Result<Vec<u8>, AllocError>
     requires { IsRunOf system.now run.now }
-    ensures { IfOk result (λ text. MeansRun system.now text.items run.now) }
+    ensures text { IfOk result (λ text. text.items ≡ unsafe_text system.now run.now) }
+    ensures meaning { IfOk result (λ text. MeansRun system.now text.items run.now) }
 {
+    let _rules = system.rules.len();
     let text = write_run(alloc, "armc 1 unsafe", system, run)?;
     Ok(text)
 }

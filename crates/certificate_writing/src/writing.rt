@@ -1,13 +1,13 @@
 //! The texts of an automaton and of a search that reached its budget. The states are gone over twice, for the accepting ones and for the
 //! edges; time is linear in the states, the letters and the text.
 
-ghost use Rattle.std.specs.Prelude.{◌≡◌, ◌++◌, ◌∷◌, ◌<◌, ◌≤◌, ℕ, [], All, IfOk, OnOk, decimal, length, flat_map};
-ghost use Rattle.std.specs.Prelude.{if◌then◌else◌};
+ghost use Rattle.std.specs.Prelude.{◌≡◌, ◌++◌, ◌∷◌, ◌<◌, ◌≤◌, [], All, IfOk, OnOk, decimal, length, flat_map, if◌then◌else◌};
+ghost use Rattle.std.specs.List.{range_with_len};
 ghost use Rattle.word_automata.specs.Path.{is_accepting};
 ghost use Rattle.protocol_model.specs.Words.{automata_letters};
-ghost use Rattle.certificate.specs.SafeText.{Edge, line_text, MeansAutomaton, lines_text};
-ghost use Rattle.certificate_writing.specs.Writing.{final_states, lines_from, edge_lines, automaton_text, written_text, counted_text, unknown_text};
-ghost use Rattle.certificate_writing.specs.private.WritingParts.{final_text};
+ghost use Rattle.certificate.specs.SafeText.{Edge, MeansAutomaton, letter_line, letters_text, line_text, lines_text, states_line};
+ghost use Rattle.certificate_writing.specs.Writing.{final_states, lines_from, automaton_text, written_text, counted_text, unknown_text};
+ghost use Rattle.certificate_writing.specs.private.WritingParts.{final_text, named_text_from, opening_text};
 
 use certificate::Alphabet;
 use itoa::Buffer;
@@ -41,11 +41,30 @@ pub fn write_automaton(
     ensures { IfOk result (λ text. text.items ≡ automaton_text first.now system.now proof.now) }
 {
     let alphabet = Alphabet::new(alloc, system)?;
-    let count = proof.states();
-    let mut text = format!(in alloc; "{first}\nstates {count}\n")?.into_bytes();
-    push_final_states(&mut text, proof)?;
+    let mut text = opening(alloc, first, &alphabet, &[], proof)?;
     push_edges(&mut text, &alphabet, proof)?;
     text.extend_from_slice(b"end\n")?;
+    Ok(text)
+}
+
+/// The text before the lines of edges: this line, those that name the letters, the number of states, and the accepting states by
+/// increasing number.
+pub fn opening(
+    alloc: Global,
+    first: &str,
+    alphabet: &Alphabet,
+    letters: &[u32],
+    proof: &Dfa,
+) -> Result<Vec<u8>, AllocError>
+    requires { All (λ a. a < automata_letters alphabet.now) letters.now }
+    ensures { IfOk result (λ text. text.items ≡ opening_text first.now letters.now alphabet.now proof.now) }
+{
+    let count = proof.states();
+    let mut text = Vec::from_slice(alloc, first.as_bytes())?;
+    text.push(b'\n')?;
+    push_letters(&mut text, alphabet, letters)?;
+    push_states_line(&mut text, count)?;
+    push_final_states(&mut text, proof)?;
     Ok(text)
 }
 
@@ -69,9 +88,41 @@ pub fn write_counted(
     Ok(text.into_bytes())
 }
 
+/// Adds the lines that name the letters.
+fn push_letters(text: &mut Vec<u8>, alphabet: &Alphabet, letters: &[u32]) -> Result<(), AllocError>
+    requires { All (λ a. a < automata_letters alphabet.now) letters.now }
+    ensures { OnOk result (text.new.items ≡ text.old.items ++ letters_text alphabet.now letters.now) }
+{
+    'letters: for letter in letters {
+        push_letter(text, alphabet, *letter)?;
+    }
+    Ok(())
+}
+
+/// Adds the line that names a letter.
+fn push_letter(text: &mut Vec<u8>, alphabet: &Alphabet, letter: u32) -> Result<(), AllocError>
+    requires { letter < automata_letters alphabet.now }
+    ensures { OnOk result (text.new.items ≡ text.old.items ++ (letter_line alphabet.now letter ++ 10 ∷ [])) }
+{
+    text.extend_from_slice(b"letter ")?;
+    text.extend_from_slice(alphabet.text(letter))?;
+    text.push(b'\n')?;
+    Ok(())
+}
+
+/// Adds the line on states.
+fn push_states_line(text: &mut Vec<u8>, count: usize) -> Result<(), AllocError>
+    ensures { OnOk result (text.new.items ≡ text.old.items ++ (states_line count ++ 10 ∷ [])) }
+{
+    text.extend_from_slice(b"states ")?;
+    push_number(text, count)?;
+    text.push(b'\n')?;
+    Ok(())
+}
+
 /// Adds the lines of all accepting states.
-pub fn push_final_states(text: &mut Vec<u8>, proof: &Dfa) -> Result<(), AllocError>
-    ensures { OnOk result (text.new.items ≡ text.old.items ++ flat_map final_text (final_states 0 proof.now.states)) }
+fn push_final_states(text: &mut Vec<u8>, proof: &Dfa) -> Result<(), AllocError>
+    ensures { OnOk result (text.new.items ≡ text.old.items ++ flat_map final_text (final_states proof.now)) }
 {
     'states: for state in 0..proof.states() {
         push_if_final(text, proof, state)?;
@@ -95,7 +146,8 @@ fn push_if_final(text: &mut Vec<u8>, proof: &Dfa, state: usize) -> Result<(), Al
 /// Adds the lines of all edges.
 fn push_edges(text: &mut Vec<u8>, alphabet: &Alphabet, proof: &Dfa) -> Result<(), AllocError>
     requires { proof.now.letters ≡ automata_letters alphabet.now }
-    ensures { OnOk result (text.new.items ≡ text.old.items ++ lines_text alphabet.now (edge_lines 0 proof.now.states)) }
+    ensures { OnOk result (text.new.items ≡ text.old.items ++ flat_map (named_text_from alphabet.now proof.now)
+        (range_with_len 0 (length proof.now.states))) }
 {
     'states: for state in 0..proof.states() {
         push_edges_from(text, alphabet, state, proof.edges_from(state))?;

@@ -89,7 +89,7 @@ module _ {A : Type 0} (c : ℕ) (x : List ℕ → A → Type 0) (one : SaysOne x
 pub cut_shorter : (c : ℕ) (bytes front back : List ℕ) → IsCutAt c bytes front back → length back < length bytes
 cut_shorter c bytes front back cut = rw (cut.joined) (omega (arith, length-append front (c ∷ back)))
 
--- fields that are written of values: each is read so, or whatever is read as the value was written so
+-- fields that are written of values are read so
 module _ {A : Type 0} (c : ℕ) (x : List ℕ → A → Type 0) (text : A → List ℕ) where
   abbrev pub fields_text : List A → List ℕ
   fields_text values = flat_map (λ b. c ∷ text b) values
@@ -99,11 +99,3 @@ module _ {A : Type 0} (c : ℕ) (x : List ℕ → A → Type 0) (text : A → Li
   fields_say a [] h = subst (λ bytes. SaysFields c x bytes (a ∷ [])) (sym (append-nil (text a))) (inl (h.0.0, h.0.1, refl))
   fields_say a (b ∷ values) h =
       inr (text a, text b ++ fields_text values, record { joined = refl; first = h.0.0 }, h.0.1, fields_say b values h.1)
-
-  pub fields_are : (bytes : List ℕ) (a : A) (values : List A) → AllByRecursion (λ b. (word : List ℕ) → x word b → word ≡ text b) (a ∷ values)
-      → SaysFields c x bytes (a ∷ values) → bytes ≡ text a ++ fields_text values
-  fields_are bytes a [] each (inl h) = each.0 bytes h.1 ∙ sym (append-nil (text a))
-  fields_are bytes a [] each (inr h) = absurd h.4
-  fields_are bytes a (b ∷ values) each (inl h) = absurd (let e = h.2 in cc e)
-  fields_are bytes a (b ∷ values) each (inr h) =
-      h.2.joined ∙ (λ i. each.0 h.0 h.3 i ++ c ∷ fields_are h.1 b values each.1 h.4 i)

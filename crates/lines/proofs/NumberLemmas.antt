@@ -1,12 +1,11 @@
 -- Numbers and their texts.
-use Rattle.std.proofs.Common.{◌≡◌, ℕ, zero, suc, ◌+◌, ◌*◌, ◌^◌, ◌<◌, min, List, [], ◌∷◌, length, get_or, sym, ap, subst, ◌∙◌, ◌≤◌}
+use Rattle.std.proofs.Common.{◌≡◌, ℕ, zero, suc, ◌+◌, ◌*◌, ◌^◌, ◌<◌, min, List, [], ◌∷◌, length, get_or, sym, ap, subst, ◌≤◌}
 use Rattle.std.proofs.Common.{arith, inl, inr}
 use Rattle.std.specs.Str.Parse.{AllDigits, digits_value}
 use Rattle.std.specs.Char.{digit_value}
 use Rattle.std.specs.Int.{IsOutOfRange}
 use Rattle.std.specs.Prelude.{decimal}
-use Rattle.std.proofs.lemmas.Fmt.{decimal_is_IsNumeral, first_decimal, decimal_digit, decimal-digits_value}
-use Rattle.std.proofs.lemmas.Str.Parse.{numerals_by_value, tells_digits}
+use Rattle.std.proofs.lemmas.Fmt.{decimal_is_IsNumeral, first_decimal, decimal_digit}
 use Rattle.std.proofs.lemmas.Bool.{cases_eq}
 use Rattle.std.proofs.lemmas.Bool.Decides.{nat_tests}
 use Rattle.lines.specs.Bytes.{Lacks, IsNumber}
@@ -53,11 +52,6 @@ decimal-IsNumber n small =
       )
     ]
 
--- a number is the text of its value
-pub decimal-value : (field : List ℕ) → IsNumber field → digits_value 10 field < 2 ^ 64 → decimal (digits_value 10 field) ≡ field
-decimal-value field h small =
-    decimal-digits_value (numerals_by_value (AllDigits 10) tells_digits) field h.digits.1 h.digits.0 h.leading small
-
 -- digits lack every byte that is no digit
 AllDigits-Lacks : (byte : ℕ) → IsOutOfRange 48 57 byte → (ds : List ℕ) → AllDigits 10 ds → Lacks byte ds
 AllDigits-Lacks byte out [] h = tt
@@ -66,16 +60,11 @@ AllDigits-Lacks byte out (d ∷ ds) h = (λ e. not_digit d (subst (IsOutOfRange 
 pub IsNumber-Lacks : (byte : ℕ) → byte < 48 → (field : List ℕ) → IsNumber field → Lacks byte field
 IsNumber-Lacks byte low field h = AllDigits-Lacks byte (inl low) field h.digits.1
 
--- a number in decimal is read as its value, and one below the limit was written so
+-- a number in decimal is read as its value
 pub number_says : (limit n : ℕ) → n ≤ limit → limit < 2 ^ 32 → Says (number limit) (decimal n) n
 number_says limit n le small =
     let h = decimal-IsNumber n (omega arith) in
     (h.0, omega (arith, h.1))
-
-pub number_value : (limit n : ℕ) (bytes : List ℕ) → Says (number limit) bytes n → n < limit → limit < 2 ^ 32 → bytes ≡ decimal n
-number_value limit n bytes h less small =
-    let value : digits_value 10 bytes ≡ n = omega (arith, h.1, less) in
-    sym (decimal-value bytes h.0 (omega (arith, value, less, small))) ∙ ap decimal value
 
 pub decimal_lacks : (byte n : ℕ) → byte < 48 → n < 2 ^ 64 → Lacks byte (decimal n)
 decimal_lacks byte n low small = IsNumber-Lacks byte low (decimal n) (decimal-IsNumber n small).0

@@ -4,7 +4,6 @@
 
 mod bytes;
 mod fault;
-mod field;
 mod form;
 mod law;
 mod names;
@@ -13,9 +12,9 @@ mod parts;
 mod text;
 
 pub use fault::Fault;
-pub use field::{Gives, Number};
 pub use form::Form;
 pub use law::one_meaning;
 pub use names::{Names, Numbered};
-pub use parts::{After, Case, Cut, Fields, FormOf, Just, Means, Meant, NoLine, OrEmpty, read_each};
+pub use numbers::Number;
+pub use parts::{Case, Cut, Fields, FormOf, Just, Means, Meant, NoLine, OrEmpty, read_each};
 pub use text::{Next, TextForm, one_answer, read_text};

@@ -3,7 +3,7 @@
 
 ghost use Rattle.std.specs.Option.{option_map};
 ghost use Rattle.std.specs.Prelude.{◌≡◌, [], IfOk};
-ghost use Rattle.lines.specs.Grammar.{Line, after, case, cut, each, fields, just, means, none};
+ghost use Rattle.lines.specs.Grammar.{Line, case, cut, each, fields, just, means, none};
 ghost use Rattle.lines.specs.Reading.{IsReading};
 
 use crate::bytes::{after_prefix, cut_at};
@@ -11,23 +11,6 @@ use crate::form::Form;
 use sequence::Sequence;
 use std::alloc::{AllocError, Global};
 use std::marker::PhantomData;
-
-/// These bytes, and then the form.
-#[derive(Clone, Copy)]
-pub struct After<'a, X>(pub &'a [u8], pub X);
-
-impl<'a, X: Form> Form for After<'a, X> {
-    type Meaning = X::Meaning;
-
-    ghost grammar = { λ x. after x.0.now (X.grammar x.1) };
-
-    fn read(&self, alloc: Global, bytes: &[u8]) -> Result<Option<X::Meaning>, AllocError> {
-        match after_prefix(bytes, self.0) {
-            Some(rest) => self.1.read(alloc, rest),
-            None => Ok(None),
-        }
-    }
-}
 
 /// These bytes and then the one form; lines that begin otherwise are of the other.
 #[derive(Clone, Copy)]

@@ -4,7 +4,7 @@ use Rattle.std.proofs.lemmas.List.{take_all}
 use Rattle.std.proofs.lemmas.List.FromFn.{fill_by_all}
 use Rattle.word_automata.specs.Path.{edges_of}
 use Rattle.certificate_writing.specs.IndexedWriting.{has_letter, labels_edge}
-use Rattle.certificate_writing.proofs.LetterTableLemmas.{labels_more}
+use Rattle.certificate_writing.proofs.LetterIndexLemmas.{labels_more}
 use Rattle.certificate_writing.proofs.letter_table.letter_flags.Goals as goal
 
 pub states-preserved : goal.states-preserved

@@ -1,7 +1,7 @@
 use Rattle.std.proofs.Common.{◌∷◌, [], ◌++◌, codes, ap, ◌∙◌}
 use Rattle.configuration_words.specs.Texts.{configuration_text}
 use Rattle.certificate.specs.RunText.{steps_text}
-use Rattle.certificate_writing.proofs.RunWritingLemmas.{run_text-is}
+use Rattle.certificate_writing.proofs.TextLemmas.{run_text-is}
 use Rattle.certificate_writing.proofs.run_writing.write_run.Goals as goal
 
 pub returns : goal.returns
