@@ -2,6 +2,7 @@ pub mod ForCallers
 pub mod ListLemmas
 mod BuilderLemmas
 mod SearchLemmas
+mod Appended
 pub mod PathLemmas
 pub mod ExchangeLemmas
 mod CombinationLemmas

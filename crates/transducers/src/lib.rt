@@ -23,7 +23,7 @@ use std::alloc::AllocError;
 use std::marker::Model;
 
 /// What an edge reads and what it writes: a letter each, or nothing.
-#[derive(Clone, Copy, PartialEq, Eq, Debug)]
+#[derive(Clone, Copy, PartialEq, Eq)]
 pub struct Label {
     pub read: Option<u32>,
     pub write: Option<u32>,
@@ -42,7 +42,7 @@ impl Label {
 }
 
 /// A state: whether it accepts, and its edges, each a label and the number of the target state.
-#[derive(Clone, Drop, Debug)]
+#[derive(Clone, Drop)]
 pub struct State {
     accepting: bool,
     edges: Vec<(Label, usize)>,
@@ -69,7 +69,7 @@ impl State {
 /// A transducer: a number of letters, start states, and states with their edges. The letters and states that it names
 /// are in range. It relates the word that a path from a start state to an accepting state reads to the word that this path
 /// writes.
-#[derive(Clone, Drop, Debug)]
+#[derive(Clone, Drop)]
 pub struct Transducer {
     letters: u32,
     starts: Vec<usize>,
