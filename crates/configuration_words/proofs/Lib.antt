@@ -5,6 +5,7 @@ pub mod WordFacts
 pub mod EncodingLemmas
 pub mod DecodingLemmas
 pub mod TextLemmas
+mod Loops
 pub mod LetterLemmas
 pub mod GrammarLemmas
 pub mod TokenLemmas

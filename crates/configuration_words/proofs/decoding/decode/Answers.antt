@@ -96,7 +96,9 @@ lowered-requires c =
     let index = c.sections.section-index in
     let within = subst (λ xs. index < length xs) c.sections.invariant.0 c.sections-test.true in
     let is = subst (λ xs. c.section-item.result ≡ get_or xs index c.section-item.result) c.sections.invariant.0 c.section-item.is in
-    omega (arith, counted_on s c.args.word.now index c.sections.offset c.sections.lists.items (option_copied c.sections.rest) c.section-item.result within is c.sections.invariant.1, c.separator-separator.ensures.valid.limits.letters_limit)
+    let counted = counted_on s c.args.word.now index c.sections.offset c.sections.lists.items (option_copied c.sections.rest) c.section-item.result within
+    is c.sections.invariant.1 in
+    omega (arith, counted, c.separator-separator.ensures.valid.limits.letters_limit)
 
 pub overflow_add-offset : goal.overflow_add-offset
 overflow_add-offset c =

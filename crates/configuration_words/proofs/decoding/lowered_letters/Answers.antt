@@ -1,5 +1,5 @@
 use Rattle.std.proofs.Common.{◌+◌, ◌++◌, take, drop, get_or, ap, sym, ◌∙◌, arith}
-use Rattle.std.proofs.lemmas.List.{drop_more, take-append-drop}
+use Rattle.std.proofs.lemmas.List.{drop_more, take_all, take-append-drop}
 use Rattle.configuration_words.proofs.WordLemmas.{raised_at}
 use Rattle.configuration_words.proofs.decoding.lowered_letters.Goals as goal
 use Rattle.configuration_words.proofs.decoding.lowered_letters.Goals.{then-letter-offset-via-then-letter-offset, then-letter-offset-via-else-letter-offset+then-letter-offset-2}
@@ -14,3 +14,6 @@ returns-then-letter-offset c = λ list below e.
       | then-letter-offset-via-then-letter-offset w ↦ omega (arith, within.0, w.if-letter-offset.true)
       | then-letter-offset-via-else-letter-offset+then-letter-offset-2 w ↦ omega (arith, within.0, within.1, w.if-letter-offset-2.true)
     ]
+
+pub returns : goal.returns
+returns c = (c.letters.invariant.0, sym (take_all c.letters.letter-index c.args.letters.now c.letters-test.false) ∙ c.letters.invariant.1)
