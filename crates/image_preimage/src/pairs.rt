@@ -16,7 +16,7 @@ use transducers::{Label, Transducer};
 use word_automata::{Dfa, NfaBuilder};
 
 /// A state of the transducer, on the left, and a state of the automaton.
-#[derive(Clone, Copy, PartialEq, Eq, Debug)]
+#[derive(Clone, Copy, PartialEq, Eq)]
 pub(crate) struct Pair {
     pub(crate) left: usize,
     pub(crate) right: usize,
@@ -123,7 +123,7 @@ pub(crate) fn number(
     if let Some(number) = found.look_up(code(a, pair), &pair)? {
         return Ok(number);
     }
-    Ok(add(t, a, found, builder, pair)?)
+    add(t, a, found, builder, pair)
 }
 
 /// Adds the pair, and gives its number.

@@ -19,7 +19,7 @@ use word_automata::Dfa;
 
 /// A state of the transducer, on the left, one of the automaton whose words are read, and one of the automaton in which the words that are
 /// written are looked for, on the right; a number that is none of its states stands for no state.
-#[derive(Clone, Copy, PartialEq, Eq, Debug)]
+#[derive(Clone, Copy, PartialEq, Eq)]
 pub(crate) struct Triple {
     pub(crate) left: usize,
     pub(crate) middle: usize,

@@ -1,4 +1,6 @@
-use Rattle.std.proofs.Common.{refl}
+use Rattle.std.proofs.Common.{refl, subst}
+use Rattle.std.specs.Prelude.{IfOk}
+use Rattle.image_preimage.specs.Pairs.{Numbers}
 use Rattle.image_preimage.proofs.SamePairs.{same_pair}
 use Rattle.image_preimage.proofs.pairs.number.Goals as goal
 
@@ -14,3 +16,8 @@ returns-then-holds c = record {
   grows = record { pairs = λ i pair at. at; moves = λ i move is. is; same_starts = refl };
   at = c.if-holds.ensures refl;
 }
+
+pub returns : goal.returns
+returns c =
+    subst (λ found. IfOk c.add.result (Numbers c.args.t.now c.args.a.now found c.add.new.found.states.items c.args.builder.now c.add.new.builder c.args.pair))
+    c.look_up.ensures.same c.add.ensures
