@@ -1,7 +1,7 @@
 //! The moves that change two positions.
 //! Each machine has three or four states, which copy the other positions.
 
-ghost use Rattle.std.specs.Prelude.{◌≡◌, ◌↔◌, ◌≤◌, ◌<◌, ◌+◌, ◌^◌, ◌∷◌, List, [], ℕ, IfOk};
+ghost use Rattle.std.specs.Prelude.{◌≡◌, ◌↔◌, ◌≤◌, ◌<◌, ◌+◌, ◌^◌, ◌++◌, ◌∷◌, List, [], ℕ, IfOk, OnOk};
 ghost use Rattle.protocol_model.specs.System.{AllBelow, IsValidMove};
 ghost use Rattle.protocol_model.specs.Moves.{IsMove};
 ghost use Rattle.transducers.specs.Transducer.{Relates};
@@ -64,10 +64,12 @@ fn pair_states(
     ensures { IfOk result (λ states. states.items ≡ pair_states a b c d alphabet.offset alphabet.count) }
 {
     let SectionLetters { offset, count, .. } = alphabet;
+    let left = [edge(offset, a, c, 1)];
+    let right = [edge(offset, b, d, 2)];
     let mut states = Vec::with_capacity(alloc, 3)?;
-    states.push(state(alloc, false, offset, count, 0, &[edge(offset, a, c, 1)])?)?;
-    states.push(state(alloc, false, offset, 0, 1, &[edge(offset, b, d, 2)])?)?;
-    states.push(state(alloc, true, offset, count, 2, &[])?)?;
+    push_state(alloc, &mut states, false, offset, count, 0, &left)?;
+    push_state(alloc, &mut states, false, offset, 0, 1, &right)?;
+    push_state(alloc, &mut states, true, offset, count, 2, &[])?;
     Ok(states)
 }
 
@@ -85,10 +87,12 @@ fn ring_states(
     ensures { IfOk result (λ states. states.items ≡ ring_states a b c d alphabet.offset alphabet.count) }
 {
     let SectionLetters { offset, count, .. } = alphabet;
+    let first = [edge(offset, b, d, 1)];
+    let last = [edge(offset, a, c, 2)];
     let mut states = Vec::with_capacity(alloc, 3)?;
-    states.push(state(alloc, false, offset, 0, 0, &[edge(offset, b, d, 1)])?)?;
-    states.push(state(alloc, false, offset, count, 1, &[edge(offset, a, c, 2)])?)?;
-    states.push(state(alloc, true, offset, 0, 2, &[])?)?;
+    push_state(alloc, &mut states, false, offset, 0, 0, &first)?;
+    push_state(alloc, &mut states, false, offset, count, 1, &last)?;
+    push_state(alloc, &mut states, true, offset, 0, 2, &[])?;
     Ok(states)
 }
 
@@ -106,13 +110,14 @@ fn two_states(
     ensures { IfOk result (λ states. states.items ≡ two_states a b c d alphabet.offset alphabet.count) }
 {
     let SectionLetters { offset, count, .. } = alphabet;
-    let first = edge(offset, a, c, 1);
-    let second = edge(offset, b, d, 2);
+    let either = [edge(offset, a, c, 1), edge(offset, b, d, 2)];
+    let second = [edge(offset, b, d, 3)];
+    let first = [edge(offset, a, c, 3)];
     let mut states = Vec::with_capacity(alloc, 4)?;
-    states.push(state(alloc, false, offset, count, 0, &[first, second])?)?;
-    states.push(state(alloc, false, offset, count, 1, &[edge(offset, b, d, 3)])?)?;
-    states.push(state(alloc, false, offset, count, 2, &[edge(offset, a, c, 3)])?)?;
-    states.push(state(alloc, true, offset, count, 3, &[])?)?;
+    push_state(alloc, &mut states, false, offset, count, 0, &either)?;
+    push_state(alloc, &mut states, false, offset, count, 1, &second)?;
+    push_state(alloc, &mut states, false, offset, count, 2, &first)?;
+    push_state(alloc, &mut states, true, offset, count, 3, &[])?;
     Ok(states)
 }
 
@@ -125,19 +130,21 @@ fn edge(offset: u32, from: u32, into: u32, to: usize) -> (Label, usize)
     (Label::exchange(from + offset, into + offset), to)
 }
 
-/// A state that copies each of the `count` letters from `offset` on, which leads to the state `to`, and has further edges.
-fn state(
+/// Appends a state that copies each of the `count` letters from `offset` on, which leads to the state `to`, and has further edges.
+fn push_state(
     alloc: Global,
+    states: &mut Vec<State>,
     accepting: bool,
     offset: u32,
     count: u32,
     to: usize,
     further: &[(Label, usize)],
-) -> Result<State, AllocError>
+) -> Result<(), AllocError>
     requires { offset + count < 2 ^ 32 }
-    ensures { IfOk result (λ made. made ≡ copying_node accepting offset count to further.now) }
+    ensures { OnOk result (states.new.items ≡ states.old.items ++ copying_node accepting offset count to further.now ∷ []) }
 {
     let mut edges = copy_edges(alloc, offset, count, to)?;
     edges.extend_from_slice(further)?;
-    Ok(State::new(accepting, edges))
+    states.push(State::new(accepting, edges))?;
+    Ok(())
 }

@@ -14,14 +14,14 @@ use std::alloc::{AllocError, Global};
 
 /// How much of a list is read: whether the moving position is passed, and which of the guards are met that ask for some
 /// letter. There is a flag for each guard, in their order.
-#[derive(Clone, Copy, PartialEq, Eq, Hash, Debug)]
+#[derive(Clone, Copy, PartialEq, Eq, Hash)]
 pub(crate) struct ControlState {
     pub(crate) moved: bool,
     pub(crate) met: [bool; 4],
 }
 
 /// What the letters of the section do in a move.
-#[derive(Drop, Debug)]
+#[derive(Drop)]
 pub(crate) struct GuardTable {
     /// The letter of the moving position before.
     pub(crate) from: u32,
