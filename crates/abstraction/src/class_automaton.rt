@@ -13,7 +13,7 @@ use std::alloc::{AllocError, Global};
 use word_automata::{Dfa, Nfa, NfaBuilder};
 
 /// An edge that leads from class to class.
-#[derive(Clone, Copy, PartialEq, Eq, Debug)]
+#[derive(Clone, Copy, PartialEq, Eq)]
 pub(crate) struct ClassEdge {
     pub(crate) from: usize,
     pub(crate) letter: u32,

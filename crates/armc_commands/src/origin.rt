@@ -12,7 +12,7 @@ use sequence::Text;
 use std::alloc::Global;
 
 /// Where a text comes from.
-#[derive(Clone, Copy, Debug, Drop)]
+#[derive(Clone, Copy, Drop)]
 pub enum Origin<'a> {
     /// It is read by its name.
     Named {

@@ -24,7 +24,7 @@ use std::alloc::{AllocError, Global};
 use std::thread::Threads;
 
 /// How the verdict of a search is told.
-#[derive(Clone, Copy, Debug, Drop)]
+#[derive(Clone, Copy, Drop)]
 pub enum Telling {
     /// By its certificate, and by a report that names this method where one is asked for.
     Certificate(Option<Method>),

@@ -8,7 +8,7 @@ ghost use Rattle.armc_io.specs.Sink.{SinkState, PutAnswers, FitsWithoutFault};
 use std::alloc::AllocError;
 
 /// Why a read gave no bytes.
-#[derive(Clone, Copy, Debug, PartialEq, Eq)]
+#[derive(Clone, Copy, PartialEq, Eq)]
 pub enum ReadFail {
     /// The outside failed, and the fault was counted.
     Failed = 1,
@@ -29,7 +29,7 @@ impl From<AllocError> for ReadFail {
 }
 
 /// Why a sink did not take a whole piece.
-#[derive(Clone, Copy, Debug, PartialEq, Eq)]
+#[derive(Clone, Copy, PartialEq, Eq)]
 pub enum SinkFail {
     /// The outside failed, and the fault was counted.
     Failed = 1,
@@ -75,7 +75,7 @@ pub trait Gate: Sync {
 }
 
 /// The gate that is always open.
-#[derive(Clone, Copy, Debug)]
+#[derive(Clone, Copy)]
 pub struct NoGate;
 
 impl Gate for NoGate {

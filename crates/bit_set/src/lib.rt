@@ -21,7 +21,7 @@ use std::hash::{Hash, Hasher};
 use std::marker::Model;
 
 /// A set of numbers. Two are equal exactly where their words are.
-#[derive(Debug, Drop)]
+#[derive(Drop)]
 pub struct BitSet {
     words: Vec<u64>,
 }

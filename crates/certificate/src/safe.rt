@@ -22,7 +22,7 @@ use std::alloc::Global;
 use word_automata::{Dfa, DfaBuilder};
 
 /// What a certificate is.
-#[derive(Debug, Drop)]
+#[derive(Drop)]
 pub enum Certificate {
     /// An automaton that is to prove a system safe.
     Automaton(Dfa),

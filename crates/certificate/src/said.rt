@@ -5,7 +5,7 @@ use protocol_model::Configuration;
 use sequence::Sequence;
 
 /// What a certificate is said to be.
-#[derive(Clone, Copy, Debug)]
+#[derive(Clone, Copy)]
 pub enum Kind {
     /// An automaton.
     Safe,
@@ -16,7 +16,7 @@ pub enum Kind {
 }
 
 /// Where a line stands.
-#[derive(Clone, Copy, Debug)]
+#[derive(Clone, Copy)]
 pub enum Place {
     /// It is the first one.
     Title,
@@ -36,7 +36,7 @@ pub enum Place {
 
 /// What a line says. A number of a name that is not there is that of all names, and the letters of a list whose part is not that of its
 /// section are not all there.
-#[derive(Debug, Drop)]
+#[derive(Drop)]
 pub enum Said {
     /// A version and a kind.
     Title(u32, Kind),
@@ -59,7 +59,7 @@ pub enum Said {
 }
 
 /// What is wrong with what a line says.
-#[derive(Clone, Copy, Debug, PartialEq, Eq)]
+#[derive(Clone, Copy, PartialEq, Eq)]
 pub enum What {
     /// It is the first line of another version.
     Version,

@@ -4,7 +4,7 @@
 use protocol_model::Configuration;
 
 /// What the judgement of a certificate finds.
-#[derive(Drop, Debug)]
+#[derive(Drop)]
 pub enum Answer {
     /// The automaton proves the system, or the run is a bad run.
     Valid,

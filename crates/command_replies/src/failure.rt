@@ -5,7 +5,7 @@ use sequence::Text;
 use std::alloc::AllocError;
 
 /// Why a call has no reply to its words.
-#[derive(Drop, Debug)]
+#[derive(Drop)]
 pub enum Failure {
     /// The text of this name could not be read.
     ReadFault(Text),

@@ -10,7 +10,7 @@ use protocol_syntax::{Protocol, SyntaxFault, parse};
 use std::alloc::{AllocError, Global};
 
 /// What the text of a protocol says.
-#[derive(Drop, Debug)]
+#[derive(Drop)]
 pub enum Reading {
     /// A protocol without a fault, and its system.
     Protocol(Protocol, System),

@@ -14,7 +14,7 @@ use protocol_syntax::{Name, SyntaxFault, What};
 use std::alloc::{AllocError, Global};
 
 /// The first fault of the text of a protocol, or of a text of properties.
-#[derive(Drop, Debug)]
+#[derive(Drop)]
 pub enum Refusal {
     /// Of its tokens, its grammar or its limits.
     Syntax(SyntaxFault),

@@ -23,7 +23,7 @@ const USAGE: &[u8] =
     checkall FILE PROPS [--budget N] [--workers N]\n";
 
 /// A reply before it is written: the exit status, and the whole texts of standard output and standard error.
-#[derive(Drop, Debug)]
+#[derive(Drop)]
 pub struct Reply {
     /// The exit status.
     pub status: Status,

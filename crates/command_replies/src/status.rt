@@ -2,7 +2,7 @@
 //! A status is a plain value, which is copied.
 
 /// The exit status of the program.
-#[derive(Clone, Copy, Debug, PartialEq, Eq)]
+#[derive(Clone, Copy, PartialEq, Eq)]
 pub enum Status {
     /// The command did its work: a certificate is valid or was migrated, a protocol was shown, successors were listed, or a search found a
     /// proof.

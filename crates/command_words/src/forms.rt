@@ -6,7 +6,7 @@ ghost use Rattle.command_words.specs.Parsing.{form_as_words};
 ghost use Rattle.command_words.specs.Words.{form_of as form_of_words, name_of as name_of_words};
 
 /// A command by its name.
-#[derive(Clone, Copy, Debug, Drop)]
+#[derive(Clone, Copy, Drop)]
 pub(crate) enum Name {
     /// `check`
     Check,
@@ -31,7 +31,7 @@ pub(crate) enum Name {
 }
 
 /// The form of the words after a command's name.
-#[derive(Clone, Copy, Debug, Drop)]
+#[derive(Clone, Copy, Drop)]
 pub(crate) struct CommandForm<'a> {
     /// The full names of the options with a value.
     pub(crate) valued: &'a [&'a str],

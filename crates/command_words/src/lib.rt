@@ -24,7 +24,7 @@ use std::alloc::{AllocError, Global};
 pub const DEFAULT_BUDGET: u32 = 100_000;
 
 /// How the states of an automaton are related in the abstraction.
-#[derive(Clone, Copy, Debug, Drop)]
+#[derive(Clone, Copy, Drop)]
 pub enum Method {
     /// By the predicate languages that both of their languages meet.
     Predicates,
@@ -33,7 +33,7 @@ pub enum Method {
 }
 
 /// The predicates of the first round.
-#[derive(Clone, Copy, Debug, Drop)]
+#[derive(Clone, Copy, Drop)]
 pub enum Start {
     /// The languages of all states of the automaton of the bad words.
     Bad,
@@ -42,7 +42,7 @@ pub enum Start {
 }
 
 /// The settings of `check`.
-#[derive(Clone, Copy, Debug, Drop)]
+#[derive(Clone, Copy, Drop)]
 pub struct Settings {
     /// The abstraction.
     pub method: Method,
@@ -55,7 +55,7 @@ pub struct Settings {
 }
 
 /// What a search may take.
-#[derive(Clone, Copy, Debug, Drop)]
+#[derive(Clone, Copy, Drop)]
 pub struct Limits {
     /// How many states are counted at most, from 1 to 1,000,000.
     pub budget: u64,
@@ -64,7 +64,7 @@ pub struct Limits {
 }
 
 /// What is searched for, a variant for each searching command.
-#[derive(Clone, Copy, Debug, Drop)]
+#[derive(Clone, Copy, Drop)]
 pub enum Query {
     /// A proof or a bad run.
     Check(Settings),
@@ -80,7 +80,7 @@ pub enum Query {
 }
 
 /// What is asked for, with the names of its texts.
-#[derive(Clone, Copy, Debug, Drop)]
+#[derive(Clone, Copy, Drop)]
 pub enum Command<'a> {
     /// Judge the certificate for the protocol.
     Verify {

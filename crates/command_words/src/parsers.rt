@@ -15,7 +15,7 @@ use clap::{Arg, ArgAction, ArgMatches, Command as Parser};
 use std::alloc::{AllocError, Global};
 
 /// How a name of a form gets its value.
-#[derive(Clone, Copy, Debug, Drop)]
+#[derive(Clone, Copy, Drop)]
 enum Role {
     /// By an option with a value.
     Valued,

@@ -18,7 +18,7 @@ use std::marker::Model;
 const MULTIPLIER: u64 = 11400714819323198485;
 
 /// A set of states, by their numbers. Two are equal exactly where their lists of numbers are.
-#[derive(Debug, Drop)]
+#[derive(Drop)]
 pub struct StateSet {
     states: SmallVec<usize, 1>,
 }

@@ -12,7 +12,7 @@ use std::hash::{Hash, Hasher};
 use std::marker::Model;
 
 /// A list of state numbers, as a set of states in increasing order. Two are equal exactly where their numbers are.
-#[derive(Debug, Drop)]
+#[derive(Drop)]
 pub struct StateList {
     states: Vec<usize>,
 }

@@ -14,7 +14,7 @@ use std::alloc::{AllocError, Global};
 
 /// An abstraction by words of bounded length: states are related where each word of at most so many letters is accepted from both or
 /// from neither.
-#[derive(Clone, Copy, Debug)]
+#[derive(Clone, Copy)]
 pub struct Futures {
     /// The bound on the number of letters.
     pub bound: u64,

@@ -15,7 +15,7 @@ use word_automata::{Dfa, Nfa};
 
 /// A canonical automaton: each state is reached and reaches an accepting state, no two accept the same words, and states are
 /// numbered breadth first, letters in increasing order. The empty language has no state.
-#[derive(Debug, Drop)]
+#[derive(Drop)]
 pub struct Canon {
     dfa: Dfa,
 }

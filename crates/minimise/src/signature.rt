@@ -14,7 +14,7 @@ use std::marker::Model;
 
 /// The class of a state, whether it accepts, and for each letter that leads to a class other than 0 that class, in increasing order
 /// of the letters.
-#[derive(Debug, Drop)]
+#[derive(Drop)]
 pub struct Signature {
     class: usize,
     accepting: bool,

@@ -15,7 +15,7 @@ use std::alloc::{AllocError, Global};
 
 /// An abstraction by words of bounded length: states are related where each word of at most so many letters leads into both or into
 /// neither. A word leads into a state where some state, state 0 or another, has a path that reads the word and ends there.
-#[derive(Clone, Copy, Debug)]
+#[derive(Clone, Copy)]
 pub struct Pasts {
     /// The bound on the number of letters.
     pub bound: u64,

@@ -67,7 +67,7 @@ impl Place {
 }
 
 /// What kind of token it is: a word of letters, digits and `_`, one of `{ } : ; * +`, or `->`.
-#[derive(Clone, Copy, Debug, PartialEq, Eq)]
+#[derive(Clone, Copy, PartialEq, Eq)]
 pub enum TokenKind {
     Word,
     BraceLeft,
@@ -80,7 +80,7 @@ pub enum TokenKind {
 }
 
 /// A token: the bytes of the text from `start` up to `end`, and the place of the first of them.
-#[derive(Clone, Copy, Debug, PartialEq, Eq)]
+#[derive(Clone, Copy, PartialEq, Eq)]
 pub struct Token {
     pub kind: TokenKind,
     pub start: usize,

@@ -12,7 +12,7 @@ use crate::system::{Section, System};
 use protocol_syntax::Kind;
 
 /// The letters of a section among those of an automaton or a transducer: the `count` letters from `offset` on.
-#[derive(Clone, Copy, Debug)]
+#[derive(Clone, Copy)]
 pub struct SectionLetters {
     /// The number of letters of the automaton or the transducer.
     pub letters: u32,

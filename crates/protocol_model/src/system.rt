@@ -6,7 +6,7 @@ use sequence::{Sequence, Text};
 use std::marker::Model;
 
 /// A section of every configuration: its name, its kind and its letters, which are numbered in this order.
-#[derive(Drop, Debug)]
+#[derive(Drop)]
 pub struct Section {
     /// The name.
     pub name: Text,
@@ -17,7 +17,7 @@ pub struct Section {
 }
 
 /// One item of a pattern: a set of letters of the section, and how often a letter of it stands.
-#[derive(Drop, Debug)]
+#[derive(Drop)]
 pub struct Atom {
     /// The letters, by their numbers in the section.
     pub letters: Sequence<u32>,
@@ -26,14 +26,14 @@ pub struct Atom {
 }
 
 /// A pattern of the lists of one section. Without an atom it matches the empty list alone.
-#[derive(Drop, Debug)]
+#[derive(Drop)]
 pub struct Pattern {
     /// The atoms in their order.
     pub atoms: Sequence<Atom>,
 }
 
 /// A row of patterns for some of the sections; a section that it does not name may hold any list.
-#[derive(Drop, Debug)]
+#[derive(Drop)]
 pub struct Row {
     /// The number of a section and its pattern, for each section that the row names.
     pub parts: Sequence<(u32, Pattern)>,
@@ -46,7 +46,7 @@ pub type Guard = protocol_syntax::Guard<u32>;
 pub type Move = protocol_syntax::Move<u32, Sequence<u32>>;
 
 /// A rule: its name, and a move for each section that it names. Every other section stays.
-#[derive(Drop, Debug)]
+#[derive(Drop)]
 pub struct Rule {
     /// The name.
     pub name: Text,
@@ -56,7 +56,7 @@ pub struct Rule {
 
 /// A protocol with its names replaced by numbers. Every value is valid: numbers are in range, names are distinct,
 /// and the limits of the language hold.
-#[derive(Drop, Debug)]
+#[derive(Drop)]
 pub struct System {
     /// The protocol's name.
     pub name: Text,
@@ -81,14 +81,14 @@ impl Model for System {
 }
 
 /// One list of letter numbers for each section.
-#[derive(Drop, Debug)]
+#[derive(Drop)]
 pub struct Configuration {
     /// The lists, in the order of the sections; letters are numbers in their section.
     pub lists: Sequence<Sequence<u32>>,
 }
 
 /// A first configuration, and steps from it: each the number of a rule and the configuration after it.
-#[derive(Drop, Debug)]
+#[derive(Drop)]
 pub struct Run {
     /// The configuration in which the run begins.
     pub first: Configuration,

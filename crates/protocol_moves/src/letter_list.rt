@@ -10,7 +10,7 @@ use std::cmp::Ordering;
 use std::marker::Model;
 
 /// A list of letters. Two are equal exactly where their letters are, and are ordered letter by letter.
-#[derive(Debug, Drop)]
+#[derive(Drop)]
 pub struct LetterList {
     letters: Vec<u32>,
 }

@@ -21,7 +21,7 @@ use sequence::{Sequence, Text};
 use std::alloc::{AllocError, Global};
 
 /// A property: its name, and the system whose bad configurations are those of the property.
-#[derive(Drop, Debug)]
+#[derive(Drop)]
 pub struct Property {
     /// The name.
     pub name: Text,

@@ -2,7 +2,7 @@
 //! CAV 2004), or by such words that lead into them. It is a plain value, which is copied.
 
 /// Which abstraction a search begins with.
-#[derive(Clone, Copy, Debug, Drop)]
+#[derive(Clone, Copy, Drop)]
 pub enum FirstAbstraction {
     /// By the predicates of the automaton of the words that the rounds lead to: of the bad ones, and backward of the initial ones.
     TargetPredicates,

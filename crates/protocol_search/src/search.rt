@@ -4,7 +4,7 @@
 use crate::first::FirstAbstraction;
 
 /// Which problem of a system is searched, and from which end.
-#[derive(Clone, Copy, Debug, Drop)]
+#[derive(Clone, Copy, Drop)]
 pub enum Analysis {
     /// From the initial configurations by steps to a bad one.
     Forward,
@@ -15,7 +15,7 @@ pub enum Analysis {
 }
 
 /// What is searched.
-#[derive(Clone, Copy, Debug, Drop)]
+#[derive(Clone, Copy, Drop)]
 pub struct Search {
     /// The problem of the system.
     pub analysis: Analysis,

@@ -8,7 +8,7 @@ use crate::steps::is_step;
 use protocol_model::{Run, System};
 
 /// What the check of a run found.
-#[derive(Clone, Copy, Debug, PartialEq, Eq)]
+#[derive(Clone, Copy, PartialEq, Eq)]
 pub enum RunAnswer {
     /// The run begins in an initial configuration, goes by steps of the system, and ends in a bad configuration.
     BadRun,

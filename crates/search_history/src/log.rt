@@ -4,7 +4,7 @@
 use sequence::Sequence;
 
 /// How a round ends.
-#[derive(Clone, Copy, Debug, Drop)]
+#[derive(Clone, Copy, Drop)]
 pub enum LogEnd {
     /// Its last merged automaton accepts no bad word, and no step leads out of it.
     Closed,
@@ -17,7 +17,7 @@ pub enum LogEnd {
 }
 
 /// The sizes of a round's automata in counting order.
-#[derive(Debug, Drop)]
+#[derive(Drop)]
 pub struct RoundLog {
     /// The sizes of the automata before merging, by their index.
     pub n: Sequence<u64>,
@@ -32,7 +32,7 @@ pub struct RoundLog {
 }
 
 /// The log of a whole search.
-#[derive(Debug, Drop)]
+#[derive(Drop)]
 pub struct Log {
     /// The budget.
     pub budget: u64,

@@ -2,7 +2,7 @@
 //! A method is a plain value, which is copied.
 
 /// What a search relates states by.
-#[derive(Clone, Copy, Debug, PartialEq, Eq)]
+#[derive(Clone, Copy, PartialEq, Eq)]
 pub enum Method {
     /// The states of predicate automata with which states share words.
     Predicates,
