@@ -24,8 +24,8 @@ const PROPERTIES: &[u8] = b"bad none { P: n*; } bad pairs { P: any* t any* t any
 /// A proof of the first protocol.
 const PROOF: &[u8] = b"armc 1 safe\nstates 1\nfinal 0\nedge 0 P.a 0\nedge 0 P.b 0\nend\n";
 
-/// The words, the text of `f`, the call of the library and the calls of the sinks that fail; and what comes. The text of `c` is `PROOF`, and
-/// that of `p` `PROPERTIES`.
+/// The words, the text of `f`, the call of the library and the calls of the sinks that fail; and what comes. The text of `c` is `PROOF`,
+/// and that of `p` `PROPERTIES`.
 pub(crate) struct Call {
     /// What it shows.
     pub title: &'static str,
