@@ -1,11 +1,11 @@
-use Rattle.std.proofs.Common.{◌≡◌, None, Some, subst, ◌∷◌, [], ◌⊎◌, take, get_or, refl}
+use Rattle.std.proofs.Common.{◌≡◌, None, Some, subst, ◌∷◌, [], ◌⊎◌, take, get_or, map, refl, ap, ◌∙◌, inr}
 use Rattle.std.specs.Option.{option_or}
-use Rattle.std.proofs.lemmas.List.{take_more, map-append}
+use Rattle.std.proofs.lemmas.List.{take_more, take_all, map-append}
 use Rattle.std.proofs.lemmas.Result.{err_from_is_err_and}
 use Rattle.protocol_model.specs.Numbering.{texts_of}
 use Rattle.protocol_model.specs.Faults.{duplicate, section_fault, first_fault_of}
 use Rattle.protocol_model.specs.declared.fault.ModelFault.TheVariants.{Memory}
-use Rattle.protocol_model.proofs.Walk.{stops, goes_on}
+use Rattle.protocol_model.proofs.Walk.{stops, goes_on, walked_all}
 use Rattle.protocol_model.proofs.sections.Sections.new.Goals as goal
 
 pub returns-in_err-names : goal.returns-in_err-names
@@ -39,3 +39,22 @@ sections-preserved c =
         ← c.section-item.is,
       ) refl,
     )
+
+pub returns-in_err-push : goal.returns-in_err-push
+returns-in_err-push c =
+    let p = err_from_is_err_and c.from_residual-in_err-push.result c.from_residual-in_err-push.ensures.1 in
+    rw (p.1, p.2) (inr refl)
+
+pub invariant_of-result : goal.invariant_of-result
+invariant_of-result c =
+    let texts = c.args.texts.now in
+    let walk = c.sections in
+    let all = walked_all section_fault (λ section. section.name.text) texts walk.section-index walk.numbers c.sections-test.false walk.invariant.0 in
+    (all.1, walk.invariant.1 ∙ ap (map (λ section. texts_of section.letters)) (take_all walk.section-index texts c.sections-test.false))
+
+pub returns : goal.returns
+returns c =
+    let texts = c.args.texts.now in
+    let walk = c.sections in
+    let all = walked_all section_fault (λ section. section.name.text) texts walk.section-index walk.numbers c.sections-test.false walk.invariant.0 in
+    (all.0, refl)
