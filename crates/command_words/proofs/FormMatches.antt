@@ -1,6 +1,7 @@
 -- What `clap` answers for a form, and the matches that it gives, against what the words bind.
-use Rattle.std.proofs.Common.{◌≡◌, ◌∙◌, ◌||◌, ℕ, Bool, true, false, true≢false, List, [], ◌∷◌, ◌++◌, map, drop, Option, Some, None, codes, string_bytes, refl, sym, ap, ap₂, subst, cond, is_some, option_map, String, arith, append-nil, append_assoc}
+use Rattle.std.proofs.Common.{◌≡◌, ◌∙◌, ◌||◌, ℕ, Bool, true, false, true≢false, List, [], ◌∷◌, ◌++◌, map, drop, Option, Some, None, codes, string_bytes, refl, sym, ap, ap₂, subst, cond, is_some, option_map, String, arith, append-nil, append_assoc, if◌then◌else◌}
 use Rattle.std.specs.Char.{encode_utf8}
+use Rattle.std.specs.List.{AllByRecursion, list_any}
 use Rattle.std.specs.Prelude.{find, fold, slice_get, option_and_then}
 use Rattle.std.specs.Str.{IsUtf8, bytes_eq, chars, encode_utf8_all}
 use Rattle.std.proofs.lemmas.Slice.Eq.{bytes_eq-Decides}
@@ -11,10 +12,8 @@ use Rattle.clap.specs.Simple.{App, built, matches_of, names_of}
 use Rattle.clap.specs.Walk.{Row, Text, finished, first_of, has_row, more_values, nothing_held, settled, walk, walk_from, with_default, reading_by}
 use Rattle.clap.specs.declared.parser.matches.ValueSource.TheVariants.{DefaultValue}
 use Rattle.clap.proofs.FaultLemmas.{leaf_fault}
-use Rattle.command_words.specs.Parsing.{Fails, HasBindings, first_or_default, parser_of}
-use Rattle.command_words.specs.Words.{Binding, CommandForm, bindings, bindings_of, bound_once, is_among, is_once, form_of, value_of}
-use Rattle.command_words.specs.declared.forms.Name.{Name}
-use Rattle.command_words.specs.declared.forms.Name.TheVariants as names
+use Rattle.command_words.specs.Parsing.{Fails, parser_of}
+use Rattle.command_words.specs.Words.{Binding, CommandForm, bindings, bindings_of, bound_once, form_named, forms, is_among, is_flag, is_once, value_of}
 use Rattle.command_words.proofs.FormRules.{AreUnbound, built_flag, built_rules, defaults_of_positionals, defaults_of_valued, form_rules, form_shape, no_default_fault, none_required}
 use Rattle.command_words.proofs.FormWalk.{Adds, AllHaveHeads, HasHead, Judged, accepted, rejected, at_row_missing, judges, faults, rows_after}
 
@@ -76,6 +75,15 @@ fault_is form words is =
     ap (λ a. built_fault a nothing_held (drop 1 words)) is ∙ leaf_fault (form_app form) nothing_held (drop 1 words) refl ∙ level_is form (drop 1 words)
 
 -- ---- the values in the matches
+
+-- what an option without a value gives where the words do not bind it
+abbrev pub first_or_default : CommandForm → List ℕ → Option (List ℕ) → Option (List ℕ)
+first_or_default form name (Some value) = Some value
+first_or_default form name None = if is_among name form.flags then Some (codes "false") else None
+
+-- each name has the value that the words bind it to
+abbrev pub HasBindings : CommandForm → List Binding → List Row → Type 0
+HasBindings form bound rows = (name : List ℕ) → first_of name rows ≡ first_or_default form name (value_of name bound)
 
 abbrev Pairs : List Row → List Binding → Type 0
 Pairs [] [] = Unit {0}
@@ -232,14 +240,46 @@ taken_is form words formed heads none =
               (values_in form pairs.0 bs formed.flags_are pairs.2),
         )
 
-pub formed : (name : Name) → IsFormed (form_of name)
-formed names.Check = record { built_is = refl; is_simple = refl; places = (refl, refl, refl); flags_are = one_flag (codes "report") refl }
-formed names.Back = record { built_is = refl; is_simple = refl; places = (refl, refl, refl); flags_are = no_flag refl }
-formed names.Deadlock = record { built_is = refl; is_simple = refl; places = (refl, refl, refl); flags_are = no_flag refl }
-formed names.Past = record { built_is = refl; is_simple = refl; places = (refl, refl, refl); flags_are = no_flag refl }
-formed names.CheckAll = record { built_is = refl; is_simple = refl; places = (refl, refl, (refl, refl, refl)); flags_are = no_flag refl }
-formed names.Verify = record { built_is = refl; is_simple = refl; places = (refl, refl, (refl, refl, refl)); flags_are = no_flag refl }
-formed names.Migrate = record { built_is = refl; is_simple = refl; places = (refl, refl, (refl, refl, refl)); flags_are = no_flag refl }
-formed names.Show = record { built_is = refl; is_simple = refl; places = (refl, refl, refl); flags_are = no_flag refl }
-formed names.Steps = record { built_is = refl; is_simple = refl; places = (refl, refl, (refl, refl, refl)); flags_are = no_flag refl }
-formed names.Generate = record { built_is = refl; is_simple = refl; places = (refl, refl, refl); flags_are = no_flag refl }
+-- ---- the forms of the commands
+
+also : {A B : Type 0} → A → B → A × B
+also here later = (here, later)
+
+all_formed : AllByRecursion IsFormed forms
+all_formed =
+    also (record { built_is = refl; is_simple = refl; places = (refl, refl, refl); flags_are = one_flag (codes "report") refl })
+    (also (record { built_is = refl; is_simple = refl; places = (refl, refl, refl); flags_are = no_flag refl })
+    (also (record { built_is = refl; is_simple = refl; places = (refl, refl, refl); flags_are = no_flag refl })
+    (also (record { built_is = refl; is_simple = refl; places = (refl, refl, refl); flags_are = no_flag refl })
+    (also (record { built_is = refl; is_simple = refl; places = (refl, refl, (refl, refl, refl)); flags_are = no_flag refl })
+    (also (record { built_is = refl; is_simple = refl; places = (refl, refl, (refl, refl, refl)); flags_are = no_flag refl })
+    (also (record { built_is = refl; is_simple = refl; places = (refl, refl, (refl, refl, refl)); flags_are = no_flag refl })
+    (also (record { built_is = refl; is_simple = refl; places = (refl, refl, refl); flags_are = no_flag refl })
+    (also (record { built_is = refl; is_simple = refl; places = (refl, refl, (refl, refl, refl)); flags_are = no_flag refl })
+    (also (record { built_is = refl; is_simple = refl; places = (refl, refl, refl); flags_are = no_flag refl }) tt)))))))))
+
+-- what holds of all holds of one that is found
+found_has : {T : Type 0} (P : T → Type 0) (p : T → Bool) (xs : List T) (x : T) → AllByRecursion P xs → find p xs ≡ Some x → P x
+found_has P p [] x all is = cc is
+found_has {T} P p (y ∷ ys) x all is = go (p y) is (found_has P p ys x all.1)
+  where
+    go : (b : Bool) → cond b (Some y) (find p ys) ≡ Some x → (find p ys ≡ Some x → P x) → P x
+    go true same later = subst P (cc same) all.0
+    go false found later = later found
+
+-- what none has the one that is found has not
+found_has_not : {T : Type 0} (f p : T → Bool) (xs : List T) (x : T) → list_any f xs ≡ false → find p xs ≡ Some x → f x ≡ false
+found_has_not f p [] x none is = cc is
+found_has_not {T} f p (y ∷ ys) x none is = go (f y) refl none (p y) is (λ rest. found_has_not f p ys x rest)
+  where
+    go : (a : Bool) → f y ≡ a → (a || list_any f ys) ≡ false → (b : Bool) → cond b (Some y) (find p ys) ≡ Some x
+        → (list_any f ys ≡ false → find p ys ≡ Some x → f x ≡ false) → f x ≡ false
+    go true has never b found later = absurd (true≢false never)
+    go false has rest true same later = ap f (sym (cc same)) ∙ has
+    go false has rest false found later = later rest found
+
+pub formed : (word : List ℕ) (form : CommandForm) → form_named word ≡ Some form → IsFormed form
+formed word form is = found_has IsFormed (λ f. bytes_eq f.word word) forms form all_formed is
+
+pub own_flag : (word : List ℕ) (form : CommandForm) (name : List ℕ) → form_named word ≡ Some form → is_flag name ≡ false → is_among name form.flags ≡ false
+own_flag word form name is none = found_has_not (λ f. is_among name f.flags) (λ f. bytes_eq f.word word) forms form none is

@@ -1,7 +1,7 @@
 -- From what `clap` answers to what the words bind, and from its matches to values.
 use Rattle.std.proofs.Common.{◌≡◌, ◌∙◌, ℕ, Bool, true, false, List, [], ◌∷◌, map, drop, Option, Some, None, MatchOption, codes, string_bytes, String, refl, sym, ap, subst, length, ◌<◌, arith, if◌then◌else◌}
 use Rattle.clap.specs.Faults.{fault_of}
-use Rattle.clap.specs.Matches.{found_of, first_value}
+use Rattle.clap.specs.Matches.{found_of}
 use Rattle.clap.specs.Simple.{App, app_of, matches_of}
 use Rattle.clap.specs.Walk.{rows_of}
 use Rattle.clap.specs.declared.builder.command.Command.{Command as Parser}
@@ -9,45 +9,49 @@ use Rattle.clap.specs.declared.parser.matches.ArgMatches.{ArgMatches}
 use Rattle.clap.proofs.WalkLemmas.{first_value-rows, list_any-map}
 use Rattle.std.specs.List.{list_any, slice_index_or}
 use Rattle.command_words.specs.declared.Command.{Command as CommandWords}
-use Rattle.command_words.specs.Parsing.{Fails, Gives, HasBindings, IsParsed, first_or_default, parser_of}
+use Rattle.command_words.specs.Parsing.{Fails, Gives, GivesValues, IsParsed, parser_of}
 use Rattle.command_words.specs.declared.Method.{Method}
 use Rattle.command_words.specs.declared.Start.{Start}
-use Rattle.command_words.specs.declared.forms.Name.TheVariants as names
-use Rattle.command_words.specs.Words.{Binding, Command, CommandForm, bindings, bound_given, budget_given, command_named, command_of, form_of, is_among, is_empty, is_true, limits_from, limits_given, method_given, settings_from, settings_given, start_given, value_of, workers_given}
-use Rattle.command_words.proofs.FormMatches.{IsFormed, later_have_heads, refused_is, taken_is}
-
--- the matches of a parser of a form have what the words bind
-pub from_matches : {Z : Type 0} (form : CommandForm) (p : Parser) (words : List (String Z)) (found : Option ArgMatches)
-    → app_of p ≡ parser_of form → IsFormed form
-    → MatchOption found (Fails (fault_of (app_of p) (map string_bytes words)))
-    (λ m. (fault_of (app_of p) (map string_bytes words) ≡ []) × (rows_of (found_of m) ≡ matches_of (app_of p) (map string_bytes words)))
-    → MatchOption found (bindings form (drop 1 (map string_bytes words)) ≡ None) (IsParsed form (drop 1 (map string_bytes words)))
-from_matches form p words None is formed fails =
-    refused_is form (map string_bytes words) formed (later_have_heads words) (subst (λ a. Fails (fault_of a (map string_bytes words))) is fails)
-from_matches form p words (Some m) is formed given =
-    let taken = taken_is form (map string_bytes words) formed (later_have_heads words)
-    (ap (λ (a : App). fault_of a (map string_bytes words)) (sym is) ∙ given.0) in
-    record {
-      bound = taken.0;
-      says = taken.1;
-      has = subst (HasBindings form taken.0) (sym (given.1 ∙ ap (λ (a : App). matches_of a (map string_bytes words)) is)) taken.2;
-    }
+use Rattle.command_words.specs.Words.{Binding, Command, CommandForm, bindings, bound_given, budget_given, command_named, command_of, form_named, is_among, is_empty, is_true, limits_from, limits_given, method_given, settings_from, settings_given, start_given, value_of, workers_given}
+use Rattle.command_words.proofs.FormMatches.{HasBindings, first_or_default, formed, later_have_heads, own_flag, refused_is, taken_is}
 
 plain_value : (form : CommandForm) (name : List ℕ) (o : Option (List ℕ)) → is_among name form.flags ≡ false → first_or_default form name o ≡ o
 plain_value form name (Some value) plain = refl
 plain_value form name None plain = rw plain refl
 
-pub value_is : (m : ArgMatches) (form : CommandForm) (bound : List Binding) (name : List ℕ) → HasBindings form bound (rows_of (found_of m)) → is_among name form.flags ≡ false
-    → first_value (found_of m) name ≡ value_of name bound
-value_is m form bound name has plain = first_value-rows (found_of m) name ∙ has name ∙ plain_value form name (value_of name bound) plain
+true_or_default : (form : CommandForm) (name : List ℕ) (o : Option (List ℕ)) → is_true (first_or_default form name o) ≡ is_true o
+true_or_default form name (Some value) = refl
+true_or_default form name None = go (is_among name form.flags)
+  where
+    go : (b : Bool) → is_true (if b then Some (codes "false") else None) ≡ false
+    go true = refl
+    go false = refl
 
-true_or_default : (o : Option (List ℕ)) → is_true (first_or_default (form_of names.Check) (codes "report") o) ≡ is_true o
-true_or_default (Some value) = refl
-true_or_default None = refl
+gives_values : (word : List ℕ) (form : CommandForm) (bound : List Binding) (m : ArgMatches) → form_named word ≡ Some form → HasBindings form bound (rows_of (found_of m))
+    → GivesValues bound m
+gives_values word form bound m is has = record {
+  values = λ name plain. first_value-rows (found_of m) name ∙ has name ∙ plain_value form name (value_of name bound) (own_flag word form name is plain);
+  flags = λ name. ap is_true (first_value-rows (found_of m) name ∙ has name) ∙ true_or_default form name (value_of name bound);
+}
 
-pub report_is : (m : ArgMatches) (bound : List Binding) → HasBindings (form_of names.Check) bound (rows_of (found_of m))
-    → is_true (first_value (found_of m) (codes "report")) ≡ is_true (value_of (codes "report") bound)
-report_is m bound has = ap is_true (first_value-rows (found_of m) (codes "report") ∙ has (codes "report")) ∙ true_or_default (value_of (codes "report") bound)
+-- the matches of a parser of a form have what the words bind
+pub from_matches : {Z : Type 0} (word : List ℕ) (form : CommandForm) (p : Parser) (words : List (String Z)) (found : Option ArgMatches)
+    → app_of p ≡ parser_of form → form_named word ≡ Some form
+    → MatchOption found (Fails (fault_of (app_of p) (map string_bytes words)))
+    (λ m. (fault_of (app_of p) (map string_bytes words) ≡ []) × (rows_of (found_of m) ≡ matches_of (app_of p) (map string_bytes words)))
+    → MatchOption found (bindings form (drop 1 (map string_bytes words)) ≡ None) (IsParsed form (drop 1 (map string_bytes words)))
+from_matches word form p words None is named fails =
+    refused_is form (map string_bytes words) (formed word form named) (later_have_heads words) (subst (λ a. Fails (fault_of a (map string_bytes words))) is fails)
+from_matches word form p words (Some m) is named given =
+    let taken = taken_is form (map string_bytes words) (formed word form named) (later_have_heads words)
+    (ap (λ (a : App). fault_of a (map string_bytes words)) (sym is) ∙ given.0) in
+    record {
+      bound = taken.0;
+      says = taken.1;
+      has =
+          gives_values word form taken.0 m named
+          (subst (HasBindings form taken.0) (sym (given.1 ∙ ap (λ (a : App). matches_of a (map string_bytes words)) is)) taken.2);
+    }
 
 -- the limits and the settings, where one is not given well, and where each is
 pub no_budget : (b : List Binding) → budget_given b ≡ None → None ≡ limits_given b

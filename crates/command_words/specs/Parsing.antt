@@ -1,23 +1,26 @@
 -- Only private functions cite this file: the command of `clap` for a form, what its parse gives, and what its matches are read as.
-use Rattle.std.specs.Prelude.{◌≡◌, ◌++◌, ℕ, true, List, [], ◌∷◌, map, codes, Option, Some, None, MatchOption, IfSome, if◌then◌else◌}
+use Rattle.std.specs.Prelude.{◌≡◌, ◌++◌, ℕ, false, true, List, [], ◌∷◌, map, codes, Option, Some, None, MatchOption, IfSome}
+use Rattle.std.specs.Borrow.{Bor}
 use Rattle.clap.specs.Kinds.{Kinds}
 use Rattle.clap.specs.Simple.{App, new_rule, new_shape}
-use Rattle.clap.specs.Walk.{Row, Rule, first_of, rows_of}
+use Rattle.clap.specs.Walk.{Rule}
 use Rattle.clap.specs.declared.builder.action.ArgAction.TheVariants.{Set, SetTrue}
 use Rattle.clap.specs.declared.parser.matches.ArgMatches.{ArgMatches}
-use Rattle.clap.specs.Matches.{found_of}
+use Rattle.clap.specs.Matches.{found_of, first_value}
 use Rattle.command_words.specs.declared.Command.{Command as CommandWords}
-use Rattle.command_words.specs.declared.forms.CommandForm.{CommandForm as FormWords}
+use Rattle.command_words.specs.declared.forms.Name.{Name}
 use Rattle.command_words.specs.declared.parsers.Role.{Role}
 use Rattle.command_words.specs.declared.parsers.Role.TheVariants.{Valued, Flag, Positional}
-use Rattle.command_words.specs.Words.{Binding, Command, CommandForm, IsInRange, bindings, is_among, said, value_of}
+use Rattle.command_words.specs.Words.{Binding, Command, CommandForm, IsInRange, bindings, is_flag, is_true, said, value_of}
 
 -- the form that a value of the program stands for
-abbrev pub form_as_words : FormWords → CommandForm
+abbrev pub form_as_words : Name × Bor (List ℕ) × Bor (List (Bor (List ℕ))) × Bor (List (Bor (List ℕ))) × Bor (List (Bor (List ℕ))) → CommandForm
 form_as_words form = record {
-  valued = map (λ name. name.now) form.valued.now;
-  flags = map (λ name. name.now) form.flags.now;
-  positionals = map (λ name. name.now) form.positionals.now;
+  name = form.0;
+  word = form.1.now;
+  valued = map (λ name. name.now) form.2.now;
+  flags = map (λ name. name.now) form.3.now;
+  positionals = map (λ name. name.now) form.4.now;
 }
 
 abbrev pub valued_rule : List ℕ → Rule
@@ -49,24 +52,16 @@ abbrev pub Fails : Kinds → Type 0
 Fails [] = ⊥
 Fails (kind ∷ kinds) = Unit {0}
 
--- what an option without a value gives where the words do not bind it
-abbrev pub first_or_default : CommandForm → List ℕ → Option (List ℕ) → Option (List ℕ)
-first_or_default form name (Some value) = Some value
-first_or_default form name None = if is_among name form.flags then Some (codes "false") else None
-
--- each name has the value that the words bind it to
-abbrev pub HasBindings : CommandForm → List Binding → List Row → Type 0
-HasBindings form bound rows = (name : List ℕ) → first_of name rows ≡ first_or_default form name (value_of name bound)
-
--- the matches of `clap` have the value of each name
-abbrev pub GivesValues : CommandForm → List Binding → ArgMatches → Type 0
-GivesValues form bound matches = HasBindings form bound (rows_of (found_of matches))
+-- the matches of `clap` have the value of each name that is no option without a value, and say of each name whether its value is `true`
+pub record GivesValues (bound : List Binding) (matches : ArgMatches) : Type 0 where
+  pub values : (name : List ℕ) → is_flag name ≡ false → first_value (found_of matches) name ≡ value_of name bound
+  pub flags : (name : List ℕ) → is_true (first_value (found_of matches) name) ≡ is_true (value_of name bound)
 
 -- the words bind these names, and the matches have them
 pub record IsParsed (form : CommandForm) (words : List (List ℕ)) (matches : ArgMatches) : Type 0 where
   pub bound : List Binding
   pub says : bindings form words ≡ Some bound
-  pub has : GivesValues form bound matches
+  pub has : GivesValues bound matches
 
 -- the value of the program stands for this command, or there is none
 abbrev pub Gives : Option CommandWords → Option Command → Type 0

@@ -1,5 +1,5 @@
 -- Which words mean which command, and with which settings.
-use Rattle.std.specs.Prelude.{◌<◌, ◌≤◌, ◌+◌, ◌-◌, ◌*◌, ◌==◌, ◌&&◌, ℕ, Bool, true, false, not, List, [], ◌∷◌, length, codes, bytes_eq, nat_lt, nat_le, Option, Some, None, option_map, option_and_then, find, if◌then◌else◌}
+use Rattle.std.specs.Prelude.{◌<◌, ◌≤◌, ◌+◌, ◌-◌, ◌*◌, ◌==◌, ◌&&◌, ℕ, Bool, true, false, not, List, [], ◌∷◌, length, codes, bytes_eq, nat_lt, nat_le, Option, Some, None, option_map, option_and_then, find, map, if◌then◌else◌}
 use Rattle.std.specs.List.{list_any, before_first, after_first}
 use Rattle.std.specs.Str.{all_ascii_digits}
 use Rattle.command_words.specs.declared.Command.{Command as CommandWords}
@@ -12,6 +12,7 @@ use Rattle.command_words.specs.declared.Query.TheVariants.{Check, Back, Deadlock
 use Rattle.command_words.specs.declared.Settings.{Settings}
 use Rattle.command_words.specs.declared.Start.{Start}
 use Rattle.command_words.specs.declared.Start.TheVariants.{Bad, Nothing}
+use Rattle.command_words.specs.declared.forms.TheConstants.{FORMS}
 use Rattle.command_words.specs.declared.forms.Name.{Name}
 use Rattle.command_words.specs.declared.forms.Name.TheVariants as names
 
@@ -105,8 +106,10 @@ kind_of (a ∷ (b ∷ rest)) = if a == 45 then (if b == 45 then kind_of_long res
 
 -- ---- what the words after the command's name bind
 
--- the form of a command: the full names of its options with a value and without, and the names of its positional words in order
+-- the form of a command: the word that names it, the full names of its options with a value and without, and the names of its positional words in order
 pub record CommandForm : Type 0 where
+  pub name : Name
+  pub word : List ℕ
   pub valued : List (List ℕ)
   pub flags : List (List ℕ)
   pub positionals : List (List ℕ)
@@ -241,45 +244,23 @@ settings_given bindings = settings_from (method_given bindings) (start_given bin
 
 -- ---- commands
 
--- the command that the word names
-abbrev pub name_of : List ℕ → Option Name
-name_of word =
-    if bytes_eq word (codes "check") then Some names.Check
-    else (if bytes_eq word (codes "back") then Some names.Back
-    else (if bytes_eq word (codes "deadlock") then Some names.Deadlock
-    else (if bytes_eq word (codes "past") then Some names.Past
-    else (if bytes_eq word (codes "checkall") then Some names.CheckAll
-    else (if bytes_eq word (codes "verify") then Some names.Verify
-    else (if bytes_eq word (codes "migrate") then Some names.Migrate
-    else (if bytes_eq word (codes "show") then Some names.Show
-    else (if bytes_eq word (codes "steps") then Some names.Steps
-    else (if bytes_eq word (codes "gen") then Some names.Generate
-    else None)))))))))
+-- the form of each command
+abbrev pub forms : List CommandForm
+forms = map (λ form. record {
+  name = form.0;
+  word = form.1.now;
+  valued = map (λ name. name.now) form.2.now;
+  flags = map (λ name. name.now) form.3.now;
+  positionals = map (λ name. name.now) form.4.now;
+}) FORMS
 
--- the form of the words after each name
-abbrev pub form_of : Name → CommandForm
-form_of names.Check = record {
-  valued = codes "method" ∷ (codes "start" ∷ (codes "bound" ∷ (codes "budget" ∷ (codes "workers" ∷ []))));
-  flags = codes "report" ∷ [];
-  positionals = codes "FILE" ∷ [];
-}
-form_of names.Back = record { valued = codes "budget" ∷ (codes "workers" ∷ []); flags = []; positionals = codes "FILE" ∷ [] }
-form_of names.Deadlock = record { valued = codes "budget" ∷ (codes "workers" ∷ []); flags = []; positionals = codes "FILE" ∷ [] }
-form_of names.Past = record {
-  valued = codes "bound" ∷ (codes "budget" ∷ (codes "workers" ∷ []));
-  flags = [];
-  positionals = codes "FILE" ∷ [];
-}
-form_of names.CheckAll = record {
-  valued = codes "budget" ∷ (codes "workers" ∷ []);
-  flags = [];
-  positionals = codes "FILE" ∷ (codes "PROPS" ∷ []);
-}
-form_of names.Verify = record { valued = []; flags = []; positionals = codes "FILE" ∷ (codes "CERT" ∷ []) }
-form_of names.Migrate = record { valued = []; flags = []; positionals = codes "FILE" ∷ (codes "CERT" ∷ []) }
-form_of names.Show = record { valued = []; flags = []; positionals = codes "FILE" ∷ [] }
-form_of names.Steps = record { valued = []; flags = []; positionals = codes "FILE" ∷ (codes "CONFIGURATION" ∷ []) }
-form_of names.Generate = record { valued = codes "workers" ∷ []; flags = []; positionals = codes "N" ∷ [] }
+-- the form of the command that the word names
+abbrev pub form_named : List ℕ → Option CommandForm
+form_named word = find (λ form. bytes_eq form.word word) forms
+
+-- whether a command has an option of this name without a value
+abbrev pub is_flag : List ℕ → Bool
+is_flag name = list_any (λ form. is_among name form.flags) forms
 
 -- a searching command, where its text, its query and its limits are given well
 abbrev pub searching_of : Option (List ℕ) → Option Query → Option Limits → Option Command
@@ -315,12 +296,12 @@ command_given names.Steps bound = two_of steps (value_of (codes "FILE") bound) (
 command_given names.Generate bound =
     generate_of (option_and_then (number_in 1 most_generated) (value_of (codes "N") bound)) (workers_given bound)
 
--- the command of this name, from the words after it
-abbrev pub command_after : List (List ℕ) → Name → Option Command
-command_after words name = option_and_then (command_given name) (bindings (form_of name) words)
+-- the command of this form, from the words after its name
+abbrev pub command_after : List (List ℕ) → CommandForm → Option Command
+command_after words form = option_and_then (command_given form.name) (bindings form words)
 
 abbrev pub command_named : List ℕ → List (List ℕ) → Option Command
-command_named word words = option_and_then (command_after words) (name_of word)
+command_named word words = option_and_then (command_after words) (form_named word)
 
 abbrev pub is_empty : List ℕ → Bool
 is_empty word = length word == 0

@@ -5,8 +5,8 @@ ghost use Rattle.std.specs.Prelude.{List, ℕ, ◌≡◌, false, codes, option_m
 ghost use Rattle.command_words.specs.declared.Query.TheVariants.{Check, Past};
 ghost use Rattle.command_words.specs.declared.forms.Name.TheVariants as names;
 ghost use Rattle.command_words.specs.Parsing.{Gives, GivesInRange, GivesValues};
-ghost use Rattle.command_words.specs.Words.{Binding, Command as CommandData, CommandForm as FormData, IsQuery, bound_given, command_given};
-ghost use Rattle.command_words.specs.Words.{form_of, is_among, searching_given, settings_given, two_of, value_of};
+ghost use Rattle.command_words.specs.Words.{Binding, Command as CommandData, IsQuery, bound_given, command_given};
+ghost use Rattle.command_words.specs.Words.{is_flag, searching_given, settings_given, two_of, value_of};
 
 use crate::forms::Name;
 use crate::values::{bound_in, generated_in, limits_in, settings_in, value_in, workers_in};
@@ -15,8 +15,7 @@ use clap::ArgMatches;
 
 // The query of `check`.
 fn check_query_in(matches: &ArgMatches<'_>) -> Option<Query>
-    ensures query { (bound : List Binding) → GivesValues (form_of names.Check) bound matches.now
-        → result ≡ option_map Check (settings_given bound) }
+    ensures query { (bound : List Binding) → GivesValues bound matches.now → result ≡ option_map Check (settings_given bound) }
     ensures in_range { IfSome result IsQuery }
 {
     let settings = settings_in(matches)?;
@@ -25,8 +24,7 @@ fn check_query_in(matches: &ArgMatches<'_>) -> Option<Query>
 
 // The query of `past`.
 fn past_query_in(matches: &ArgMatches<'_>) -> Option<Query>
-    ensures query { (bound : List Binding) → GivesValues (form_of names.Past) bound matches.now
-        → result ≡ option_map Past (bound_given bound) }
+    ensures query { (bound : List Binding) → GivesValues bound matches.now → result ≡ option_map Past (bound_given bound) }
     ensures in_range { IfSome result IsQuery }
 {
     let bound = bound_in(matches)?;
@@ -38,9 +36,7 @@ fn past_query_in(matches: &ArgMatches<'_>) -> Option<Query>
 // The searching command of this query, if there is one.
 fn search_in<'a>(matches: &ArgMatches<'a>, query: Option<Query>) -> Option<Command<'a>>
     requires { IfSome query IsQuery }
-    ensures command { (form : FormData) (bound : List Binding) → GivesValues form bound matches.now
-        → is_among (codes "FILE") form.flags ≡ false → is_among (codes "budget") form.flags ≡ false
-        → is_among (codes "workers") form.flags ≡ false → Gives result (searching_given bound query) }
+    ensures command { (bound : List Binding) → GivesValues bound matches.now → Gives result (searching_given bound query) }
     ensures in_range { GivesInRange result }
 {
     let file = value_in(matches, "FILE")?;
@@ -55,8 +51,7 @@ fn search_in<'a>(matches: &ArgMatches<'a>, query: Option<Query>) -> Option<Comma
 
 // The value of FILE and that of another name, which are no options without a value, if there are both.
 fn two_in<'a>(matches: &ArgMatches<'a>, other: &str) -> Option<(&'a str, &'a str)>
-    ensures { (form : FormData) (bound : List Binding) → GivesValues form bound matches.now
-        → is_among (codes "FILE") form.flags ≡ false → is_among other.now form.flags ≡ false
+    ensures { (bound : List Binding) → GivesValues bound matches.now → is_flag other.now ≡ false
         → (command : List ℕ → List ℕ → CommandData) → option_map (λ words. command words.0.now words.1.now) result
         ≡ two_of command (value_of (codes "FILE") bound) (value_of other.now bound) }
 {
@@ -67,8 +62,7 @@ fn two_in<'a>(matches: &ArgMatches<'a>, other: &str) -> Option<(&'a str, &'a str
 
 // The command of `checkall`.
 fn check_all_in<'a>(matches: &ArgMatches<'a>) -> Option<Command<'a>>
-    ensures command { (bound : List Binding) → GivesValues (form_of names.CheckAll) bound matches.now
-        → Gives result (command_given names.CheckAll bound) }
+    ensures command { (bound : List Binding) → GivesValues bound matches.now → Gives result (command_given names.CheckAll bound) }
     ensures in_range { GivesInRange result }
 {
     let limits = limits_in(matches)?;
@@ -82,8 +76,7 @@ fn check_all_in<'a>(matches: &ArgMatches<'a>) -> Option<Command<'a>>
 
 // The command of `verify`.
 fn verify_in<'a>(matches: &ArgMatches<'a>) -> Option<Command<'a>>
-    ensures command { (bound : List Binding) → GivesValues (form_of names.Verify) bound matches.now
-        → Gives result (command_given names.Verify bound) }
+    ensures command { (bound : List Binding) → GivesValues bound matches.now → Gives result (command_given names.Verify bound) }
     ensures in_range { GivesInRange result }
 {
     let (file, certificate) = two_in(matches, "CERT")?;
@@ -92,8 +85,7 @@ fn verify_in<'a>(matches: &ArgMatches<'a>) -> Option<Command<'a>>
 
 // The command of `migrate`.
 fn migrate_in<'a>(matches: &ArgMatches<'a>) -> Option<Command<'a>>
-    ensures command { (bound : List Binding) → GivesValues (form_of names.Migrate) bound matches.now
-        → Gives result (command_given names.Migrate bound) }
+    ensures command { (bound : List Binding) → GivesValues bound matches.now → Gives result (command_given names.Migrate bound) }
     ensures in_range { GivesInRange result }
 {
     let (file, certificate) = two_in(matches, "CERT")?;
@@ -102,8 +94,7 @@ fn migrate_in<'a>(matches: &ArgMatches<'a>) -> Option<Command<'a>>
 
 // The command of `show`.
 fn show_in<'a>(matches: &ArgMatches<'a>) -> Option<Command<'a>>
-    ensures command { (bound : List Binding) → GivesValues (form_of names.Show) bound matches.now
-        → Gives result (command_given names.Show bound) }
+    ensures command { (bound : List Binding) → GivesValues bound matches.now → Gives result (command_given names.Show bound) }
     ensures in_range { GivesInRange result }
 {
     let file = value_in(matches, "FILE")?;
@@ -112,8 +103,7 @@ fn show_in<'a>(matches: &ArgMatches<'a>) -> Option<Command<'a>>
 
 // The command of `steps`.
 fn steps_in<'a>(matches: &ArgMatches<'a>) -> Option<Command<'a>>
-    ensures command { (bound : List Binding) → GivesValues (form_of names.Steps) bound matches.now
-        → Gives result (command_given names.Steps bound) }
+    ensures command { (bound : List Binding) → GivesValues bound matches.now → Gives result (command_given names.Steps bound) }
     ensures in_range { GivesInRange result }
 {
     let (file, configuration) = two_in(matches, "CONFIGURATION")?;
@@ -125,8 +115,7 @@ fn steps_in<'a>(matches: &ArgMatches<'a>) -> Option<Command<'a>>
 
 // The command of `gen`.
 fn generate_in<'a>(matches: &ArgMatches<'a>) -> Option<Command<'a>>
-    ensures command { (bound : List Binding) → GivesValues (form_of names.Generate) bound matches.now
-        → Gives result (command_given names.Generate bound) }
+    ensures command { (bound : List Binding) → GivesValues bound matches.now → Gives result (command_given names.Generate bound) }
     ensures in_range { GivesInRange result }
 {
     let number = generated_in(matches)?;
@@ -136,7 +125,7 @@ fn generate_in<'a>(matches: &ArgMatches<'a>) -> Option<Command<'a>>
 
 /// The command of this name that the matches mean, if there is one.
 pub(crate) fn command_in<'a>(name: Name, matches: &ArgMatches<'a>) -> Option<Command<'a>>
-    ensures command { (bound : List Binding) → GivesValues (form_of name) bound matches.now → Gives result (command_given name bound) }
+    ensures command { (bound : List Binding) → GivesValues bound matches.now → Gives result (command_given name bound) }
     ensures in_range { GivesInRange result }
 {
     match name {

@@ -1,9 +1,10 @@
-//! The names of the commands, and the form of the words after each: which options there are, and which positional words. A name is found
-//! by comparing it with each.
+//! The commands: the word that names each, and the form of the words after it, which are options and positional words. A command is found
+//! by comparing the word with each name.
 
-ghost use Rattle.std.specs.Prelude.{◌≡◌};
+ghost use Rattle.std.specs.Prelude.{◌≡◌, find, map, option_map};
+ghost use Rattle.std.specs.Str.{bytes_eq};
 ghost use Rattle.command_words.specs.Parsing.{form_as_words};
-ghost use Rattle.command_words.specs.Words.{form_of as form_of_words, name_of as name_of_words};
+ghost use Rattle.command_words.specs.Words.{form_named as form_named_so};
 
 /// A command by its name.
 #[derive(Clone, Copy, Drop)]
@@ -30,130 +31,64 @@ pub(crate) enum Name {
     Generate,
 }
 
-/// The form of the words after a command's name.
-#[derive(Clone, Copy, Drop)]
-pub(crate) struct CommandForm<'a> {
-    /// The full names of the options with a value.
-    pub(crate) valued: &'a [&'a str],
-    /// The full names of the options without a value.
-    pub(crate) flags: &'a [&'a str],
-    /// The names of the positional words in order.
-    pub(crate) positionals: &'a [&'a str],
+/// The form of a command: the command, the word that names it, the full names of its options with a value and of those without, and the
+/// names of its positional words in order.
+pub(crate) type Form = (
+    Name,
+    &'static str,
+    &'static [&'static str],
+    &'static [&'static str],
+    &'static [&'static str],
+);
+
+/// The form of each command.
+pub(crate) const FORMS: [Form; 10] = [
+    (
+        Name::Check,
+        "check",
+        &["method", "start", "bound", "budget", "workers"],
+        &["report"],
+        &["FILE"],
+    ),
+    (Name::Back, "back", &["budget", "workers"], &[], &["FILE"]),
+    (
+        Name::Deadlock,
+        "deadlock",
+        &["budget", "workers"],
+        &[],
+        &["FILE"],
+    ),
+    (
+        Name::Past,
+        "past",
+        &["bound", "budget", "workers"],
+        &[],
+        &["FILE"],
+    ),
+    (
+        Name::CheckAll,
+        "checkall",
+        &["budget", "workers"],
+        &[],
+        &["FILE", "PROPS"],
+    ),
+    (Name::Verify, "verify", &[], &[], &["FILE", "CERT"]),
+    (Name::Migrate, "migrate", &[], &[], &["FILE", "CERT"]),
+    (Name::Show, "show", &[], &[], &["FILE"]),
+    (Name::Steps, "steps", &[], &[], &["FILE", "CONFIGURATION"]),
+    (Name::Generate, "gen", &["workers"], &[], &["N"]),
+];
+
+// The first of the forms whose command the word names, if there is one.
+fn form_among(forms: &[Form], word: &str) -> Option<Form>
+    ensures { option_map form_as_words result ≡ find (λ form. bytes_eq form.word word.now) (map form_as_words forms.now) }
+{
+    forms.iter().find(|form| form.1 == word).map(|form| *form)
 }
 
-/// The form of `check`.
-const CHECK: CommandForm<'static> = CommandForm {
-    valued: &["method", "start", "bound", "budget", "workers"],
-    flags: &["report"],
-    positionals: &["FILE"],
-};
-
-/// The form of `back`.
-const BACK: CommandForm<'static> = CommandForm {
-    valued: &["budget", "workers"],
-    flags: &[],
-    positionals: &["FILE"],
-};
-
-/// The form of `deadlock`.
-const DEADLOCK: CommandForm<'static> = CommandForm {
-    valued: &["budget", "workers"],
-    flags: &[],
-    positionals: &["FILE"],
-};
-
-/// The form of `past`.
-const PAST: CommandForm<'static> = CommandForm {
-    valued: &["bound", "budget", "workers"],
-    flags: &[],
-    positionals: &["FILE"],
-};
-
-/// The form of `checkall`.
-const CHECK_ALL: CommandForm<'static> = CommandForm {
-    valued: &["budget", "workers"],
-    flags: &[],
-    positionals: &["FILE", "PROPS"],
-};
-
-/// The form of `verify`.
-const VERIFY: CommandForm<'static> = CommandForm {
-    valued: &[],
-    flags: &[],
-    positionals: &["FILE", "CERT"],
-};
-
-/// The form of `migrate`.
-const MIGRATE: CommandForm<'static> = CommandForm {
-    valued: &[],
-    flags: &[],
-    positionals: &["FILE", "CERT"],
-};
-
-/// The form of `show`.
-const SHOW: CommandForm<'static> = CommandForm {
-    valued: &[],
-    flags: &[],
-    positionals: &["FILE"],
-};
-
-/// The form of `steps`.
-const STEPS: CommandForm<'static> = CommandForm {
-    valued: &[],
-    flags: &[],
-    positionals: &["FILE", "CONFIGURATION"],
-};
-
-/// The form of `gen`.
-const GENERATE: CommandForm<'static> = CommandForm {
-    valued: &["workers"],
-    flags: &[],
-    positionals: &["N"],
-};
-
-/// The command that the word names, if there is one.
-pub(crate) fn name_of(word: &str) -> Option<Name>
-    ensures { result ≡ name_of_words word.now }
+/// The form of the command that the word names, if there is one.
+pub(crate) fn form_named(word: &str) -> Option<Form>
+    ensures { option_map form_as_words result ≡ form_named_so word.now }
 {
-    if word == "check" {
-        Some(Name::Check)
-    } else if word == "back" {
-        Some(Name::Back)
-    } else if word == "deadlock" {
-        Some(Name::Deadlock)
-    } else if word == "past" {
-        Some(Name::Past)
-    } else if word == "checkall" {
-        Some(Name::CheckAll)
-    } else if word == "verify" {
-        Some(Name::Verify)
-    } else if word == "migrate" {
-        Some(Name::Migrate)
-    } else if word == "show" {
-        Some(Name::Show)
-    } else if word == "steps" {
-        Some(Name::Steps)
-    } else if word == "gen" {
-        Some(Name::Generate)
-    } else {
-        None
-    }
-}
-
-/// The form of the command of this name.
-pub(crate) fn form_of(name: Name) -> CommandForm<'static>
-    ensures { form_as_words result ≡ form_of_words name }
-{
-    match name {
-        Name::Check => CHECK,
-        Name::Back => BACK,
-        Name::Deadlock => DEADLOCK,
-        Name::Past => PAST,
-        Name::CheckAll => CHECK_ALL,
-        Name::Verify => VERIFY,
-        Name::Migrate => MIGRATE,
-        Name::Show => SHOW,
-        Name::Steps => STEPS,
-        Name::Generate => GENERATE,
-    }
+    form_among(&FORMS, word)
 }

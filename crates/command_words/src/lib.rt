@@ -15,7 +15,7 @@ ghost use Rattle.command_words.specs.Parsing.{Gives, GivesInRange};
 ghost use Rattle.command_words.specs.Words.{command_named, command_of as command_of_words, is_empty, IsInRange, said};
 
 use crate::commands::command_in;
-use crate::forms::name_of;
+use crate::forms::form_named;
 pub use crate::law::plain_forms_mean;
 use crate::parsers::matches_of;
 use std::alloc::{AllocError, Global};
@@ -151,21 +151,18 @@ fn command_called<'a>(
     ensures command { IfOk result (λ found. Gives found (command_named name.now (drop 1 (map string_bytes words.entry.now)))) }
     ensures in_range { IfOk result GivesInRange }
 {
-    let Some(name) = name_of(name) else {
+    let Some(form) = form_named(name) else {
         return Ok(None);
     };
-    match matches_of(alloc, name, words)? {
-        Some(matches) => Ok(command_in(name, &matches)),
+    match matches_of(alloc, form, words)? {
+        Some(matches) => Ok(command_in(form.0, &matches)),
         None => Ok(None),
     }
 }
 
-/// The command that the words mean, which are those after the program's name; none where they mean none. The first word names the command:
-/// `check FILE [--method predicates|length] [--start bad|none] [--bound N] [--budget N] [--workers N] [--report]`, `verify FILE CERT`,
-/// `show FILE`, `steps FILE CONFIGURATION`, `gen N [--workers N]`, `migrate FILE CERT`, `back FILE [--budget N] [--workers N]`,
-/// `deadlock FILE [--budget N] [--workers N]`, `past FILE [--bound N] [--budget N] [--workers N]` or
-/// `checkall FILE PROPS [--budget N] [--workers N]`. Options stand anywhere after it, each at most once, as `--x V` or `--x=V`, and a word
-/// `--` ends them. No word is empty. A number is one to seven digits, and in its range.
+/// The command that the words mean, which are those after the program's name; none where they mean none. The first word names the command,
+/// whose form says which options and words follow (`forms`). Options stand anywhere after it, each at most once, as `--x V` or `--x=V`, and
+/// a word `--` ends them. No word is empty. A number is one to seven digits, and in its range.
 ///
 /// Errors: `AllocError`, only where memory runs out.
 pub fn command_of<'a>(alloc: Global, words: &'a [String]) -> Result<Option<Command<'a>>, AllocError>
@@ -177,7 +174,7 @@ pub fn command_of<'a>(alloc: Global, words: &'a [String]) -> Result<Option<Comma
         return Ok(None);
     }
     match words.first() {
-        Some(name) => Ok(command_called(alloc, name.as_str(), words)?),
+        Some(name) => command_called(alloc, name.as_str(), words),
         None => Ok(None),
     }
 }

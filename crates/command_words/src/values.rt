@@ -5,11 +5,10 @@ ghost use Rattle.std.specs.Prelude.{List, ◌≡◌, ◌≤◌, true, false, cod
 ghost use Rattle.std.specs.Char.{is_ascii_digit};
 ghost use Rattle.std.specs.List.{list_all};
 ghost use Rattle.command_words.specs.Parsing.{GivesValues};
-ghost use Rattle.command_words.specs.Words.{Binding, CommandForm as FormData, IsLimits, IsSettings, form_of, is_among, is_true};
+ghost use Rattle.command_words.specs.Words.{Binding, IsLimits, IsSettings, is_flag, is_true};
 ghost use Rattle.command_words.specs.Words.{bound_given, budget_given, limits_given, settings_given, workers_given, value_of, given};
 ghost use Rattle.command_words.specs.Words.{is_number as is_number_word, method_of, number_after, number_in, start_of};
 ghost use Rattle.command_words.specs.Words.{most_bound, most_budget, most_generated, most_workers};
-ghost use Rattle.command_words.specs.declared.forms.Name.TheVariants as names;
 
 use crate::{DEFAULT_BUDGET, Limits, Method, Settings, Start};
 use clap::ArgMatches;
@@ -31,7 +30,7 @@ const MOST_GENERATED: u32 = 255;
 
 // The value of the name, which is no option without a value.
 pub(crate) fn value_in<'a>(matches: &ArgMatches<'a>, name: &str) -> Option<&'a str>
-    ensures { (form : FormData) (bound : List Binding) → GivesValues form bound matches.now → is_among name.now form.flags ≡ false
+    ensures { (bound : List Binding) → GivesValues bound matches.now → is_flag name.now ≡ false
         → option_map (λ s. s.now) result ≡ value_of name.now bound }
 {
     matches.get_str(name)
@@ -49,8 +48,7 @@ fn is_given(word: Option<&str>) -> bool
 
 // Whether the report is asked for.
 fn report_in(matches: &ArgMatches<'_>) -> bool
-    ensures { (bound : List Binding) → GivesValues (form_of names.Check) bound matches.now
-        → result ≡ is_true (value_of (codes "report") bound) }
+    ensures { (bound : List Binding) → GivesValues bound matches.now → result ≡ is_true (value_of (codes "report") bound) }
 {
     is_given(matches.get_str("report"))
 }
@@ -156,8 +154,7 @@ fn start_or(word: Option<&str>) -> Option<Start>
 
 // The bound that the matches give.
 pub(crate) fn bound_in(matches: &ArgMatches<'_>) -> Option<u32>
-    ensures number { (form : FormData) (bound : List Binding) → GivesValues form bound matches.now
-        → is_among (codes "bound") form.flags ≡ false → result ≡ bound_given bound }
+    ensures number { (bound : List Binding) → GivesValues bound matches.now → result ≡ bound_given bound }
     ensures in_range { IfSome result (λ n. n ≤ most_bound) }
 {
     number_or(value_in(matches, "bound"), 0, 0, MOST_BOUND)
@@ -165,8 +162,7 @@ pub(crate) fn bound_in(matches: &ArgMatches<'_>) -> Option<u32>
 
 // The budget that the matches give.
 pub(crate) fn budget_in(matches: &ArgMatches<'_>) -> Option<u32>
-    ensures number { (form : FormData) (bound : List Binding) → GivesValues form bound matches.now
-        → is_among (codes "budget") form.flags ≡ false → result ≡ budget_given bound }
+    ensures number { (bound : List Binding) → GivesValues bound matches.now → result ≡ budget_given bound }
     ensures in_range { IfSome result (λ n. (1 ≤ n) × (n ≤ most_budget)) }
 {
     number_or(value_in(matches, "budget"), DEFAULT_BUDGET, 1, MOST_BUDGET)
@@ -174,8 +170,7 @@ pub(crate) fn budget_in(matches: &ArgMatches<'_>) -> Option<u32>
 
 // The number of workers that the matches give.
 pub(crate) fn workers_in(matches: &ArgMatches<'_>) -> Option<u32>
-    ensures number { (form : FormData) (bound : List Binding) → GivesValues form bound matches.now
-        → is_among (codes "workers") form.flags ≡ false → result ≡ workers_given bound }
+    ensures number { (bound : List Binding) → GivesValues bound matches.now → result ≡ workers_given bound }
     ensures in_range { IfSome result (λ n. (1 ≤ n) × (n ≤ most_workers)) }
 {
     number_or(value_in(matches, "workers"), 1, 1, MOST_WORKERS)
@@ -183,8 +178,7 @@ pub(crate) fn workers_in(matches: &ArgMatches<'_>) -> Option<u32>
 
 // The limits that the matches give.
 pub(crate) fn limits_in(matches: &ArgMatches<'_>) -> Option<Limits>
-    ensures limits { (form : FormData) (bound : List Binding) → GivesValues form bound matches.now
-        → is_among (codes "budget") form.flags ≡ false → is_among (codes "workers") form.flags ≡ false → result ≡ limits_given bound }
+    ensures limits { (bound : List Binding) → GivesValues bound matches.now → result ≡ limits_given bound }
     ensures in_range { IfSome result IsLimits }
 {
     let budget = budget_in(matches)?;
@@ -197,7 +191,7 @@ pub(crate) fn limits_in(matches: &ArgMatches<'_>) -> Option<Limits>
 
 // The settings that the matches of `check` give.
 pub(crate) fn settings_in(matches: &ArgMatches<'_>) -> Option<Settings>
-    ensures settings { (bound : List Binding) → GivesValues (form_of names.Check) bound matches.now → result ≡ settings_given bound }
+    ensures settings { (bound : List Binding) → GivesValues bound matches.now → result ≡ settings_given bound }
     ensures in_range { IfSome result IsSettings }
 {
     let method = method_or(value_in(matches, "method"))?;
@@ -214,7 +208,7 @@ pub(crate) fn settings_in(matches: &ArgMatches<'_>) -> Option<Settings>
 
 // The number that the matches of `gen` give.
 pub(crate) fn generated_in(matches: &ArgMatches<'_>) -> Option<u32>
-    ensures number { (bound : List Binding) → GivesValues (form_of names.Generate) bound matches.now
+    ensures number { (bound : List Binding) → GivesValues bound matches.now
         → result ≡ option_and_then (number_in 1 most_generated) (value_of (codes "N") bound) }
     ensures in_range { IfSome result (λ n. (1 ≤ n) × (n ≤ most_generated)) }
 {

@@ -1,24 +1,23 @@
 use Rattle.std.proofs.Common.{ℕ, List, rules, ◌∙◌, sym, ap, refl, option_map}
 use Rattle.std.specs.Prelude.{option_and_then}
-use Rattle.command_words.specs.Words.{Command, checking_all, checking_all_of, form_of}
-use Rattle.command_words.specs.declared.forms.Name.TheVariants as names
+use Rattle.command_words.specs.Words.{Command, checking_all, checking_all_of}
 use Rattle.command_words.proofs.Given.{gives_none}
 use Rattle.command_words.proofs.commands.check_all_in.Goals as goal
 
 pub returns-in_err-limits-clause-command : goal.returns-in_err-limits-clause-command
 returns-in_err-limits-clause-command c bound has =
     gives_none c.from_residual.result _ (search rules)
-    (ap (option_and_then (checking_all_of bound)) (sym (c.limits_in.ensures.limits (form_of names.CheckAll) bound has refl refl) ∙ c.in_err-limits.was))
+    (ap (option_and_then (checking_all_of bound)) (sym (c.limits_in.ensures.limits bound has) ∙ c.in_err-limits.was))
 
 pub returns-in_err-file-clause-command : goal.returns-in_err-file-clause-command
 returns-in_err-file-clause-command c bound has =
     let command : List ℕ → List ℕ → Command = λ file properties. checking_all file properties c.in_ok-limits.limits in
     gives_none c.from_residual-in_err-file.result _ (search rules)
-    (ap (option_and_then (checking_all_of bound)) (sym (c.limits_in.ensures.limits (form_of names.CheckAll) bound has refl refl) ∙ c.in_ok-limits.was)
-    ∙ sym (c.two_in.ensures (form_of names.CheckAll) bound has refl refl command) ∙ ap (option_map (λ words. command words.0.now words.1.now)) c.in_err-file.was)
+    (ap (option_and_then (checking_all_of bound)) (sym (c.limits_in.ensures.limits bound has) ∙ c.in_ok-limits.was)
+    ∙ sym (c.two_in.ensures bound has refl command) ∙ ap (option_map (λ words. command words.0.now words.1.now)) c.in_err-file.was)
 
 pub returns-clause-command : goal.returns-clause-command
 returns-clause-command c bound has =
     let command : List ℕ → List ℕ → Command = λ file properties. checking_all file properties c.in_ok-limits.limits in
-    ap (option_and_then (checking_all_of bound)) (sym (c.limits_in.ensures.limits (form_of names.CheckAll) bound has refl refl) ∙ c.in_ok-limits.was)
-    ∙ sym (c.two_in.ensures (form_of names.CheckAll) bound has refl refl command) ∙ ap (option_map (λ words. command words.0.now words.1.now)) c.in_ok-file.was
+    ap (option_and_then (checking_all_of bound)) (sym (c.limits_in.ensures.limits bound has) ∙ c.in_ok-limits.was)
+    ∙ sym (c.two_in.ensures bound has refl command) ∙ ap (option_map (λ words. command words.0.now words.1.now)) c.in_ok-file.was

@@ -1,15 +1,13 @@
-use Rattle.std.proofs.Common.{rules, ◌≡◌, ◌∙◌, sym, ap, refl, None, Some, option_map}
-use Rattle.command_words.specs.Words.{form_of}
+use Rattle.std.proofs.Common.{rules, ◌≡◌, ◌∙◌, sym, ap, None, Some, option_map}
 use Rattle.command_words.specs.declared.Query.TheVariants.{Past}
-use Rattle.command_words.specs.declared.forms.Name.TheVariants as names
 use Rattle.command_words.proofs.commands.past_query_in.Goals as goal
 
 pub returns-in_err-bound-clause-query : goal.returns-in_err-bound-clause-query
 returns-in_err-bound-clause-query c bound has =
     let none : c.from_residual.result ≡ None = search rules in
-    none ∙ ap (option_map Past) (sym c.in_err-bound.was ∙ c.bound_in.ensures.number (form_of names.Past) bound has refl)
+    none ∙ ap (option_map Past) (sym c.in_err-bound.was ∙ c.bound_in.ensures.number bound has)
 
 pub returns-clause-query : goal.returns-clause-query
 returns-clause-query c bound has =
     let widened : c.from.result ≡ c.in_ok-bound.bound = search rules in
-    ap (option_map Past) (ap Some widened ∙ sym c.in_ok-bound.was ∙ c.bound_in.ensures.number (form_of names.Past) bound has refl)
+    ap (option_map Past) (ap Some widened ∙ sym c.in_ok-bound.was ∙ c.bound_in.ensures.number bound has)

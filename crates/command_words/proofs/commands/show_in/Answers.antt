@@ -1,14 +1,13 @@
 use Rattle.std.proofs.Common.{rules, ◌∙◌, sym, ap, refl, option_map}
-use Rattle.command_words.specs.Words.{form_of, show}
-use Rattle.command_words.specs.declared.forms.Name.TheVariants as names
+use Rattle.command_words.specs.Words.{show}
 use Rattle.command_words.proofs.Given.{gives_none}
 use Rattle.command_words.proofs.commands.show_in.Goals as goal
 
 pub returns-in_err-file-clause-command : goal.returns-in_err-file-clause-command
 returns-in_err-file-clause-command c bound has =
     gives_none c.from_residual.result _ (search rules)
-    (ap (option_map show) (sym (c.value_in.ensures (form_of names.Show) bound has refl) ∙ ap (option_map (λ s. s.now)) c.in_err-file.was))
+    (ap (option_map show) (sym (c.value_in.ensures bound has refl) ∙ ap (option_map (λ s. s.now)) c.in_err-file.was))
 
 pub returns-clause-command : goal.returns-clause-command
 returns-clause-command c bound has =
-    ap (option_map show) (sym (c.value_in.ensures (form_of names.Show) bound has refl) ∙ ap (option_map (λ s. s.now)) c.in_ok-file.was)
+    ap (option_map show) (sym (c.value_in.ensures bound has refl) ∙ ap (option_map (λ s. s.now)) c.in_ok-file.was)
