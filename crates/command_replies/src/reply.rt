@@ -1,7 +1,7 @@
 //! Replies, which are a status and two texts, and those that do not depend on the command.
 //! A text is moved into its reply; the lines that are made here are copied, in time linear in their length.
 
-ghost use Rattle.std.specs.Prelude.{◌≡◌, ◌≢◌, IfOk, OnOk};
+ghost use Rattle.std.specs.Prelude.{◌≡◌, ◌≢◌, ◌++◌, IfOk, OnOk};
 ghost use Rattle.command_replies.specs.Line.{line};
 ghost use Rattle.command_replies.specs.Refusal.{certificate_refusal_text};
 ghost use Rattle.command_replies.specs.Reply.{on_out as on_out_of, on_err as on_err_of, usage as usage_reply, refusal_reply as refusal_reply_of, failure_reply as failure_reply_of};
@@ -11,7 +11,7 @@ use crate::line::line_of;
 use crate::refusal::{Refusal, certificate_refusal_line, refusal_line};
 use crate::status::Status;
 use certificate::CertFault;
-use sequence::Sequence;
+use sequence::{Sequence, Text};
 use std::alloc::{AllocError, Global};
 
 /// The line that tells the commands with their words.
@@ -85,19 +85,21 @@ pub fn certificate_refusal(alloc: Global, fault: &CertFault) -> Result<Reply, Al
     Ok(on_err(alloc, Status::CertificateRefused, text))
 }
 
+// The reply to a text of this name, which was not read, for which these words say why.
+fn unread(alloc: Global, words: &[u8], name: &Text) -> Result<Reply, AllocError>
+    ensures { IfOk result (λ reply. reply ≡ on_err_of Status.ReadFault (line (words.now ++ name.now))) }
+{
+    let text = line_of(alloc, words, name.as_str().as_bytes())?;
+    Ok(on_err(alloc, Status::ReadFault, text))
+}
+
 /// What is replied where a call failed. The only error is that memory ran out.
 pub fn failure_reply(alloc: Global, failure: &Failure) -> Result<Reply, AllocError>
     ensures { IfOk result (λ reply. reply ≡ failure_reply_of failure.now) }
 {
     match failure {
-        Failure::ReadFault(name) => {
-            let text = line_of(alloc, b"armc: read fault: ", name.as_str().as_bytes())?;
-            Ok(on_err(alloc, Status::ReadFault, text))
-        }
-        Failure::TooLong(name) => {
-            let text = line_of(alloc, b"armc: too long: ", name.as_str().as_bytes())?;
-            Ok(on_err(alloc, Status::ReadFault, text))
-        }
+        Failure::ReadFault(name) => unread(alloc, b"armc: read fault: ", name),
+        Failure::TooLong(name) => unread(alloc, b"armc: too long: ", name),
         Failure::Memory => {
             let text = b"armc: out of memory\n".to_vec(alloc)?;
             Ok(on_err(alloc, Status::Memory, text))
