@@ -2,7 +2,7 @@
 //! A method is a plain value, which is copied.
 
 /// What a search relates states by.
-#[derive(Clone, Copy, PartialEq, Eq)]
+#[derive(Clone, Copy, Drop)]
 pub enum Method {
     /// The states of predicate automata with which states share words.
     Predicates,
