@@ -281,5 +281,6 @@ found_has_not {T} f p (y ∷ ys) x none is = go (f y) refl none (p y) is (λ res
 pub formed : (word : List ℕ) (form : CommandForm) → form_named word ≡ Some form → IsFormed form
 formed word form is = found_has IsFormed (λ f. bytes_eq f.word word) forms form all_formed is
 
-pub own_flag : (word : List ℕ) (form : CommandForm) (name : List ℕ) → form_named word ≡ Some form → is_flag name ≡ false → is_among name form.flags ≡ false
+pub own_flag : (word : List ℕ) (form : CommandForm) (name : List ℕ) → form_named word ≡ Some form → is_flag name ≡ false
+    → is_among name form.flags ≡ false
 own_flag word form name is none = found_has_not (λ f. is_among name f.flags) (λ f. bytes_eq f.word word) forms form none is

@@ -27,10 +27,11 @@ true_or_default form name None = go (is_among name form.flags)
     go true = refl
     go false = refl
 
-gives_values : (word : List ℕ) (form : CommandForm) (bound : List Binding) (m : ArgMatches) → form_named word ≡ Some form → HasBindings form bound (rows_of (found_of m))
-    → GivesValues bound m
+gives_values : (word : List ℕ) (form : CommandForm) (bound : List Binding) (m : ArgMatches) → form_named word ≡ Some form
+    → HasBindings form bound (rows_of (found_of m)) → GivesValues bound m
 gives_values word form bound m is has = record {
-  values = λ name plain. first_value-rows (found_of m) name ∙ has name ∙ plain_value form name (value_of name bound) (own_flag word form name is plain);
+  values = λ name plain.
+      first_value-rows (found_of m) name ∙ has name ∙ plain_value form name (value_of name bound) (own_flag word form name is plain);
   flags = λ name. ap is_true (first_value-rows (found_of m) name ∙ has name) ∙ true_or_default form name (value_of name bound);
 }
 
@@ -41,7 +42,8 @@ pub from_matches : {Z : Type 0} (word : List ℕ) (form : CommandForm) (p : Pars
     (λ m. (fault_of (app_of p) (map string_bytes words) ≡ []) × (rows_of (found_of m) ≡ matches_of (app_of p) (map string_bytes words)))
     → MatchOption found (bindings form (drop 1 (map string_bytes words)) ≡ None) (IsParsed form (drop 1 (map string_bytes words)))
 from_matches word form p words None is named fails =
-    refused_is form (map string_bytes words) (formed word form named) (later_have_heads words) (subst (λ a. Fails (fault_of a (map string_bytes words))) is fails)
+    refused_is form (map string_bytes words) (formed word form named) (later_have_heads words)
+    (subst (λ a. Fails (fault_of a (map string_bytes words))) is fails)
 from_matches word form p words (Some m) is named given =
     let taken = taken_is form (map string_bytes words) (formed word form named) (later_have_heads words)
     (ap (λ (a : App). fault_of a (map string_bytes words)) (sym is) ∙ given.0) in

@@ -1,5 +1,5 @@
 -- Which words mean which command, and with which settings.
-use Rattle.std.specs.Prelude.{◌<◌, ◌≤◌, ◌+◌, ◌-◌, ◌*◌, ◌==◌, ◌&&◌, ℕ, Bool, true, false, not, List, [], ◌∷◌, length, codes, bytes_eq, nat_lt, nat_le, Option, Some, None, option_map, option_and_then, find, map, if◌then◌else◌}
+use Rattle.std.specs.Prelude.{◌<◌, ◌≤◌, ◌+◌, ◌-◌, ◌*◌, ◌==◌, ◌&&◌, ℕ, Bool, true, false, not, List, [], ◌∷◌, length, codes, bytes_eq, nat_lt, nat_le, Option, Some, None, option_map, option_and_then, find, if◌then◌else◌}
 use Rattle.std.specs.List.{list_any, before_first, after_first}
 use Rattle.std.specs.Str.{all_ascii_digits}
 use Rattle.command_words.specs.declared.Command.{Command as CommandWords}
@@ -12,7 +12,6 @@ use Rattle.command_words.specs.declared.Query.TheVariants.{Check, Back, Deadlock
 use Rattle.command_words.specs.declared.Settings.{Settings}
 use Rattle.command_words.specs.declared.Start.{Start}
 use Rattle.command_words.specs.declared.Start.TheVariants.{Bad, Nothing}
-use Rattle.command_words.specs.declared.forms.TheConstants.{FORMS}
 use Rattle.command_words.specs.declared.forms.Name.{Name}
 use Rattle.command_words.specs.declared.forms.Name.TheVariants as names
 
@@ -106,7 +105,7 @@ kind_of (a ∷ (b ∷ rest)) = if a == 45 then (if b == 45 then kind_of_long res
 
 -- ---- what the words after the command's name bind
 
--- the form of a command: the word that names it, the full names of its options with a value and without, and the names of its positional words in order
+-- the form of a command: the word that names it, the full names of its options with a value and without, and the names of its positional words
 pub record CommandForm : Type 0 where
   pub name : Name
   pub word : List ℕ
@@ -244,15 +243,29 @@ settings_given bindings = settings_from (method_given bindings) (start_given bin
 
 -- ---- commands
 
+-- the options of every search
+abbrev pub search_options : List (List ℕ)
+search_options = codes "budget" ∷ (codes "workers" ∷ [])
+
 -- the form of each command
 abbrev pub forms : List CommandForm
-forms = map (λ form. record {
-  name = form.0;
-  word = form.1.now;
-  valued = map (λ name. name.now) form.2.now;
-  flags = map (λ name. name.now) form.3.now;
-  positionals = map (λ name. name.now) form.4.now;
-}) FORMS
+forms =
+    record {
+      name = names.Check;
+      word = codes "check";
+      valued = codes "method" ∷ (codes "start" ∷ (codes "bound" ∷ search_options));
+      flags = codes "report" ∷ [];
+      positionals = codes "FILE" ∷ [];
+    } ∷
+    (record { name = names.Back; word = codes "back"; valued = search_options; flags = []; positionals = codes "FILE" ∷ [] } ∷
+    (record { name = names.Deadlock; word = codes "deadlock"; valued = search_options; flags = []; positionals = codes "FILE" ∷ [] } ∷
+    (record { name = names.Past; word = codes "past"; valued = codes "bound" ∷ search_options; flags = []; positionals = codes "FILE" ∷ [] } ∷
+    (record { name = names.CheckAll; word = codes "checkall"; valued = search_options; flags = []; positionals = codes "FILE" ∷ (codes "PROPS" ∷ []) } ∷
+    (record { name = names.Verify; word = codes "verify"; valued = []; flags = []; positionals = codes "FILE" ∷ (codes "CERT" ∷ []) } ∷
+    (record { name = names.Migrate; word = codes "migrate"; valued = []; flags = []; positionals = codes "FILE" ∷ (codes "CERT" ∷ []) } ∷
+    (record { name = names.Show; word = codes "show"; valued = []; flags = []; positionals = codes "FILE" ∷ [] } ∷
+    (record { name = names.Steps; word = codes "steps"; valued = []; flags = []; positionals = codes "FILE" ∷ (codes "CONFIGURATION" ∷ []) } ∷
+    (record { name = names.Generate; word = codes "gen"; valued = codes "workers" ∷ []; flags = []; positionals = codes "N" ∷ [] } ∷ [])))))))))
 
 -- the form of the command that the word names
 abbrev pub form_named : List ℕ → Option CommandForm

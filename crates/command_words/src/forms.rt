@@ -42,7 +42,7 @@ pub(crate) type Form = (
 );
 
 /// The form of each command.
-pub(crate) const FORMS: [Form; 10] = [
+const FORMS: [Form; 10] = [
     (
         Name::Check,
         "check",

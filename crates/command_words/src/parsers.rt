@@ -91,7 +91,8 @@ pub(crate) fn matches_of<'a>(
     words: &'a [String],
 ) -> Result<Option<ArgMatches<'a>>, AllocError>
     requires { (word : List ℕ) × (form_named word ≡ Some (form_as_words form)) }
-    ensures { IfOk result (λ found. MatchOption found (bindings (form_as_words form.entry) (drop 1 (map string_bytes words.entry.now)) ≡ None)
+    ensures { IfOk result (λ found. MatchOption found
+        (bindings (form_as_words form.entry) (drop 1 (map string_bytes words.entry.now)) ≡ None)
         (IsParsed (form_as_words form.entry) (drop 1 (map string_bytes words.entry.now)))) }
 {
     let parser = parser_for(alloc, form)?;

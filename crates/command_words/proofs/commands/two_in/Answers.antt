@@ -6,7 +6,8 @@ pub returns-in_err-file : goal.returns-in_err-file
 returns-in_err-file c bound has other_plain command =
     let none : c.from_residual.result ≡ None = search rules in
     ap (option_map _) none
-    ∙ sym (ap (λ x. two_of command x (value_of c.args.other.now bound)) (sym (c.value_in.ensures bound has refl) ∙ ap (option_map (λ s. s.now)) c.in_err-file.was))
+    ∙ sym (ap (λ x. two_of command x (value_of c.args.other.now bound))
+    (sym (c.value_in.ensures bound has refl) ∙ ap (option_map (λ s. s.now)) c.in_err-file.was))
 
 pub returns-in_err-other : goal.returns-in_err-other
 returns-in_err-other c bound has other_plain command =

@@ -13,5 +13,6 @@ matches_on-requires c =
 pub returns : goal.returns
 returns c =
     IfOk-weaker c.matches_on.result _ _
-    (λ found has. from_matches c.requires.0 (form_as_words c.args.form) c.in_ok-parser.parser c.args.words.now found c.in_ok-parser.ensures c.requires.1 has)
+    (λ found has.
+    from_matches c.requires.0 (form_as_words c.args.form) c.in_ok-parser.parser c.args.words.now found c.in_ok-parser.ensures c.requires.1 has)
     c.matches_on.ensures.refused

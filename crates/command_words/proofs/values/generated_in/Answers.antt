@@ -6,9 +6,11 @@ use Rattle.command_words.proofs.values.generated_in.Goals as goal
 pub returns-in_err-word-clause-number : goal.returns-in_err-word-clause-number
 returns-in_err-word-clause-number c bound has =
     let none : c.from_residual.result ≡ None = search rules in
-    none ∙ ap (option_and_then (number_in 1 most_generated)) (sym (sym (c.value_in.ensures bound has refl) ∙ ap (option_map (λ s. s.now)) c.in_err-word.was))
+    none ∙ ap (option_and_then (number_in 1 most_generated))
+    (sym (sym (c.value_in.ensures bound has refl) ∙ ap (option_map (λ s. s.now)) c.in_err-word.was))
 
 pub returns-clause-number : goal.returns-clause-number
 returns-clause-number c bound has =
     c.number_between.ensures.number
-    ∙ ap (option_and_then (number_in 1 most_generated)) (sym (sym (c.value_in.ensures bound has refl) ∙ ap (option_map (λ s. s.now)) c.in_ok-word.was))
+    ∙ ap (option_and_then (number_in 1 most_generated))
+    (sym (sym (c.value_in.ensures bound has refl) ∙ ap (option_map (λ s. s.now)) c.in_ok-word.was))
