@@ -8,7 +8,7 @@ use Rattle.word_automata.specs.Path.{Node}
 use Rattle.word_automata.specs.Automaton.{Automaton, IsValid}
 use Rattle.minimise.specs.Signatures.{Signature}
 use Rattle.minimise.specs.Refinement.{live_edge}
-use Rattle.minimise.specs.private.Rounds.{AreApart, AreToldApart, outgoing, edge_number, mixed_in, mixed_in_edge, hash_of, AreHashes}
+use Rattle.minimise.specs.private.Rounds.{AreToldApart, outgoing, edge_number, mixed_in, mixed_in_edge, hash_of, AreHashes}
 use Rattle.minimise.proofs.Splitting.{live_edge_more, dead_edge_more}
 use Rattle.minimise.proofs.Refining.{outgoing_apart}
 use Rattle.minimise.proofs.OwnSignatures.{outgoing-past}

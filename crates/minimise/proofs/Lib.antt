@@ -9,6 +9,7 @@ pub mod OwnSignatures
 pub mod LeastNumbers
 pub mod RowLists
 pub mod HashLemmas
+pub mod HashesFromTheEnd
 pub mod MemberLists
 pub mod FoundMoves
 pub mod LetterRuns

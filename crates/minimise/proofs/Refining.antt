@@ -9,7 +9,7 @@ use Rattle.exploration.specs.DeterministicSystem.{look_up}
 pub use Rattle.exploration.proofs.ForCallers.{index-zeros}
 use Rattle.minimise.specs.Signatures.{Signature}
 use Rattle.minimise.specs.Refinement.{live_class, live_edge, signature_of, IsSplit, AreGrouped, AreCoarse, AreLanguageClasses}
-use Rattle.minimise.specs.private.Rounds.{AreToldApart, outgoing, AreAlike}
+use Rattle.minimise.specs.private.Rounds.{AreApart, AreToldApart, outgoing, AreAlike}
 use Rattle.minimise.proofs.Edges.{edges_differ, next_state, accepts_from-next, class-past, look_up-live_edges, live_edges-increasing, live_class-same}
 
 same_or_not : (x y : Bool) → (x ≡ y) ⊎ (x ≡ y → ⊥)
@@ -38,26 +38,30 @@ falls n (c ∷ cs) (f ∷ fs) l h k ne =
       | inr other ↦ let a = rest-le n cs fs (omega arith) (λ q. h (suc q)) in omega (arith, sum_by-cons (λ c. n - c) f fs, sum_by-cons (λ c. n - c) c cs)
     ]
 
--- states with different signatures are told apart
-pub outgoing_apart : (m : Automaton) → IsValid m → (classes : List ℕ) → AreToldApart m classes → (p q : ℕ) → (outgoing m classes p ≡ outgoing m classes q → ⊥)
-    → (w : List ℕ) × (accepts_from m p w ≡ accepts_from m q w → ⊥)
-outgoing_apart m valid classes apart p q ne = by_flag (same_or_not (is_accepting m.states p) (is_accepting m.states q))
+-- states with different signatures are told apart, where classes tell apart the states that letters lead to
+pub outgoing_apart_by : (m : Automaton) → IsValid m → (classes : List ℕ) → length classes ≡ length m.states → (p q : ℕ)
+    → ((a : ℕ) → (slice_index classes (next_state m p a) ≡ slice_index classes (next_state m q a) → ⊥) → AreApart m (next_state m p a) (next_state m q a))
+    → (outgoing m classes p ≡ outgoing m classes q → ⊥) → AreApart m p q
+outgoing_apart_by m valid classes count p q told_apart ne = by_flag (same_or_not (is_accepting m.states p) (is_accepting m.states q))
   where
     by_edges : is_accepting m.states p ≡ is_accepting m.states q
         → (filter_map (live_edge classes) (edges_of m.states p) ≡ filter_map (live_edge classes) (edges_of m.states q))
         ⊎ ((a : ℕ) × (look_up (filter_map (live_edge classes) (edges_of m.states p)) a ≡ look_up (filter_map (live_edge classes) (edges_of m.states q)) a → ⊥))
-        → (w : List ℕ) × (accepts_from m p w ≡ accepts_from m q w → ⊥)
+        → AreApart m p q
     by_edges f (inl e) = absurd (ne (λ i. record { class = 0; accepting = f i; edges = e i }))
     by_edges f (inr (a, differ)) =
-        let more = apart.told_apart (next_state m p a) (next_state m q a)
-        (λ same. differ (look_up-live_edges m valid classes apart.count p a ∙ ap live_class same ∙ sym (look_up-live_edges m valid classes apart.count q a))) in
+        let more = told_apart a
+        (λ same. differ (look_up-live_edges m valid classes count p a ∙ ap live_class same ∙ sym (look_up-live_edges m valid classes count q a))) in
         (a ∷ more.0, λ h. more.1 (sym (accepts_from-next m p a more.0) ∙ h ∙ accepts_from-next m q a more.0))
 
     by_flag : (is_accepting m.states p ≡ is_accepting m.states q) ⊎ (is_accepting m.states p ≡ is_accepting m.states q → ⊥)
-        → (w : List ℕ) × (accepts_from m p w ≡ accepts_from m q w → ⊥)
+        → AreApart m p q
     by_flag (inl f) = by_edges f (edges_differ (filter_map (live_edge classes) (edges_of m.states p)) (filter_map (live_edge classes) (edges_of m.states q))
-        (live_edges-increasing m valid classes apart.count p) (live_edges-increasing m valid classes apart.count q))
+        (live_edges-increasing m valid classes count p) (live_edges-increasing m valid classes count q))
     by_flag (inr g) = ([], g)
+
+pub outgoing_apart : (m : Automaton) → IsValid m → (classes : List ℕ) → AreToldApart m classes → (p q : ℕ) → (outgoing m classes p ≡ outgoing m classes q → ⊥) → AreApart m p q
+outgoing_apart m valid classes apart p q = outgoing_apart_by m valid classes apart.count p q (λ a. apart.told_apart (next_state m p a) (next_state m q a))
 
 module _ (m : Automaton) (valid : IsValid m) (classes finer : List ℕ) (apart : AreToldApart m classes) (split : IsSplit m classes finer) where
   signatures_apart : (p q : ℕ) → (signature_of m classes p ≡ signature_of m classes q → ⊥) → (w : List ℕ) × (accepts_from m p w ≡ accepts_from m q w → ⊥)

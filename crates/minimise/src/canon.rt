@@ -92,7 +92,7 @@ pub fn canonical_nfa(alloc: Global, automaton: &Nfa) -> Result<Canon, AllocError
     ensures canonical { IfOk result IsCanonical }
 {
     let dfa = determinise(alloc, automaton)?;
-    Ok(canonical(alloc, &dfa)?)
+    canonical(alloc, &dfa)
 }
 
 /// Whether the two automata are equal as data, which they are exactly where their numbers of letters and their languages are.

@@ -1,61 +1,69 @@
-//! Whether rounds still find new classes: how many there are is counted, up to a few thousand states exactly, and beyond about. It ends
-//! rounds alone: no contract rests on it. A call takes time linear in the states, as the table does memory.
+//! Whether rounds still find new classes: it is counted on how many places of a table the classes fall, which is about how many there are.
+//! What is in the table bears the number of its round, so that nothing is cleared. It ends rounds alone: no contract rests on it. A call
+//! takes time linear in the states.
 
-use crate::class_counter::ClassCounter;
 use std::alloc::{AllocError, Global};
 
-/// How many classes the last round had, how many of them were new, and how many rounds in a row found few new classes.
+/// A table of places, each with the last round in which a class fell on it; on how many classes fell in the last round; and how many rounds
+/// in a row found few new classes.
 #[derive(Drop)]
 pub struct Growth {
-    counter: ClassCounter,
+    places: Vec<u8>,
+    round: u8,
     count: usize,
-    grown: usize,
     quiet: usize,
 }
 
 impl Growth {
-    /// Nothing has been counted.
+    /// Nothing has been counted. There are at least four places for each state.
     pub fn new(alloc: Global, states: usize) -> Result<Growth, AllocError> {
         Ok(Growth {
-            counter: ClassCounter::new(alloc, states)?,
+            places: vec![in alloc; 0; size(states)]?,
+            round: 0,
             count: 0,
-            grown: 0,
             quiet: 0,
         })
     }
 
-    /// Whether further rounds would find next to nothing, or where it is splitters that would find it sooner.
+    /// Whether next to no class is new, or at most a sixteenth were for the fourth time in a row, where splitters find the others sooner.
+    /// At most 255 rounds are told apart.
     pub fn is_over(&mut self, classes: &[usize]) -> bool {
+        self.round = self.round.wrapping_add(1);
+        let count = count_places(&mut self.places, classes, self.round);
         let before = self.count;
-        self.count = self.counter.count(classes);
-        let grown = self.count.saturating_sub(before);
-        if self.counter.is_exact() {
-            self.is_over_exactly(before, grown, classes.len())
-        } else {
-            self.is_over_about(before, grown)
-        }
-    }
-
-    /// Whether no class is new, each state has a class of its own, or classes grew for the fourth time in a row by at most a sixteenth and
-    /// by no less than before.
-    fn is_over_exactly(&mut self, before: usize, grown: usize, states: usize) -> bool {
-        self.note(grown, grown <= before / 16 && grown >= self.grown);
-        grown == 0 || self.count == states || self.quiet >= 4
-    }
-
-    /// Whether classes grew by next to nothing, or for the third time in a row by at most a sixteenth, or by no more than before.
-    fn is_over_about(&mut self, before: usize, grown: usize) -> bool {
-        self.note(grown, grown <= before / 16 || grown <= self.grown);
-        grown <= before / 1024 || self.quiet >= 3
-    }
-
-    /// Notes how many classes were new in a round, and whether these are few.
-    fn note(&mut self, grown: usize, is_quiet: bool) {
-        self.grown = grown;
-        self.quiet = if is_quiet {
+        let grown = count.saturating_sub(before);
+        self.count = count;
+        self.quiet = if grown <= before / 16 {
             self.quiet.wrapping_add(1)
         } else {
             0
         };
+        grown <= before / 1024 || self.quiet >= 4
     }
+}
+
+/// On how many places the classes fall in the round.
+fn count_places(places: &mut Vec<u8>, classes: &[usize], round: u8) -> usize {
+    let mask = places.len().wrapping_sub(1);
+    let mut count = 0usize;
+    'classes: for class in classes {
+        if let Some(place) = places.get_mut((*class / 65_536) & mask) {
+            if *place != round {
+                *place = round;
+                count = count.wrapping_add(1);
+            }
+        }
+    }
+    count
+}
+
+/// A power of two, at least 1024 and, up to a billion, at least four times the states.
+fn size(states: usize) -> usize {
+    let mut size = 1024usize;
+    'doublings: for _ in 0..20 {
+        if size / 4 < states {
+            size = size.wrapping_mul(2);
+        }
+    }
+    size
 }

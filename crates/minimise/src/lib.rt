@@ -1,11 +1,12 @@
 //! Canonical automata: minimal, numbered breadth first, and equal as data exactly where their languages are equal. Classes of states are
-//! refined by hashes of signatures, and where that takes many rounds by splitters (J. Hopcroft, 1971); a pass sees that they are stable.
+//! refined by hashes of signatures, in one pass where each edge leads to a later state (D. Revuz, 1992), and where rounds are many by
+//! splitters (J. Hopcroft, 1971); a pass sees that they are stable.
 //! A deterministic automaton is minimised in time linear in its edges times the logarithm of its states, up to sorting.
 #![tactic(auto)]
 
+mod acyclic;
 mod breadth_first;
 mod canon;
-mod class_counter;
 mod growth;
 mod hashing;
 mod laws;

@@ -48,7 +48,7 @@ fn split_further(
     if is_stable(alloc, automaton, &classes)? {
         return Ok(classes);
     }
-    Ok(rounds(alloc, automaton, classes)?)
+    rounds(alloc, automaton, classes)
 }
 
 /// Splits the classes, round by round over all states, until a round changes nothing.

@@ -53,7 +53,7 @@ impl<'a> Row<'a> {
 }
 
 /// The hash of the signature of a state that has these edges, without its own class.
-fn hash_of(accepting: bool, edges: &[(u32, usize)], classes: &[usize]) -> usize
+pub fn hash_of(accepting: bool, edges: &[(u32, usize)], classes: &[usize]) -> usize
     ensures { result ≡ hash_of (outgoing_in classes.now (record { accepting = accepting; edges = edges.now })) }
 {
     let mut value = if accepting { 1 } else { 0 };

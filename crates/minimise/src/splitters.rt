@@ -12,6 +12,7 @@ ghost use Rattle.minimise.specs.private.Rounds.{AreToldApart};
 ghost use Rattle.minimise.specs.private.Splitters.{AreListed, KeepsMembers, AddsMovesOf, AreMovesInto, HasOrderedLetters, IsRun, IsSaturated, AreSources, SplitsSoundly, AreMoved, target_of};
 
 use crate::parts::Parts;
+use crate::rows::class_of;
 use exploration::Incoming;
 use std::alloc::{AllocError, Global};
 use word_automata::Dfa;
@@ -123,16 +124,6 @@ fn is_in(classes: &[usize], class: usize, state: usize) -> bool
     class_of(classes, state) == class
 }
 
-/// The class of the state, 0 where the number is no state.
-fn class_of(classes: &[usize], state: usize) -> usize
-    ensures { result ≡ slice_index classes.now state }
-{
-    match classes.get(state) {
-        Some(class) => *class,
-        None => 0,
-    }
-}
-
 /// Adds the edges into the states of the list that are in the class.
 fn put_moves(
     incoming: &Incoming,
@@ -198,8 +189,7 @@ fn split(
 {
     parts.choose(classes, moves)?;
     move_sources(classes, members, parts.targets(), moves)?;
-    parts.settle()?;
-    Ok(())
+    parts.settle()
 }
 
 /// Moves the sources to the targets of their classes.

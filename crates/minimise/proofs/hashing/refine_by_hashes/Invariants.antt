@@ -1,6 +1,6 @@
 use Rattle.std.proofs.Common.{◌≡◌, length}
 use Rattle.minimise.specs.private.Rounds.{AreToldApart}
-use Rattle.minimise.proofs.hashing.hashed_rounds.Given as goal
+use Rattle.minimise.proofs.hashing.refine_by_hashes.Given as goal
 
 abbrev pub invariant-rounds : goal.invariant-rounds
 invariant-rounds l = record {
