@@ -1,8 +1,9 @@
-use Rattle.std.proofs.Common.{◌<◌, ℕ, None, Contains, length, take, get_or, subst, arith}
-use Rattle.std.proofs.lemmas.List.{take_more}
+use Rattle.std.proofs.Common.{◌<◌, ℕ, None, Contains, length, take, get_or, subst, ◌∙◌, arith}
+use Rattle.std.proofs.lemmas.List.{take_more, take_all}
 use Rattle.std.proofs.lemmas.List.Elements.{Contains-get_or}
 use Rattle.transducers.specs.declared.Label.{Label}
 use Rattle.transducers.proofs.ForCallers.{target_in_range}
+use Rattle.image_preimage.specs.Pairs.{FollowsAll}
 use Rattle.image_preimage.proofs.GapLemmas.{in_gap}
 use Rattle.image_preimage.proofs.PairLemmas.{FollowsAll-more, Follows-none}
 use Rattle.image_preimage.proofs.pairs.expand.Goals as goal
@@ -48,3 +49,12 @@ edges-preserved-then-has c =
           (Follows-none t a found c.edges.builder c.args.from c.pair_at-pair.result edge c.edges.invariant.0.reached nowhere)),
       c.edges.invariant.1,
     )
+
+pub returns : goal.returns
+returns c = (
+  c.pair_at-pair.result,
+  c.pair_at-pair.ensures,
+  subst (FollowsAll c.args.t.now c.args.a.now c.args.found.now.states.items c.edges.found.states.items c.args.builder.now c.edges.builder
+      c.args.from c.pair_at-pair.result)
+      (take_all c.edges.edge-index c.edges-edge-items.result.now c.edges-test.false ∙ c.edges-edge-items.ensures) c.edges.invariant.0,
+)

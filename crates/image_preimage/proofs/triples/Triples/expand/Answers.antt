@@ -1,7 +1,8 @@
-use Rattle.std.proofs.Common.{◌<◌, ℕ, None, Contains, length, take, get_or, subst, arith}
-use Rattle.std.proofs.lemmas.List.{take_more}
+use Rattle.std.proofs.Common.{◌<◌, ℕ, None, Contains, length, take, get_or, subst, ◌∙◌, arith}
+use Rattle.std.proofs.lemmas.List.{take_more, take_all}
 use Rattle.std.proofs.lemmas.List.Elements.{Contains-get_or}
 use Rattle.transducers.specs.declared.Label.{Label}
+use Rattle.image_preimage.specs.private.Triples.{Follows}
 use Rattle.image_preimage.proofs.GapLemmas.{in_gap}
 use Rattle.image_preimage.proofs.TripleLemmas.{Follows-more, Follows-nowhere}
 use Rattle.image_preimage.proofs.triples.Triples.expand.Goals as goal
@@ -47,3 +48,9 @@ edges-preserved-then-has c =
       c.edges.invariant.1,
       c.edges.invariant.2,
     )
+
+pub returns : goal.returns
+returns c =
+    let self = c.args.self.now in
+    subst (Follows self.t.now self.a.now self.b.now c.args.found.now.states.items c.edges.found.states.items c.args.triple)
+    (take_all c.edges.edge-index c.edges-edge-items.result.now c.edges-test.false ∙ c.edges-edge-items.ensures) c.edges.invariant.0
