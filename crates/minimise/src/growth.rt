@@ -4,13 +4,14 @@
 
 use std::alloc::{AllocError, Global};
 
-/// A table of places, each with the last round in which a class fell on it; on how many classes fell in the last round; and how many rounds
-/// in a row found few new classes.
+/// A table of places, each with the last round in which a class fell on it; on how many classes fell in the last round, and how many of these
+/// were new; and how many rounds in a row found few new classes.
 #[derive(Drop)]
 pub struct Growth {
     places: Vec<u8>,
     round: u8,
     count: usize,
+    grown: usize,
     quiet: usize,
 }
 
@@ -21,24 +22,26 @@ impl Growth {
             places: vec![in alloc; 0; size(states)]?,
             round: 0,
             count: 0,
+            grown: 0,
             quiet: 0,
         })
     }
 
-    /// Whether next to no class is new, or at most a sixteenth were for the fourth time in a row, where splitters find the others sooner.
-    /// At most 255 rounds are told apart.
+    /// Whether next to no class is new, or for the third time in a row at most a sixteenth, or no more than before: splitters find the
+    /// others sooner. At most 255 rounds are told apart.
     pub fn is_over(&mut self, classes: &[usize]) -> bool {
         self.round = self.round.wrapping_add(1);
         let count = count_places(&mut self.places, classes, self.round);
         let before = self.count;
         let grown = count.saturating_sub(before);
         self.count = count;
-        self.quiet = if grown <= before / 16 {
+        self.quiet = if grown <= before / 16 || grown <= self.grown {
             self.quiet.wrapping_add(1)
         } else {
             0
         };
-        grown <= before / 1024 || self.quiet >= 4
+        self.grown = grown;
+        grown <= before / 1024 || self.quiet >= 3
     }
 }
 
