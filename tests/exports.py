@@ -10,7 +10,7 @@ NAME = re.compile(r"[A-Za-z_][\w-]*")
 PARTS = {
     "Words and automata": """sequence word_automata bit_set exploration reduction atoms bit_subsets determinise minimise
         boolean_operations transducers image_preimage""",
-    "Systems": """protocol_model protocol_moves protocol_steps memory_moves array_moves step_compiler section_patterns parallel_post deadlock_query
+    "Systems": """protocol_model protocol_moves protocol_steps memory_moves array_moves step_compiler section_patterns protocol_problem deadlock_query
         certificate_checker""",
     "The search": """safety_problem abstraction predicate_abstraction future_abstraction past_abstraction search_history fixpoint trace_replay
         refinement backward_search protocol_search property_batch search_report""",

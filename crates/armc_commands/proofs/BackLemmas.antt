@@ -5,7 +5,7 @@ use Rattle.protocol_model.specs.System.{SystemData}
 use Rattle.protocol_model.specs.Words.{word_of}
 use Rattle.safety_problem.specs.Reversal.{reversed}
 use Rattle.search_history.specs.declared.log.Log.{Log}
-use Rattle.parallel_post.specs.SystemTask.{task_of}
+use Rattle.protocol_problem.specs.SystemTask.{task_of}
 use Rattle.predicate_abstraction.specs.Predicates.{predicates}
 use Rattle.refinement.specs.Verdicts.{IsInvariant, IsSound, IsVerdict}
 use Rattle.refinement.specs.declared.verdict.Verdict.{Verdict}

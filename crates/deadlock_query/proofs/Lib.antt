@@ -1,2 +1,1 @@
-mod FreeConfigurations
 mod StuckWords

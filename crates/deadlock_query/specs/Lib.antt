@@ -1,3 +1,2 @@
 pub mod StuckConfigurations
-pub mod DeadlockTask
-pub mod private
+pub mod SystemSteps

@@ -9,7 +9,7 @@ use Rattle.safety_problem.specs.Task.{Task}
 use Rattle.safety_problem.specs.Reversal.{reversed}
 use Rattle.abstraction.specs.Merging.{Key}
 use Rattle.abstraction.specs.Signatures.{AreSignatures}
-use Rattle.parallel_post.specs.SystemTask.{task_of}
+use Rattle.protocol_problem.specs.SystemTask.{task_of}
 use Rattle.predicate_abstraction.specs.Predicates.{predicates}
 use Rattle.predicate_abstraction.specs.PredicateLaws.{related-excludes, related-equivalence as predicates-equivalence}
 use Rattle.predicate_abstraction.specs.Signatures as by_predicate

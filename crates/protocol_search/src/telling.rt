@@ -3,9 +3,8 @@
 //! that makes it.
 
 ghost use Rattle.std.specs.Prelude.{◌≤◌, IfOk};
-ghost use Rattle.parallel_post.specs.SystemTask.{task_of};
+ghost use Rattle.protocol_problem.specs.SystemTask.{task_of, deadlock_task};
 ghost use Rattle.refinement.specs.Verdicts.{IsSound};
-ghost use Rattle.deadlock_query.specs.DeadlockTask.{deadlock_task};
 ghost use Rattle.protocol_search.specs.Analyses.{task_for, proof_limit, IsCertificateText, IsVerdictText};
 ghost use Rattle.protocol_search.specs.Deadlocks.{IsDeadlockText};
 
@@ -64,7 +63,7 @@ fn deadlock_text(
     limit: u64,
     verdict: &Verdict,
 ) -> Result<Vec<u8>, AllocError>
-    requires { IsSound (deadlock_task system.now (task_of system.now)) limit verdict.now }
+    requires { IsSound (deadlock_task system.now) limit verdict.now }
     ensures { IfOk result (λ text. IsDeadlockText system.now verdict.now text.items) }
 {
     match verdict {

@@ -5,7 +5,9 @@ ghost use Rattle.std.specs.Prelude.{◌≤◌};
 
 use crate::gates::Meeting;
 use crate::moves::{HANDOFF, system};
-use parallel_post::Compiled;
+use armc_commands::Status;
+use armc_io::Gate;
+use protocol_problem::{BadConfigurations, Compiled};
 use safety_problem::Problem;
 use std::alloc::Global;
 use std::test::Fail;
@@ -32,7 +34,8 @@ fn size<R: Threads + Sync>(
     requires { (1 ≤ workers) × (workers ≤ 16) }
 {
     let system = system(alloc, HANDOFF)?;
-    let problem = Compiled::new(alloc, rt, gate, &system, workers)?;
+    let kind = BadConfigurations::Declared;
+    let problem = Compiled::new(alloc, rt, gate, &system, kind, workers)?;
     size_of(&problem, backward)
 }
 

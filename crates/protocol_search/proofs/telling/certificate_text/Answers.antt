@@ -1,5 +1,5 @@
 use Rattle.std.proofs.Common.{sym, subst}
-use Rattle.parallel_post.specs.SystemTask.{task_of}
+use Rattle.protocol_problem.specs.SystemTask.{task_of}
 use Rattle.refinement.specs.Verdicts.{IsSound}
 use Rattle.protocol_search.specs.Runs.{AreStepWords}
 use Rattle.protocol_search.proofs.ByAnalysis.{told-words}

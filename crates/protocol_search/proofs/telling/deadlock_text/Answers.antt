@@ -1,7 +1,6 @@
 use Rattle.std.proofs.Common.{sym, subst}
-use Rattle.parallel_post.specs.SystemTask.{task_of}
+use Rattle.protocol_problem.specs.SystemTask.{deadlock_task}
 use Rattle.refinement.specs.Verdicts.{IsSound}
-use Rattle.deadlock_query.specs.DeadlockTask.{deadlock_task}
 use Rattle.protocol_search.specs.Runs.{AreStepWords}
 use Rattle.protocol_search.proofs.ByAnalysis.{deadlock-words}
 use Rattle.protocol_search.proofs.StepLemmas.{run-is}
@@ -10,7 +9,7 @@ use Rattle.protocol_search.proofs.telling.deadlock_text.Goals as goal
 pub run_through-requires : goal.run_through-requires
 run_through-requires c =
     let s = c.args.system.now in
-    let sound = subst (λ v. IsSound (deadlock_task s (task_of s)) c.args.limit v) c.in-Unsafe.is c.requires in
+    let sound = subst (λ v. IsSound (deadlock_task s) c.args.limit v) c.in-Unsafe.is c.requires in
     subst (AreStepWords s) (sym c.as_slice.ensures) (deadlock-words s c.in-Unsafe.words sound)
 
 pub write_run-requires : goal.write_run-requires
