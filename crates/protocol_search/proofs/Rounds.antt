@@ -1,5 +1,5 @@
 -- What holds of the history of the search for a system, and of the verdict that comes from it.
-use Rattle.std.proofs.Common.{◌≡◌, ◌≢◌, ◌≤◌, ◌+◌, ◌∙◌, ℕ, Bool, List, [], ◌∷◌, Option, None, Some, length, map, arith, refl, sym, ap, ap₂, subst}
+use Rattle.std.proofs.Common.{◌≡◌, ◌≢◌, ◌≤◌, ◌+◌, ◌∙◌, ℕ, List, [], ◌∷◌, Option, None, Some, length, map, arith, refl, sym, ap, ap₂, subst}
 use Rattle.std.specs.List.{last_or, AllByRecursion}
 use Rattle.std.proofs.lemmas.List.{length-map}
 use Rattle.std.proofs.lemmas.Option.{same_Some}
@@ -8,7 +8,6 @@ use Rattle.protocol_model.specs.System.{SystemData}
 use Rattle.safety_problem.specs.Task.{Task}
 use Rattle.safety_problem.specs.Reversal.{reversed}
 use Rattle.abstraction.specs.Merging.{Key}
-use Rattle.abstraction.specs.Signatures.{AreSignatures}
 use Rattle.protocol_problem.specs.SystemTask.{task_of}
 use Rattle.predicate_abstraction.specs.Predicates.{predicates}
 use Rattle.predicate_abstraction.specs.PredicateLaws.{related-excludes, related-equivalence as predicates-equivalence}

@@ -3,7 +3,7 @@ use Rattle.std.proofs.Common.{◌≡◌, ℕ, List, [], ◌∷◌, IsTrue, lengt
 use Rattle.protocol_model.specs.declared.system.Configuration.{Configuration}
 use Rattle.protocol_model.specs.declared.system.Run.{Run}
 use Rattle.protocol_model.specs.System.{SystemData}
-use Rattle.protocol_model.specs.Patterns.{fits, is_initial}
+use Rattle.protocol_model.specs.Patterns.{fits}
 use Rattle.protocol_model.specs.Steps.{IsStep}
 use Rattle.protocol_model.specs.Words.{automata_letters, word_of, IsInitialWord, IsWordStep}
 use Rattle.protocol_model.specs.Runs.{AreSteps, last_of}
