@@ -65,5 +65,5 @@ pub fn complement(alloc: Global, a: &Dfa) -> Result<Dfa, AllocError>
     ensures valid { IfOk result IsValid }
 {
     let complement = ComplementSystem { automaton: a };
-    Ok(explore(alloc, &complement)?)
+    explore(alloc, &complement)
 }

@@ -106,7 +106,7 @@ pub fn union(alloc: Global, a: &Dfa, b: &Dfa) -> Result<Dfa, AllocError>
         left: a,
         right: b,
     };
-    Ok(explore(alloc, &product)?)
+    explore(alloc, &product)
 }
 
 /// An automaton that accepts the words that both `a` and `b` accept. Both have the same letters.
@@ -121,7 +121,7 @@ pub fn intersect(alloc: Global, a: &Dfa, b: &Dfa) -> Result<Dfa, AllocError>
         left: a,
         right: b,
     };
-    Ok(explore(alloc, &product)?)
+    explore(alloc, &product)
 }
 
 /// An automaton that accepts the words that `a` accepts and `b` refuses. Both have the same letters.
@@ -136,5 +136,5 @@ pub fn difference(alloc: Global, a: &Dfa, b: &Dfa) -> Result<Dfa, AllocError>
         left: a,
         right: b,
     };
-    Ok(explore(alloc, &product)?)
+    explore(alloc, &product)
 }

@@ -47,8 +47,7 @@ impl Incoming {
     pub fn put_into(&self, state: usize, found: &mut Vec<(u32, usize)>) -> Result<(), AllocError>
         ensures { OnOk result (AddsMoves self.now state found.old.items found.new.items) }
     {
-        follow(self.last.as_slice(), self.edges.as_slice(), state, found)?;
-        Ok(())
+        follow(self.last.as_slice(), self.edges.as_slice(), state, found)
     }
 }
 
