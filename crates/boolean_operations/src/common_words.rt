@@ -82,5 +82,5 @@ pub fn least_common_word<A: FiniteAutomaton>(
         right: b,
         dead: &flags,
     };
-    Ok(least_word_to_goal(alloc, &CommonGraph { pairs })?)
+    least_word_to_goal(alloc, &CommonGraph { pairs })
 }

@@ -123,5 +123,5 @@ pub fn included<A: FiniteAutomaton>(
         right: b,
         dead: &flags,
     };
-    Ok(least_word_to_goal(alloc, &pairs)?)
+    least_word_to_goal(alloc, &pairs)
 }

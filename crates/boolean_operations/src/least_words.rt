@@ -80,5 +80,5 @@ pub fn is_empty(alloc: Global, a: &Dfa) -> Result<bool, AllocError>
 pub fn least_word(alloc: Global, a: &Dfa) -> Result<Option<Vec<u32>>, AllocError>
     ensures { IfOk result (λ word. MatchOption word (AcceptsNothing a.now) (λ w. IsLeastAccepted a.now w.items)) }
 {
-    Ok(least_word_to_goal(alloc, &StateGraph { automaton: a })?)
+    least_word_to_goal(alloc, &StateGraph { automaton: a })
 }
