@@ -13,7 +13,7 @@ pub fn empty_sets(alloc: Global, count: usize, bound: usize) -> Result<Vec<BitSe
     ensures { IfOk result (λ sets. AreEmpty count bound sets.items) }
 {
     let none = BitSet::new(alloc, bound)?;
-    Ok(copies(alloc, &none, count)?)
+    copies(alloc, &none, count)
 }
 
 /// So many copies of an empty set.
