@@ -12,8 +12,8 @@ use Rattle.command_words.specs.declared.Query.{Query}
 use Rattle.command_words.specs.declared.Query.TheVariants.{Check, Back, Deadlock, Past}
 use Rattle.command_words.specs.Words.{Command, verify, migrate, steps, show, checking_all, generate, most_generated}
 use Rattle.command_words.specs.Words.{Binding, value_of, is_number, number_after, number_in, workers_given, limits_given, bound_given, settings_given}
-use Rattle.command_words.specs.Words.{searching_of, two_of, checking_all_of, generate_of, command_given, command_named, command_of}
-use Rattle.command_words.specs.Words.{bindings, form_of, is_empty}
+use Rattle.command_words.specs.Words.{searching_of, two_of, checking_all_of, generate_of, command_after, command_given, command_named, command_of}
+use Rattle.command_words.specs.Words.{CommandForm, bindings, is_empty}
 use Rattle.protocol_syntax.specs.Grammar.{protocol}
 use Rattle.protocol_syntax.specs.OneReading.{ProtocolIsDetermined, FaultIsDetermined, FaultExcludesProtocol}
 use Rattle.protocol_model.specs.Faults.{first_fault}
@@ -67,36 +67,36 @@ then-has : {T : Type 0} (f : T → Option Command) (o : Option T) → ((t : T) �
 then-has f None each = tt
 then-has f (Some t) each = each t
 
--- the name is the first of some, or one of the others
-named-has : {N : Type 0} (given : N → List Binding → Option Command) (bound : N → Option (List Binding)) (test : Bool) (name : N) (others : Option N)
-    → ((b : List Binding) → IfSome (given name b) HasChain) → IfSome (option_and_then (λ n. option_and_then (given n) (bound n)) others) HasChain
-    → IfSome (option_and_then (λ n. option_and_then (given n) (bound n)) (cond test (Some name) others)) HasChain
-named-has given bound true name others each later = then-has (given name) (bound name) each
-named-has given bound false name others each later = later
+-- the form is the first of some, or one of the others
+named-has : (words : List (List ℕ)) (test : Bool) (form : CommandForm) (others : Option CommandForm)
+    → ((b : List Binding) → IfSome (command_given form.name b) HasChain) → IfSome (option_and_then (command_after words) others) HasChain
+    → IfSome (option_and_then (command_after words) (cond test (Some form) others)) HasChain
+named-has words true form others each later = then-has (command_given form.name) (bindings form words) each
+named-has words false form others each later = later
 
 -- what the words after each name bind
 word-has : (word : List ℕ) (words : List (List ℕ)) → IfSome (command_named word words) HasChain
 word-has word words =
     let file = value_of (codes "FILE") in
-    let is = λ (name : List ℕ). bytes_eq word name in
-    named-has command_given (λ n. bindings (form_of n) words) (is (codes "check")) _ _
+    let is = λ (name : List ℕ). bytes_eq name word in
+    named-has words (is (codes "check")) _ _
     (λ b. searching-has (file b) (option_map Check (settings_given b)) (limits_given b))
-    (named-has command_given (λ n. bindings (form_of n) words) (is (codes "back")) _ _ (λ b. searching-has (file b) (Some Back) (limits_given b))
-    (named-has command_given (λ n. bindings (form_of n) words) (is (codes "deadlock")) _ _ (λ b. searching-has (file b) (Some Deadlock) (limits_given b))
-    (named-has command_given (λ n. bindings (form_of n) words) (is (codes "past")) _ _
+    (named-has words (is (codes "back")) _ _ (λ b. searching-has (file b) (Some Back) (limits_given b))
+    (named-has words (is (codes "deadlock")) _ _ (λ b. searching-has (file b) (Some Deadlock) (limits_given b))
+    (named-has words (is (codes "past")) _ _
     (λ b. searching-has (file b) (option_map Past (bound_given b)) (limits_given b))
-    (named-has command_given (λ n. bindings (form_of n) words) (is (codes "checkall")) _ _
+    (named-has words (is (codes "checkall")) _ _
     (λ b.
     then-has (checking_all_of b) (limits_given b)
     (λ limits. two-has (λ f properties. checking_all f properties limits) (λ _ _. tt) (file b) (value_of (codes "PROPS") b)))
-    (named-has command_given (λ n. bindings (form_of n) words) (is (codes "verify")) _ _
+    (named-has words (is (codes "verify")) _ _
     (λ b. two-has verify (λ _ _. tt) (file b) (value_of (codes "CERT") b))
-    (named-has command_given (λ n. bindings (form_of n) words) (is (codes "migrate")) _ _
+    (named-has words (is (codes "migrate")) _ _
     (λ b. two-has migrate (λ _ _. tt) (file b) (value_of (codes "CERT") b))
-    (named-has command_given (λ n. bindings (form_of n) words) (is (codes "show")) _ _ (λ b. show-has (file b))
-    (named-has command_given (λ n. bindings (form_of n) words) (is (codes "steps")) _ _
+    (named-has words (is (codes "show")) _ _ (λ b. show-has (file b))
+    (named-has words (is (codes "steps")) _ _
     (λ b. two-has steps (λ _ _. tt) (file b) (value_of (codes "CONFIGURATION") b))
-    (named-has command_given (λ n. bindings (form_of n) words) (is (codes "gen")) _ _
+    (named-has words (is (codes "gen")) _ _
     (λ b. generate-has (value_of (codes "N") b) (workers_given b))
     tt)))))))))
 

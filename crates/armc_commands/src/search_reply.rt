@@ -4,6 +4,7 @@
 ghost use Rattle.std.specs.Prelude.{◌≡◌, ◌<◌, ◌≤◌, [], ◌∷◌, List, None, IfOk};
 ghost use Rattle.refinement.specs.Verdicts.{IsSound, log_in};
 ghost use Rattle.protocol_search.specs.Analyses.{proof_limit, task_for};
+ghost use Rattle.command_words.specs.Words.{IsWorkers, most_budget};
 ghost use Rattle.command_replies.specs.declared.reply.Reply.{Reply as ReplyData};
 ghost use Rattle.armc_commands.specs.SearchReply.{Part, only_part, IsSearchReply, IsTold, report_of as report_of_telling, status_of};
 ghost use Rattle.armc_commands.specs.SearchPromise.{SearchPromise};
@@ -62,7 +63,7 @@ fn told_text(
     telling: Telling,
     verdict: &Verdict,
 ) -> Result<Vec<u8>, AllocError>
-    requires most { search.budget ≤ 1000000 }
+    requires most { search.budget ≤ most_budget }
     requires sound { IsSound (task_for search.analysis system.now) (proof_limit search.analysis search.budget) verdict.now }
     ensures { IfOk result (λ text. IsTold telling (record { title = None; system = system.now; search = search }) verdict.now text.items) }
 {
@@ -94,8 +95,8 @@ pub fn search_reply<G: Gate, R: Threads + Sync>(
     workers: u32,
 ) -> Result<Reply, AllocError>
     requires some { 0 < search.budget }
-    requires most { search.budget ≤ 1000000 }
-    requires workers { (0 < workers) × (workers ≤ 16) }
+    requires most { search.budget ≤ most_budget }
+    requires workers { IsWorkers workers }
     ensures { IfOk result (IsSearchReply telling (only_part system.now search)) }
 {
     let verdict = search_system(alloc, runtime, gate, system, search, workers)?;

@@ -4,7 +4,7 @@
 
 ghost use Rattle.std.specs.Prelude.{◌≡◌, ◌≤◌, ℕ, List, IfOk, None, Some, codes};
 ghost use Rattle.std.specs.List.{list_any};
-ghost use Rattle.command_words.specs.Words.{IsLimits};
+ghost use Rattle.command_words.specs.Words.{IsLimits, most_budget};
 ghost use Rattle.protocol_model.specs.System.{SystemData};
 ghost use Rattle.property_batch.specs.PropertyVerdicts.{AreVerdicts, IsPropertyVerdict};
 ghost use Rattle.command_replies.specs.declared.reply.Reply.{Reply as ReplyData};
@@ -95,7 +95,7 @@ fn told_part(
     budget: u64,
     verdict: &Verdict,
 ) -> Result<Vec<u8>, AllocError>
-    requires most { budget ≤ 1000000 }
+    requires most { budget ≤ most_budget }
     requires verdict { IsPropertyVerdict budget property.now verdict.now }
     ensures { IfOk result (λ text. IsToldPart budget property.now verdict.now text.items) }
 {
@@ -106,7 +106,7 @@ fn told_part(
     };
     property_verdicts_show();
     let certificate = verdict_text(alloc, &property.system, search, verdict)?;
-    Ok(with_title(alloc, property.name.as_str(), certificate.as_slice())?)
+    with_title(alloc, property.name.as_str(), certificate.as_slice())
 }
 
 // The texts that tell the verdicts, one after the other.
@@ -116,7 +116,7 @@ fn told_parts(
     budget: u64,
     verdicts: &[Verdict],
 ) -> Result<Vec<u8>, AllocError>
-    requires most { budget ≤ 1000000 }
+    requires most { budget ≤ most_budget }
     requires verdicts { AreVerdicts budget properties.now verdicts.now }
     ensures { IfOk result (λ text. AreTold budget properties.now verdicts.now text.items) }
 {

@@ -1,7 +1,8 @@
 //! The command that searches the chain of a number by the default settings, and tells a summary. It costs what the search costs, in so many
 //! threads as the words say; the reply does not depend on their number.
 
-ghost use Rattle.std.specs.Prelude.{◌<◌, ◌≤◌, ℕ, IfOk};
+ghost use Rattle.std.specs.Prelude.{ℕ, IfOk};
+ghost use Rattle.command_words.specs.Words.{IsWorkers};
 ghost use Rattle.protocol_model.specs.System.{SystemData};
 ghost use Rattle.command_replies.specs.declared.reply.Reply.{Reply as ReplyData};
 ghost use Rattle.armc_commands.specs.Commands.Generate.{IsGenerateReply, GeneratePromise};
@@ -24,7 +25,7 @@ pub fn generate_reply<G: Gate, R: Threads + Sync>(
     number: u32,
     workers: u32,
 ) -> Result<Reply, AllocError>
-    requires { (0 < workers) × (workers ≤ 16) }
+    requires { IsWorkers workers }
     ensures { IfOk result (IsGenerateReply system.now number) }
 {
     let search = Search {

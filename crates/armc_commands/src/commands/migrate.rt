@@ -24,8 +24,8 @@ fn migrated_text(
     ensures meaning { IfOk result (λ text. IsCertificateOf system.now text.items certificate.now) }
 {
     match certificate {
-        Certificate::Automaton(automaton) => Ok(write_safe2(alloc, system, automaton)?),
-        Certificate::BadRun(run) => Ok(write_unsafe(alloc, system, run)?),
+        Certificate::Automaton(automaton) => write_safe2(alloc, system, automaton),
+        Certificate::BadRun(run) => write_unsafe(alloc, system, run),
     }
 }
 
