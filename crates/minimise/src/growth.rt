@@ -4,8 +4,8 @@
 
 use std::alloc::{AllocError, Global};
 
-/// A table of places, each with the last round in which a class fell on it; on how many classes fell in the last round, and how many of these
-/// were new; and how many rounds in a row found few new classes.
+/// A table of places, each with the last round in which a class fell on it; on how many classes fell in the last round, and how many of
+/// these were new; and how many rounds in a row found few new classes.
 #[derive(Drop)]
 pub struct Growth {
     places: Vec<u8>,
