@@ -113,7 +113,7 @@ def launcher(_):
         if "armc: proved 4 of 5 crates, 0 min: top\narmc: the program is built, 0 min\n" not in found["stderr"]:
             wrong.append(f"it says {found['stderr']!r}")
         wrong += ["its logs are left"] if any(name.startswith("armc-build-") for name in os.listdir(folder)) else []
-        for name, jobs in (("low", 2), ("middle", 1), ("other", 1), ("top", 2)):
+        for name, jobs in (("low", 2), ("middle", 2), ("other", 1), ("top", 2)):
             words = read(tree.out(name, "statements", f"{name}.rlib", "words"))
             wrong += [] if f" --jobs {jobs} --statements -o " in words else [f"words for {name}: {words}"]
         for proved in ({}, {"ARMC_TRY": "0"}):
