@@ -1,5 +1,5 @@
-//! The words of configurations of a system with a cell and a channel: a word is decoded, and what it means is encoded to it again. Each has
-//! a few letters.
+//! The words of configurations of a system with a cell and a channel: a word is decoded, and what it means is encoded to it again, and one
+//! without the letter between sections is decoded to nothing. Each has a few letters.
 
 use crate::moves::{HANDOFF, system};
 use configuration_words::{decode, encode};
@@ -19,10 +19,23 @@ fn encoded_again(alloc: Global, system: &System, word: &[u32]) -> Result<Vec<u32
     Ok(encode(alloc, system, &c)?)
 }
 
+/// Whether the word is that of a configuration.
+fn is_decoded(alloc: Global, system: &System, word: &[u32]) -> Result<bool, Fail> {
+    Ok(decode(alloc, system, word)?.is_some())
+}
+
 #[test]
 fn words_are_encoded_again(rt: HostRuntime) -> Result<(), Fail> {
     let system = system(rt.alloc(), HANDOFF)?;
     let word = encoded_again(rt.alloc(), &system, &[1, 3, 2, 2])?;
     assert!(rt; word.as_slice() == [1, 3, 2, 2].as_slice());
+    Ok(())
+}
+
+#[test]
+fn words_of_no_configuration(rt: HostRuntime) -> Result<(), Fail> {
+    let system = system(rt.alloc(), HANDOFF)?;
+    assert!(rt; is_decoded(rt.alloc(), &system, &[0, 3, 2])?);
+    assert!(rt; !is_decoded(rt.alloc(), &system, &[0, 2])?);
     Ok(())
 }
