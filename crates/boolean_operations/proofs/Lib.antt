@@ -1,4 +1,3 @@
-pub mod CommonWalks
 pub mod Complements
 pub mod DeadStates
 pub mod EdgeTargets
@@ -15,4 +14,3 @@ pub mod SearchCalls
 pub mod SearchSteps
 pub mod SearchWords
 pub mod SpelledWords
-pub mod StateWalks

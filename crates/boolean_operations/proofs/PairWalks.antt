@@ -1,4 +1,4 @@
--- Walks over pairs of states spell the words that one automaton accepts and the other refuses.
+-- Walks over pairs of states spell the words that one automaton accepts, and the other accepts or refuses.
 use Rattle.std.proofs.Common.{◌≡◌, ◌+◌, ◌<◌, ◌≤◌, ◌⊎◌, ◌↔◌, ℕ, Bool, true, false, not, List, [], ◌∷◌, ◌++◌, Option, None, Some, All, Contains, length, slice_get, slice_index_or, IsTrue, MatchOption, refl, sym, ap, subst, ◌∙◌, inl, inr, arith}
 use Rattle.std.proofs.lemmas.Bool.{and_parts, and_from, cases_eq, not-true, true≢false}
 use Rattle.std.proofs.lemmas.Option.{same_Some}
@@ -6,13 +6,14 @@ use Rattle.std.proofs.lemmas.List.Elements.{All-contains, All-nil, Contains-appe
 use Rattle.sequence.specs.WordOrder.{IsLeastWord}
 use Rattle.word_automata.specs.Path.{edges_of, is_accepting, IsPath, spelled}
 use Rattle.word_automata.specs.Automaton.{Automaton, accepts, IsValid}
-use Rattle.word_automata.specs.Nondeterministic.{NondeterministicAutomaton, IsInRange}
-use Rattle.word_automata.proofs.ForCallers.{Contains-none, All-from_contains, All-edges_of}
+use Rattle.word_automata.specs.Nondeterministic.{NondeterministicAutomaton, Accepts, IsInRange, as_nondeterministic}
+use Rattle.word_automata.proofs.ForCallers.{Contains-none, All-from_contains, All-edges_of, accepts-empty, same_language}
 use Rattle.boolean_operations.specs.OptionalStates.{start_of, follow, accepts_at, IsStateOrNone}
 use Rattle.boolean_operations.specs.Inclusion.{IsIncluded, IsOutside}
+use Rattle.boolean_operations.specs.LeastWords.{AcceptsNothing, IsLeastAccepted}
 use Rattle.boolean_operations.specs.private.Search.{Leads, letters_of, IsFound, Gathers}
 use Rattle.boolean_operations.specs.private.DeadStates.{AreRejecting}
-use Rattle.boolean_operations.specs.private.PairGraph.{IsPair, IsStartPair, advance, PairEdge, LiveEdge, is_outside_pair, IsStartAmong, IsSilentAmong, IsStepAmong}
+use Rattle.boolean_operations.specs.private.PairGraph.{IsPair, IsStartPair, advance, PairEdge, LiveEdge, is_wanted, is_goal_pair, IsWordOfPairs, IsStartAmong, IsSilentAmong, IsStepAmong}
 use Rattle.boolean_operations.proofs.OptionalStates.{accepts_option, accepts_option-nil, accepts_option-cons, accepts_option-start, follow-within}
 use Rattle.boolean_operations.proofs.SearchCalls.{place_of, contains_at}
 
@@ -63,6 +64,14 @@ module _ {X : Type 0} (P : X → Type 0) where
   pub gathered_members : (R : X → Type 0) (new : List X) → Gathers P R [] new → (x : X) → Contains new x ↔ R x
   gathered_members R new g x = ((λ there. (only_new R x (g.only x there)).1), g.all x)
 
+wanted_gives : (wanted accepted : Bool) → IsTrue (is_wanted wanted accepted) → accepted ≡ wanted
+wanted_gives true accepted is = is
+wanted_gives false accepted is = not-true accepted is
+
+gives_wanted : (wanted accepted : Bool) → accepted ≡ wanted → IsTrue (is_wanted wanted accepted)
+gives_wanted true accepted same = same
+gives_wanted false accepted same = ap not same
+
 -- a walk over pairs, without the second parts
 abbrev pub strip : List (Option ℕ × (ℕ × Option ℕ)) → List (Option ℕ × ℕ)
 strip [] = []
@@ -99,25 +108,25 @@ module _ (n : NondeterministicAutomaton) (m : Automaton) where
       let rest = up moves r e (follow m q a) goes.1 in
       (((goes.0, refl), rest.0), ap (λ w. a ∷ w) rest.1, accepts_option-cons m q a (spelled (λ l. l) moves) ∙ rest.2)
 
-  outside_of_found : (w : List ℕ) → IsFound (IsStartPair n m) (PairEdge n m) (is_outside_pair n m) w → IsOutside n m w
-  outside_of_found w (t, good, (s, moves, begins, leads, says)) =
-      let parts = and_parts (is_accepting n.states t.0) (not (accepts_at m t.1)) good in
+  word_of_found : (wanted : Bool) (w : List ℕ) → IsFound (IsStartPair n m) (PairEdge n m) (is_goal_pair n m wanted) w → IsWordOfPairs n m wanted w
+  word_of_found wanted w (t, good, (s, moves, begins, leads, says)) =
+      let parts = and_parts (is_accepting n.states t.0) (is_wanted wanted (accepts_at m t.1)) good in
       let d = down moves s t leads in (
         (s.0, strip moves, t.0, begins.0, d.0, parts.0, d.1 ∙ says),
         sym (accepts_option-start m w)
             ∙ ap (λ q. accepts_option m q w) (sym begins.1)
             ∙ ap (accepts_option m s.1) (sym says)
             ∙ d.2
-            ∙ not-true (accepts_at m t.1) parts.1,
+            ∙ wanted_gives wanted (accepts_at m t.1) parts.1,
       )
 
-  found_of_outside : (w : List ℕ) → IsOutside n m w → IsFound (IsStartPair n m) (PairEdge n m) (is_outside_pair n m) w
-  found_of_outside w ((start, moves, end, begins, path, accepting, says), refused) =
+  found_of_word : (wanted : Bool) (w : List ℕ) → IsWordOfPairs n m wanted w → IsFound (IsStartPair n m) (PairEdge n m) (is_goal_pair n m wanted) w
+  found_of_word wanted w ((start, moves, end, begins, path, accepting, says), same) =
       let q = start_of m.states in
       let u = up moves start end q path in (
         (end, after q moves),
-        and_from (is_accepting n.states end) (not (accepts_at m (after q moves))) accepting
-            (ap not (sym u.2 ∙ ap (accepts_option m q) says ∙ accepts_option-start m w ∙ refused)),
+        and_from (is_accepting n.states end) (is_wanted wanted (accepts_at m (after q moves))) accepting
+            (gives_wanted wanted (accepts_at m (after q moves)) (sym u.2 ∙ ap (accepts_option m q) says ∙ accepts_option-start m w ∙ same)),
         ((start, q), lift q moves, (begins, refl), u.0, u.1 ∙ says),
       )
 
@@ -157,24 +166,27 @@ module _ (n : NondeterministicAutomaton) (m : Automaton) where
       found_live goal accepts_left w (t, good, (s, moves, begins, leads, says)) =
           (t, good, (s, moves, begins, along_live moves s t leads (accepts_left t good), says))
 
-      outside_live : (w : List ℕ) → IsOutside n m w → IsFound (IsStartPair n m) (LiveEdge n m flags) (is_outside_pair n m) w
-      outside_live w is =
-          found_live (is_outside_pair n m) (λ t good. (and_parts (is_accepting n.states t.0) (not (accepts_at m t.1)) good).0) w (found_of_outside w is)
+      word_live : (wanted : Bool) (w : List ℕ) → IsWordOfPairs n m wanted w → IsFound (IsStartPair n m) (LiveEdge n m flags) (is_goal_pair n m wanted) w
+      word_live wanted w is =
+          found_live (is_goal_pair n m wanted) (λ t good. (and_parts (is_accepting n.states t.0) (is_wanted wanted (accepts_at m t.1)) good).0) w
+          (found_of_word wanted w is)
 
-      included_of : ((w : List ℕ) → IsFound (IsStartPair n m) (LiveEdge n m flags) (is_outside_pair n m) w → ⊥) → IsIncluded n m
-      included_of nothing w run = by (accepts m w) refl
-        where
-          by : (b : Bool) → accepts m w ≡ b → accepts m w ≡ true
-          by true accepted = accepted
-          by false refused = absurd (nothing w (outside_live w (run, refused)))
+      pub least_of_pairs : (wanted : Bool) {X : Type 0} (items : X → List ℕ) (o : Option X)
+          → MatchOption o ((w : List ℕ) → IsFound (IsStartPair n m) (LiveEdge n m flags) (is_goal_pair n m wanted) w → ⊥)
+          (λ x. IsLeastWord (IsFound (IsStartPair n m) (LiveEdge n m flags) (is_goal_pair n m wanted)) (items x))
+          → MatchOption o ((w : List ℕ) → IsWordOfPairs n m wanted w → ⊥) (λ x. IsLeastWord (IsWordOfPairs n m wanted) (items x))
+      least_of_pairs wanted items None nothing = λ w is. nothing w (word_live wanted w is)
+      least_of_pairs wanted items (Some x) least =
+          (word_of_found wanted (items x) (found_any (is_goal_pair n m wanted) (items x) least.0), λ v is before. least.1 v (word_live wanted v is) before)
 
-      pub inclusion : {X : Type 0} (items : X → List ℕ) (o : Option X)
-          → MatchOption o ((w : List ℕ) → IsFound (IsStartPair n m) (LiveEdge n m flags) (is_outside_pair n m) w → ⊥)
-          (λ x. IsLeastWord (IsFound (IsStartPair n m) (LiveEdge n m flags) (is_outside_pair n m)) (items x))
-          → MatchOption o (IsIncluded n m) (λ x. IsLeastWord (IsOutside n m) (items x))
-      inclusion items None nothing = included_of nothing
-      inclusion items (Some x) least =
-          (outside_of_found (items x) (found_any (is_outside_pair n m) (items x) least.0), λ v is_outside before. least.1 v (outside_live v is_outside) before)
+  -- no word outside
+  pub included_where_none : {X : Type 0} (P : X → Type 0) (o : Option X) → MatchOption o ((w : List ℕ) → IsOutside n m w → ⊥) P → MatchOption o (IsIncluded n m) P
+  included_where_none P None nothing = λ w run. by w run (accepts m w) refl
+    where
+      by : (w : List ℕ) → Accepts n w → (b : Bool) → accepts m w ≡ b → accepts m w ≡ true
+      by w run true accepted = accepted
+      by w run false refused = absurd (nothing w (run, refused))
+  included_where_none P (Some x) is = is
 
   -- the target of an edge is a state
   target_state : IsInRange n → (p : ℕ) (l : Option ℕ) (r : ℕ) → Contains (edges_of n.states p) (l, r) → r < length n.states
@@ -299,3 +311,18 @@ module _ (n : NondeterministicAutomaton) (m : Automaton) where
         gathers_same {X = ℕ × (ℕ × Option ℕ)} (λ step. IsPair n m step.1) (IsStepAmong flags m q (edges_of n.states p) k) (λ step. LiveEdge n m flags (p, q) (Some step.0) step.1) old steps
         (λ y is. ((contains_at (edges_of n.states p) (Some y.0, y.1.0) is.0 is.2, is.3), is.4))
         (λ y is. let place = place_of (edges_of n.states p) (Some y.0, y.1.0) is.0.0 in (place.0, (let l = place.1 in omega arith), place.2, is.0.1, is.1)) g
+
+-- a word outside an automaton without a state is any word
+module _ (a : Automaton) (valid : IsValid a) (m : Automaton) (none : m.states ≡ []) where
+  outside : (w : List ℕ) → IsTrue (accepts a w) → IsWordOfPairs (as_nondeterministic a) m false w
+  outside w accepted = ((same_language a valid w).0 accepted, accepts-empty m none w)
+
+  pub least_accepted : {X : Type 0} (items : X → List ℕ) (o : Option X)
+      → MatchOption o ((w : List ℕ) → IsWordOfPairs (as_nondeterministic a) m false w → ⊥) (λ x. IsLeastWord (IsWordOfPairs (as_nondeterministic a) m false) (items x))
+      → MatchOption o (AcceptsNothing a) (λ x. IsLeastAccepted a (items x))
+  least_accepted items None nothing = λ w. by w (accepts a w) refl
+    where
+      by : (w : List ℕ) (b : Bool) → accepts a w ≡ b → accepts a w ≡ false
+      by w false refused = refused
+      by w true accepted = absurd (nothing w (outside w accepted))
+  least_accepted items (Some x) least = ((same_language a valid (items x)).1 least.0.0, λ v accepted before. least.1 v (outside v accepted) before)

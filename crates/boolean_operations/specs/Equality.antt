@@ -1,10 +1,7 @@
--- Where `==` of numbers, of options and of pairs answers true, the values are equal.
+-- Where `==` of options and of pairs answers true, the values are equal.
 use Rattle.std.proofs.Common.{◌≡◌, ℕ, true, eqb, ◌&&◌, Option, Some, None, refl, ap, ◌∙◌, eqb-true}
 use Rattle.std.proofs.lemmas.Bool.{false≢true, and_parts}
 use Rattle.std.specs.Option.{option_eq}
-
-pub same_numbers : (x y : ℕ) → eqb x y ≡ true → x ≡ y
-same_numbers x y same = eqb-true x y same
 
 pub same_options : (x y : Option ℕ) → option_eq eqb x y ≡ true → x ≡ y
 same_options None None same = refl

@@ -1,68 +1,12 @@
-//! The least word that an automaton accepts, by a search breadth first (Moore, 1959) that ends at the first accepting state: time linear
-//! in the edges that are reached.
+//! The least word that an automaton accepts: the least one outside an automaton that accepts nothing. The walk ends at the first accepting
+//! state, and takes time linear in the edges that are reached.
 
-ghost use Rattle.std.specs.Prelude.{◌≡◌, ◌↔◌, Some, MatchOption, IfOk, IsTrue};
-ghost use Rattle.word_automata.specs.Path.{is_accepting};
-ghost use Rattle.boolean_operations.specs.OptionalStates.{start_of};
-ghost use Rattle.boolean_operations.specs.LeastWords.{AcceptsNothing, IsLeastAccepted, IsStateOf, LetteredEdge};
-ghost use Rattle.boolean_operations.specs.Equality.{same_numbers};
+ghost use Rattle.std.specs.Prelude.{◌↔◌, MatchOption, IfOk, IsTrue};
+ghost use Rattle.boolean_operations.specs.LeastWords.{AcceptsNothing, IsLeastAccepted};
 
-use crate::graph::Graph;
-use crate::optional_states::start_of;
-use crate::search::least_word_to_goal;
+use crate::inclusion::least_word_of_pairs;
 use std::alloc::{AllocError, Global};
-use word_automata::Dfa;
-
-/// The states of an automaton, as a graph.
-#[derive(Drop)]
-struct StateGraph<'a> {
-    automaton: &'a Dfa,
-}
-
-impl Graph for StateGraph<'_> {
-    type State = usize;
-
-    ghost is_state = { λ g. IsStateOf g.automaton.now };
-
-    ghost is_start = { λ g state. start_of g.automaton.now.states ≡ Some state };
-
-    ghost edge = { λ g. LetteredEdge g.automaton.now };
-
-    ghost goal = { λ g. is_accepting g.automaton.now.states };
-
-    fn starts(&self, alloc: Global) -> Result<Vec<usize>, AllocError> {
-        let mut states = Vec::new(alloc);
-        if let Some(state) = start_of(self.automaton) {
-            states.push(state)?;
-        }
-        Ok(states)
-    }
-
-    fn is_goal(&self, state: &usize) -> bool {
-        self.automaton.accepting(*state)
-    }
-
-    fn silent_targets(&self, alloc: Global, _state: &usize) -> Result<Vec<usize>, AllocError> {
-        Ok(Vec::new(alloc))
-    }
-
-    fn add_steps(&self, state: &usize, steps: &mut Vec<(u32, usize)>) -> Result<(), AllocError> {
-        'edges: for &edge in self.automaton.edges_from(*state) {
-            steps.push(edge)?;
-        }
-        Ok(())
-    }
-
-    fn codes(&self) -> usize {
-        self.automaton.states()
-    }
-
-    fn code(&self, state: &usize) -> usize {
-        *state
-    }
-
-    ghost equality = { same_numbers };
-}
+use word_automata::{Dfa, DfaBuilder};
 
 /// Whether the automaton accepts no word. It takes time linear in the edges that are reached, and stops at the first accepting
 /// state.
@@ -80,5 +24,7 @@ pub fn is_empty(alloc: Global, a: &Dfa) -> Result<bool, AllocError>
 pub fn least_word(alloc: Global, a: &Dfa) -> Result<Option<Vec<u32>>, AllocError>
     ensures { IfOk result (λ word. MatchOption word (AcceptsNothing a.now) (λ w. IsLeastAccepted a.now w.items)) }
 {
-    least_word_to_goal(alloc, &StateGraph { automaton: a })
+    let _valid = a.states();
+    let nothing = DfaBuilder::new(alloc, a.letters()).finish();
+    least_word_of_pairs(alloc, a, &nothing, &[], false)
 }

@@ -3,7 +3,6 @@
 //! letter at each state.
 #![tactic(auto)]
 
-mod common_words;
 mod complementation;
 mod dead_states;
 mod finite_automaton;
@@ -16,10 +15,9 @@ mod products;
 mod search;
 mod spelling;
 
-pub use common_words::least_common_word;
 pub use complementation::complement;
 pub use finite_automaton::FiniteAutomaton;
-pub use inclusion::included;
+pub use inclusion::{included, least_common_word};
 pub use least_words::{is_empty, least_word};
 pub use merged_edges::search_near;
 pub use products::{difference, intersect, union};

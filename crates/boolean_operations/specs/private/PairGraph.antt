@@ -1,8 +1,8 @@
 -- Pairs of a state of a nondeterministic automaton and a state of a deterministic one or none, as a graph.
-use Rattle.std.specs.Prelude.{◌≡◌, ◌<◌, ◌&&◌, ℕ, Bool, false, not, List, Option, None, Some, Contains, length, slice_get, slice_index_or}
+use Rattle.std.specs.Prelude.{◌≡◌, ◌<◌, ◌&&◌, ℕ, Bool, true, false, not, List, Option, None, Some, Contains, length, slice_get, slice_index_or}
 use Rattle.word_automata.specs.Path.{edges_of, is_accepting}
-use Rattle.word_automata.specs.Automaton.{Automaton, IsValid}
-use Rattle.word_automata.specs.Nondeterministic.{NondeterministicAutomaton, IsInRange}
+use Rattle.word_automata.specs.Automaton.{Automaton, accepts, IsValid}
+use Rattle.word_automata.specs.Nondeterministic.{NondeterministicAutomaton, Accepts, IsInRange}
 use Rattle.boolean_operations.specs.OptionalStates.{start_of, follow, accepts_at, IsStateOrNone}
 
 -- both automata are valid, and the pair has a state of the first, and one of the second or none
@@ -26,13 +26,18 @@ PairEdge n m s l r = Contains (edges_of n.states s.0) (l, r.0) × (r.1 ≡ advan
 abbrev pub LiveEdge : NondeterministicAutomaton → Automaton → List Bool → ℕ × Option ℕ → Option ℕ → ℕ × Option ℕ → Type 0
 LiveEdge n m flags s l r = PairEdge n m s l r × (slice_index_or flags r.0 false ≡ false)
 
--- the first accepts, and the second does not
-abbrev pub is_outside_pair : NondeterministicAutomaton → Automaton → ℕ × Option ℕ → Bool
-is_outside_pair n m pair = is_accepting n.states pair.0 && not (accepts_at m pair.1)
+-- it accepts where that is wanted, and refuses where it is not
+abbrev pub is_wanted : Bool → Bool → Bool
+is_wanted true accepted = accepted
+is_wanted false accepted = not accepted
 
--- both accept
-abbrev pub is_common_pair : NondeterministicAutomaton → Automaton → ℕ × Option ℕ → Bool
-is_common_pair n m pair = is_accepting n.states pair.0 && accepts_at m pair.1
+-- the first accepts, and the second where that is wanted and only there
+abbrev pub is_goal_pair : NondeterministicAutomaton → Automaton → Bool → ℕ × Option ℕ → Bool
+is_goal_pair n m wanted pair = is_accepting n.states pair.0 && is_wanted wanted (accepts_at m pair.1)
+
+-- the first accepts the word, and the second where that is wanted and only there
+abbrev pub IsWordOfPairs : NondeterministicAutomaton → Automaton → Bool → List ℕ → Type 0
+IsWordOfPairs n m wanted w = Accepts n w × (accepts m w ≡ wanted)
 
 -- what the first k starts or edges become
 abbrev pub IsStartAmong : Automaton → List ℕ → ℕ → ℕ × Option ℕ → Type 0
