@@ -5,12 +5,11 @@ use Rattle.std.proofs.lemmas.List.{get_or-set_same, get_or-set_other, length-map
 use Rattle.std.proofs.lemmas.List.Elements.{All-contains, All-nil, All-push, Contains-append_left, Contains-push, Contains-push_cases}
 use Rattle.std.proofs.lemmas.List.Sorted.{Contains-permutation, IsPermutation-sym}
 use Rattle.word_automata.specs.Path.{Node, edges_of, is_accepting}
-use Rattle.word_automata.specs.Nondeterministic.{NondeterministicAutomaton, Accepts, IsInRange, IsMoveInRange, with_nondeterministic_state, AddsMove}
+use Rattle.word_automata.specs.Nondeterministic.{NondeterministicAutomaton, Accepts, IsInRange, IsMoveInRange, with_nondeterministic_state, with_start, AddsMove}
 use Rattle.word_automata.proofs.ForCallers.{All-from_contains, All-edges_of, Contains-none}
 use Rattle.reduction.specs.Reduction.{AcceptsAlong}
-use Rattle.reduction.specs.private.Copies.{with_starts}
 use Rattle.reduction.specs.private.Emptiness.{AreRejecting}
-use Rattle.reduction.specs.private.Renumbering.{IsPlaceOf, HavePlaces, HasPlaces, HasPlacedEdges, HasLetters, AddsPlaced, IsPartBelow, IsPart, states_of, AreUnflaggedBelow, AreUnflagged}
+use Rattle.reduction.specs.private.Renumbering.{IsPlaceOf, HavePlaces, HasPlaces, AddsPlacedStarts, HasPlacedEdges, HasLetters, AddsPlaced, IsPartBelow, IsPart, states_of, AreUnflaggedBelow, AreUnflagged}
 use Rattle.reduction.proofs.Copies.{adds_edges_none, adds_edges_more, edges_within}
 use Rattle.reduction.proofs.Reductions.{any_accepts}
 use Rattle.reduction.proofs.Rejection.{is_live}
@@ -89,6 +88,18 @@ module _ (states : List ℕ) where
         | inr is ↦ (place, Contains-push new place, subst (IsPlaceOf states place) is at)
       ];
     }
+
+  -- start states one by one
+  pub adds_starts_none : (m : NondeterministicAutomaton) → m.starts ≡ [] → AddsPlacedStarts states [] m m
+  adds_starts_none m none = record { same_letters = refl; same_states = refl; placed = subst (HasPlaces states []) (sym none) has_places_none }
+
+  module _ (numbers : List ℕ) (q : ℕ) (old mid : NondeterministicAutomaton) (so : AddsPlacedStarts states numbers old mid) where
+    pub adds_starts_skip : (Contains states q → ⊥) → AddsPlacedStarts states (numbers ++ q ∷ []) old mid
+    adds_starts_skip not_listed = record { same_letters = so.same_letters; same_states = so.same_states; placed = has_places_skip numbers mid.starts q so.placed not_listed }
+
+    pub adds_starts_more : (new : NondeterministicAutomaton) (place : ℕ) → IsPlaceOf states place q → new ≡ with_start mid place → AddsPlacedStarts states (numbers ++ q ∷ []) old new
+    adds_starts_more new place at built = subst (AddsPlacedStarts states (numbers ++ q ∷ []) old) (sym built)
+        (record { same_letters = so.same_letters; same_states = so.same_states; placed = has_places_more numbers mid.starts q so.placed place at })
 
   -- edges one by one
   pub placed_none : HasPlacedEdges states [] []
@@ -191,16 +202,17 @@ module _ (n : NondeterministicAutomaton) where
   no_edges_at (q ∷ states) zero = refl
   no_edges_at (q ∷ states) (suc place) = no_edges_at states place
 
-  pub part_none : (states : List ℕ) (alone m : NondeterministicAutomaton) (starts : List ℕ) → alone ≡ states_of n states → m ≡ with_starts alone starts
-      → HasPlaces states n.starts starts → IsPartBelow n states 0 m
-  part_none states alone m starts is built placed = subst (IsPartBelow n states 0) (sym (built ∙ ap (λ a. with_starts a starts) is)) (record {
-    same_letters = refl;
-    size = length-map states (λ q. record { accepting = is_accepting n.states q; edges = [] });
-    acceptance = accepting_at states;
-    starts = placed;
-    done = λ place below. absurd (omega arith);
-    later = λ place past. no_edges_at states place;
-  })
+  pub part_none : (states : List ℕ) (alone m : NondeterministicAutomaton) → alone ≡ states_of n states → AddsPlacedStarts states n.starts alone m → IsPartBelow n states 0 m
+  part_none states alone m is adds =
+      let same : m.states ≡ (states_of n states).states = adds.same_states ∙ ap (λ (a : NondeterministicAutomaton). a.states) is in
+      record {
+        same_letters = adds.same_letters ∙ ap (λ (a : NondeterministicAutomaton). a.letters) is;
+        size = ap length same ∙ length-map states (λ q. record { accepting = is_accepting n.states q; edges = [] });
+        acceptance = λ place within. ap (λ nodes. is_accepting nodes place) same ∙ accepting_at states place within;
+        starts = adds.placed;
+        done = λ place below. absurd (omega arith);
+        later = λ place past. ap (λ nodes. edges_of nodes place) same ∙ no_edges_at states place;
+      }
 
   pub part_more : (states : List ℕ) (place : ℕ) (old new : NondeterministicAutomaton) (edges : List (Option ℕ × ℕ)) → IsPartBelow n states place old
       → IsPermutation (edges_of n.states (get_or states place 0)) edges → AddsPlaced states place edges old new → IsPartBelow n states (place + 1) new

@@ -2,12 +2,11 @@
 //! has the place of each state. Edges are put in order where they are not; where the list is in order, so are those with new numbers.
 //! It takes time linear in the states and edges, up to sorting.
 
-ghost use Rattle.std.specs.Prelude.{◌≡◌, ◌+◌, ◌<◌, None, All, Contains, IsPermutation, IfOk, IfSome, OnOk, length};
+ghost use Rattle.std.specs.Prelude.{◌≡◌, ◌+◌, ◌<◌, [], None, All, Contains, IsPermutation, IfOk, IfSome, OnOk, length};
 ghost use Rattle.word_automata.specs.StateSets.{AreStates};
-ghost use Rattle.reduction.specs.private.Renumbering.{IsPlaceOf, ArePlaces, HasPlaces, AddsPlaced, IsPartBelow, IsPart, states_of};
+ghost use Rattle.reduction.specs.private.Renumbering.{IsPlaceOf, ArePlaces, AddsPlacedStarts, AddsPlaced, IsPartBelow, IsPart, states_of};
 ghost use Rattle.reduction.specs.private.Renumbering.{HasLetters};
 
-use crate::copying::add_starts;
 use crate::order::{are_ordered, order_edges};
 use std::alloc::{AllocError, Global};
 use word_automata::{Nfa, NfaBuilder};
@@ -17,14 +16,28 @@ pub fn part_of(alloc: Global, automaton: &Nfa, states: &[usize]) -> Result<Nfa, 
     requires { AreStates automaton.now states.now }
     ensures { IfOk result (IsPart automaton.now states.now) }
 {
-    let places = places_of(alloc, automaton.states(), states)?;
     let mut builder = states_of(alloc, automaton, states)?;
-    let starts = placed(alloc, states, &places, automaton.starts())?;
-    add_starts(&mut builder, &starts)?;
-    'places: for place in 0..states.len() {
-        add_ordered(alloc, &mut builder, automaton, states, &places, place)?;
-    }
+    add_part(alloc, &mut builder, automaton, states)?;
     Ok(builder.finish())
+}
+
+/// Adds to the states the edges and start states among them.
+fn add_part(
+    alloc: Global,
+    builder: &mut NfaBuilder,
+    automaton: &Nfa,
+    states: &[usize],
+) -> Result<(), AllocError>
+    requires states { AreStates automaton.now states.now }
+    requires alone { builder.old ≡ states_of automaton.now states.now }
+    ensures { OnOk result (IsPart automaton.now states.now builder.new) }
+{
+    let places = places_of(alloc, automaton.states(), states)?;
+    add_placed_starts(builder, states, &places, automaton.starts())?;
+    'places: for place in 0..states.len() {
+        add_ordered(alloc, builder, automaton, states, &places, place)?;
+    }
+    Ok(())
 }
 
 /// A table of the places of the states, which are less than the count. It has any number for others.
@@ -70,24 +83,25 @@ fn states_of(alloc: Global, automaton: &Nfa, states: &[usize]) -> Result<NfaBuil
     Ok(builder)
 }
 
-/// The places of those of the numbers that are among the states.
-fn placed(
-    alloc: Global,
+/// Adds as start states the places of those of the numbers that are among the states.
+fn add_placed_starts(
+    builder: &mut NfaBuilder,
     states: &[usize],
     places: &[usize],
     numbers: &[usize],
-) -> Result<Vec<usize>, AllocError>
-    requires { ArePlaces states.now places.now }
-    ensures { IfOk result (λ placed. HasPlaces states.now numbers.now placed.items) }
+) -> Result<(), AllocError>
+    requires places { ArePlaces states.now places.now }
+    requires size { length builder.old.states ≡ length states.now }
+    requires none { builder.old.starts ≡ [] }
+    ensures { OnOk result (AddsPlacedStarts states.now numbers.now builder.old builder.new) }
 {
-    let mut placed = Vec::with_capacity(alloc, numbers.len())?;
     'numbers: for number in numbers {
         let Some(place) = place_of(states, places, *number) else {
             continue;
         };
-        placed.push(place)?;
+        builder.start(place)?;
     }
-    Ok(placed)
+    Ok(())
 }
 
 /// Adds the edges of the state at the place, in order.

@@ -27,7 +27,7 @@ pub fn live_part(alloc: Global, automaton: &Nfa) -> Result<Option<Nfa>, AllocErr
             Some(live) => Ok(Some(live)),
             None => Ok(Some(plain)),
         },
-        None => Ok(ordered_part(alloc, automaton)?),
+        None => ordered_part(alloc, automaton),
     }
 }
 

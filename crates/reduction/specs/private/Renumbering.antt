@@ -20,6 +20,12 @@ pub record HasPlaces (states old new : List ℕ) : Type 0 where
   pub only : (place : ℕ) → Contains new place → (place < length states) × Contains old (slice_index_or states place 0)
   pub kept : (q : ℕ) → Contains old q → Contains states q → (place : ℕ) × Contains new place × IsPlaceOf states place q
 
+-- new has the places of those of the numbers that are in the list as its start states, and is as old in everything else
+pub record AddsPlacedStarts (states numbers : List ℕ) (old new : NondeterministicAutomaton) : Type 0 where
+  pub same_letters : new.letters ≡ old.letters
+  pub same_states : new.states ≡ old.states
+  pub placed : HasPlaces states numbers new.starts
+
 -- new has those of the edges of old that lead to states of the list, with places as their targets
 pub record HasPlacedEdges (states : List ℕ) (old new : List (Option ℕ × ℕ)) : Type 0 where
   pub only : (label : Option ℕ) (place : ℕ) → Contains new (label, place) → (place < length states) × Contains old (label, slice_index_or states place 0)

@@ -1,5 +1,5 @@
 use Rattle.reduction.specs.private.Renumbering.{IsPartBelow}
-use Rattle.reduction.proofs.renumbering.part_of.Given as goal
+use Rattle.reduction.proofs.renumbering.add_part.Given as goal
 
 abbrev pub invariant-places : goal.invariant-places
 invariant-places l = IsPartBelow l.automaton l.states l.place l.builder
