@@ -1,4 +1,5 @@
 pub mod ForCallers
+pub mod InRow
 mod Words
 mod Meaning
 mod Sets

@@ -1,5 +1,6 @@
 pub mod Symbol
 pub mod Grammar
+pub mod Concatenation
 pub mod FirstFault
 pub mod Shape
 pub mod Reading

@@ -2,6 +2,7 @@
 //! They read by recursive descent, where the next token tells how to go on, in time linear in the tokens.
 #![tactic(auto)]
 
+mod concatenation;
 mod each;
 mod fault;
 mod form;
@@ -14,6 +15,7 @@ mod source;
 mod symbol;
 mod whole;
 
+pub use concatenation::Then;
 pub use each::{FormOf, read_each};
 pub use fault::{SyntaxFault, What};
 pub use form::Form;

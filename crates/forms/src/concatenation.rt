@@ -1,0 +1,33 @@
+//! One form behind another.
+//! Each is read once, from the left; time is that of both.
+
+ghost use Rattle.forms.specs.Concatenation.{both};
+
+use crate::fault::SyntaxFault;
+use crate::form::Form;
+use crate::source::Source;
+
+/// The one form, and behind it the other: a sequence of three or more forms is `Then(Then(a, b), c)`.
+#[derive(Clone, Copy)]
+pub struct Then<X, Y>(pub X, pub Y);
+
+impl<X: Form, Y: Form> Form for Then<X, Y> {
+    type Meaning = (X::Meaning, Y::Meaning);
+
+    ghost grammar = { λ x. both (X.grammar x.0) (Y.grammar x.1) };
+
+    fn opens(&self, source: &Source<'_>, at: usize) -> bool {
+        self.0.opens(source, at)
+    }
+
+    #[tactic(auto, unfolding(crate::specs::Reading::read_then))]
+    fn read(
+        &self,
+        source: &Source<'_>,
+        at: &mut usize,
+    ) -> Result<(X::Meaning, Y::Meaning), SyntaxFault> {
+        let first = self.0.read(source, at)?;
+        let second = self.1.read(source, at)?;
+        Ok((first, second))
+    }
+}
