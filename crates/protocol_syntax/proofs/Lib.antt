@@ -1,5 +1,4 @@
 pub mod ForCallers
-mod Followed
 mod Letters
 mod Together
 pub mod Told

@@ -1,149 +1,142 @@
--- Productions of which a function of its own reads a part: how each goes on behind that part, and that it fails where the part does.
-use Rattle.std.proofs.Common.{◌≡◌, ◌∷◌, ℕ, List, Ok, refl, sym, subst, ap, ◌∙◌}
-use Rattle.std.specs.Prelude.{◌-◌, nat_le}
-use Rattle.protocol_lexer.specs.declared.TokenKind.TheVariants.{BraceLeft, BraceRight, Arrow}
+-- Productions of several parts: each is read as the nested pairs of its parts are, which the code reads.
+use Rattle.std.proofs.Common.{◌≡◌, ◌∷◌, ◌++◌, ℕ, Bool, List, [], Some, Ok, Err, Result, refl, sym, subst, ap, ◌∙◌}
+use Rattle.std.specs.Prelude.{◌-◌, IfOk, OnErr, ⊤}
+use Rattle.protocol_lexer.specs.declared.TokenKind.TheVariants.{BraceLeft, BraceRight, Colon, Semicolon, Arrow}
 use Rattle.forms.specs.declared.fault.What.TheVariants as Limits
 use Rattle.forms.specs.declared.fault.SyntaxFault.{SyntaxFault}
+use Rattle.forms.specs.declared.fault.SyntaxFault.TheVariants as Faults
 use Rattle.forms.specs.declared.name.Name.{Name}
 use Rattle.forms.specs.declared.symbol.Keyword.{Keyword}
 use Rattle.forms.specs.declared.symbol.Keyword.TheVariants as Words
 use Rattle.forms.specs.declared.symbol.Symbol.TheVariants.{Reserved, Sign}
 use Rattle.forms.specs.Symbol.{Source}
-use Rattle.forms.specs.Grammar.{Grammar, name, sign, gives, ◌>>=◌, optional, item, up_to}
-use Rattle.forms.specs.Reading.{Fails, follow, read, read_then}
-use Rattle.protocol_syntax.specs.declared.limits.TheConstants.{MAX_LETTERS, MAX_ROWS, MAX_RULES}
-use Rattle.protocol_syntax.specs.declared.protocol.Kind.{Kind}
+use Rattle.forms.specs.Concatenation.{both}
+use Rattle.forms.specs.Grammar.{Grammar, name, sign, gives, ◌>>=◌, optional, many, up_to}
+use Rattle.forms.specs.Reading.{Answer, Fails, Gives, read}
+use Rattle.forms.proofs.ForCallers.{IsReadAs, read_as, says_made, fails_too, goes_on, fails_with}
+use Rattle.protocol_syntax.specs.declared.limits.TheConstants.{MAX_ROWS, MAX_RULES, MAX_ATOMS, MAX_GUARDS, MAX_PUSHED}
+use Rattle.protocol_syntax.specs.declared.protocol.Many.TheVariants as Counts
+use Rattle.protocol_syntax.specs.declared.protocol.Move.TheVariants as Moves
 use Rattle.protocol_syntax.specs.declared.protocol.Protocol.{Protocol}
 use Rattle.protocol_syntax.specs.declared.protocol.SectionText.{SectionText}
 use Rattle.protocol_syntax.specs.declared.protocol.RowText.{RowText}
 use Rattle.protocol_syntax.specs.declared.protocol.RuleText.{RuleText}
-use Rattle.protocol_syntax.specs.Grammar.{four_names, kind, more_sections, protocol, row, rule, second_language, section}
-use Rattle.protocol_syntax.specs.private.Parts.{all_sections, letters_behind, two_names}
-use Rattle.protocol_syntax.proofs.Followed.{follow_two, fails_first}
+use Rattle.protocol_syntax.specs.Grammar.{kind, section, set, base, count, atom, atoms, pattern, part, row, quantifier, region, guard, entry, table}
+use Rattle.protocol_syntax.specs.Grammar.{at_move, four_names, set_move, pushed, pop_move, step, rule, second_language, protocol}
+use Rattle.protocol_syntax.specs.private.Parts.{all_sections, letters_behind}
 
--- what stands behind the first two names of four
-abbrev pub to_two_names : Name × Name → Grammar (Name × Name × Name × Name)
-to_two_names p = do
-  arrow ← sign (Sign Arrow)
-  c ← name
-  d ← name
-  gives (p.0, p.1, c, d)
+pub set_as : IsReadAs set (both (both (sign (Sign BraceLeft)) (many name)) (sign (Sign BraceRight))) (λ v. v.0.1)
+unfolding set
+set_as = read_as _ _ _ (λ s i. refl)
 
--- what stands behind the letters of a section
-abbrev pub behind_letters : Kind → Name → List Name → Grammar SectionText
-behind_letters kind title letters = do
-  close ← sign (Sign BraceRight)
-  gives (record { kind = kind; name = title; letters = letters })
+pub atom_as : IsReadAs atom (both base (optional Counts.One count)) (λ v. record { base = v.0; many = v.1 })
+unfolding atom
+atom_as = read_as _ _ _ (λ s i. refl)
 
--- what stands behind the sections of a protocol
-abbrev pub behind_sections : Name → ℕ → List SectionText → Grammar Protocol
-behind_sections title language sections = do
-  init ← up_to MAX_ROWS Limits.InitRows (row Words.Init)
-  rules ← up_to MAX_RULES Limits.Rules (rule language)
-  bad ← up_to MAX_ROWS Limits.BadRows (row Words.Bad)
-  gives (record { name = title; language = language; sections = sections; init = init; rules = rules; bad = bad })
+pub atoms_as : IsReadAs atoms (both atom (up_to (MAX_ATOMS - 1) Limits.Atoms atom)) (λ v. v.0 ∷ v.1)
+unfolding atoms
+atoms_as = read_as _ _ _ (λ s i. refl)
 
-module _ {A B C D : Type 0} (s : Source) (x : Grammar A) (y : A → Grammar B) (f : A → B → C) (z : C → Grammar D) (i : ℕ) where
-  abbrev both : Grammar C
-  both = x >>= λ a. y a >>= λ b. gives (f a b)
+pub part_as : IsReadAs part (both (both (both name (sign (Sign Colon))) pattern) (sign (Sign Semicolon))) (λ v. record { section = v.0.0.0; atoms = v.0.1 })
+unfolding part
+part_as = read_as _ _ _ (λ s i. refl)
 
-  abbrev all : Grammar D
-  all = x >>= λ a. y a >>= λ b. z (f a b)
+pub section_as : (language used : ℕ)
+    → IsReadAs (section language used) (both (both (both (both (kind language) name) (sign (Sign BraceLeft))) (letters_behind used)) (sign (Sign BraceRight)))
+    (λ v. record { kind = v.0.0.0.0; name = v.0.0.0.1; letters = v.0.1 })
+unfolding section
+section_as language used = read_as _ _ _ (λ s i. refl)
 
-  -- the whole goes on behind what is read together
-  pub goes_on : (c : C) (j : ℕ) → read s both i ≡ Ok (c, j) → read s all i ≡ read s (z c) j
-  unfolding read_then
-  goes_on c j is = follow_two (λ v. read s (z v)) f (read s x i) (λ a. read s (y a)) ∙ ap (λ r. follow r (λ v. read s (z v))) is
+pub guard_as : IsReadAs guard (both (both (both (both (sign (Reserved Words.When)) quantifier) region) (sign (Reserved Words.In))) set)
+    (λ v. record { all = v.0.0.0.1; region = v.0.0.1; letters = v.1 })
+unfolding guard
+guard_as = read_as _ _ _ (λ s i. refl)
 
-  -- and fails where that does
-  pub fails_with : (fault : SyntaxFault) → Fails fault (read s both i) → Fails fault (read s all i)
-  unfolding read_then
-  fails_with fault fails =
-      subst (Fails fault) (sym (follow_two (λ v. read s (z v)) f (read s x i) (λ a. read s (y a))))
-      (fails_first fault (read s both i) (λ v. read s (z v)) fails)
+pub entry_as : IsReadAs entry (both (both (both name (sign (Sign Arrow))) name) (sign (Sign Semicolon))) (λ v. (v.0.0.0, v.0.1))
+unfolding entry
+entry_as = read_as _ _ _ (λ s i. refl)
 
-module _ (s : Source) (word : Keyword) (i j : ℕ) (head : read s (sign (Reserved word)) i ≡ Ok (tt, j)) where
-  pub four_names-fails : (fault : SyntaxFault) → Fails fault (read s two_names j) → Fails fault (read s (four_names word) i)
-  unfolding four_names read_then
-  four_names-fails fault fails = rw head (fails_with s name (λ _. name) (λ a b. (a, b)) to_two_names j fault fails)
+pub table_as : IsReadAs table (both (both (both (sign (Reserved Words.Map)) (sign (Sign BraceLeft))) (many entry)) (sign (Sign BraceRight))) (λ v. v.0.1)
+unfolding table
+table_as = read_as _ _ _ (λ s i. refl)
 
-  pub four_names-behind : (p : Name × Name) (k : ℕ) → read s two_names j ≡ Ok (p, k) → read s (four_names word) i ≡ read s (to_two_names p) k
-  unfolding four_names read_then
-  four_names-behind p k first = rw head (goes_on s name (λ _. name) (λ a b. (a, b)) to_two_names j p k first)
+pub at_as : IsReadAs at_move
+    (both (both (both (both (both (sign (Reserved Words.At)) name) (sign (Sign Arrow))) name) (up_to MAX_GUARDS Limits.Guards guard)) (optional [] table))
+    (λ v. Moves.At v.0.0.0.0.1 v.0.0.1 v.0.1 v.1)
+unfolding at_move
+at_as = read_as _ _ _ (λ s i. refl)
 
-module _ (s : Source) (p : Name × Name) (i j : ℕ) (arrow : read s (sign (Sign Arrow)) i ≡ Ok (tt, j)) where
-  pub to_two_names-fails : (fault : SyntaxFault) → Fails fault (read s two_names j) → Fails fault (read s (to_two_names p) i)
-  unfolding read_then
-  to_two_names-fails fault fails = rw arrow (fails_with s name (λ _. name) (λ c d. (c, d)) (λ q. gives (p.0, p.1, q.0, q.1)) j fault fails)
+pub four_as : (word : Keyword) → IsReadAs (four_names word) (both (both (both (both (both (sign (Reserved word)) name) name) (sign (Sign Arrow))) name) name)
+    (λ v. (v.0.0.0.0.1, v.0.0.0.1, v.0.1, v.1))
+unfolding four_names
+four_as word = read_as _ _ _ (λ s i. refl)
 
-  pub to_two_names-read : (q : Name × Name) (k : ℕ) → read s two_names j ≡ Ok (q, k) → read s (to_two_names p) i ≡ Ok ((p.0, p.1, q.0, q.1), k)
-  unfolding read_then
-  to_two_names-read q k second = rw arrow (goes_on s name (λ _. name) (λ c d. (c, d)) (λ r. gives (p.0, p.1, r.0, r.1)) j q k second)
+pub set_move_as : IsReadAs set_move (both (both (both (sign (Reserved Words.Set)) name) (sign (Sign Arrow))) name) (λ v. Moves.Set v.0.0.1 v.1)
+unfolding set_move
+set_move_as = read_as _ _ _ (λ s i. refl)
 
-module _ (s : Source) (language used : ℕ) (k : Kind) (title : Name) (i j l m : ℕ) (kind_read : read s (kind language) i ≡ Ok (k, j)) (title_read : read s name j ≡ Ok (title, l))
-    (brace_read : read s (sign (Sign BraceLeft)) l ≡ Ok (tt, m)) where
-  pub section-fails : (fault : SyntaxFault) → Fails fault (read s (letters_behind used) m) → Fails fault (read s (section language used) i)
-  unfolding section read_then
-  section-fails fault fails =
-      rw (kind_read, title_read, brace_read)
-      (fails_with s (item (nat_le MAX_LETTERS used) Limits.Letters name) (λ _. up_to (MAX_LETTERS - 1 - used) Limits.Letters name) (λ letter letters. letter ∷ letters)
-      (behind_letters k title) m fault fails)
+pub pushed_as : IsReadAs pushed (both (both (sign (Reserved Words.Push)) name) (up_to (MAX_PUSHED - 1) Limits.Pushed name)) (λ v. v.0.1 ∷ v.1)
+unfolding pushed
+pushed_as = read_as _ _ _ (λ s i. refl)
 
-  pub section-behind : (letters : List Name) (n : ℕ) → read s (letters_behind used) m ≡ Ok (letters, n)
-      → read s (section language used) i ≡ read s (behind_letters k title letters) n
-  unfolding section read_then
-  section-behind letters n is =
-      rw (kind_read, title_read, brace_read)
-      (goes_on s (item (nat_le MAX_LETTERS used) Limits.Letters name) (λ _. up_to (MAX_LETTERS - 1 - used) Limits.Letters name) (λ letter rest. letter ∷ rest)
-      (behind_letters k title) m letters n is)
+pub pop_as : IsReadAs pop_move (both (both (sign (Reserved Words.Pop)) name) (optional [] pushed)) (λ v. Moves.Stack (Some v.0.1) v.1)
+unfolding pop_move
+pop_as = read_as _ _ _ (λ s i. refl)
 
-module _ (s : Source) (title : Name) (language : ℕ) (i j l m : ℕ) (word : read s (sign (Reserved Words.Protocol)) i ≡ Ok (tt, j)) (title_read : read s name j ≡ Ok (title, l))
-    (language_read : read s (optional 1 second_language) l ≡ Ok (language, m)) where
-  pub protocol-fails : (fault : SyntaxFault) → Fails fault (read s (all_sections language) m) → Fails fault (read s protocol i)
-  unfolding protocol read_then
-  protocol-fails fault fails =
-      rw (word, title_read, language_read)
-      (fails_with s (section language 0) (more_sections language) (λ first sections. first ∷ sections) (behind_sections title language) m fault fails)
+pub rule_as : (language : ℕ)
+    → IsReadAs (rule language) (both (both (both (both (sign (Reserved Words.Rule)) name) (sign (Sign BraceLeft))) (many (step language))) (sign (Sign BraceRight)))
+    (λ v. record { name = v.0.0.0.1; moves = v.0.1 })
+unfolding rule
+rule_as language = read_as _ _ _ (λ s i. refl)
 
-  pub protocol-behind : (sections : List SectionText) (n : ℕ) → read s (all_sections language) m ≡ Ok (sections, n)
-      → read s protocol i ≡ read s (behind_sections title language sections) n
-  unfolding protocol read_then
-  protocol-behind sections n is =
-      rw (word, title_read, language_read)
-      (goes_on s (section language 0) (more_sections language) (λ first rest. first ∷ rest) (behind_sections title language) m sections n is)
+-- a list with its first item in front, or no memory for it
+pub listed : {A : Type 0} (answer : Answer (List A)) (j : ℕ) (first : A) (rest more : List A) (r : Result (List A) SyntaxFault)
+    → answer ≡ Ok (first ∷ rest, j) → more ≡ rest → IfOk r (λ items. items ≡ first ∷ more) → OnErr r (r ≡ Err Faults.Memory) → Gives answer j r
+listed answer j first rest more (Ok items) is same made memory = is ∙ ap (λ items. Ok (items, j)) (sym (made ∙ ap (λ others. first ∷ others) same))
+listed answer j first rest more (Err e) is same made memory = subst (λ r. Gives answer j r) (sym memory) tt
 
--- no second pair, where no arrow stands
-pub to_two_names-stops : (s : Source) (p : Name × Name) (i : ℕ) (fault : SyntaxFault) → Fails fault (read s (sign (Sign Arrow)) i) → Fails fault (read s (to_two_names p) i)
-unfolding read_then
-to_two_names-stops s p i fault fails = fails_first fault (read s (sign (Sign Arrow)) i) (λ _. read s (name >>= λ c. name >>= λ d. gives (p.0, p.1, c, d))) fails
+-- a protocol: its head, its sections, and the rows and rules behind them
+abbrev head : Grammar ((⊤ × Name) × ℕ)
+head = both (both (sign (Reserved Words.Protocol)) name) (optional 1 second_language)
 
-module _ (s : Source) (title : Name) (language : ℕ) (sections : List SectionText) (i : ℕ) where
-  abbrev inits : Grammar (List RowText)
-  inits = up_to MAX_ROWS Limits.InitRows (row Words.Init)
+abbrev tail : ℕ → Grammar ((List RowText × List RuleText) × List RowText)
+tail language =
+    both (both (up_to MAX_ROWS Limits.InitRows (row Words.Init)) (up_to MAX_RULES Limits.Rules (rule language)))
+    (up_to MAX_ROWS Limits.BadRows (row Words.Bad))
 
-  abbrev rows : Grammar (List RowText)
-  rows = up_to MAX_ROWS Limits.BadRows (row Words.Bad)
+abbrev made : (⊤ × Name) × ℕ → List SectionText → (List RowText × List RuleText) × List RowText → Protocol
+made h sections t = record { name = h.0.1; language = h.1; sections = sections; init = t.0.0; rules = t.0.1; bad = t.1 }
 
-  abbrev all_rules : Grammar (List RuleText)
-  all_rules = up_to MAX_RULES Limits.Rules (rule language)
+abbrev behind_sections : (⊤ × Name) × ℕ → List SectionText → Grammar Protocol
+behind_sections h sections = tail h.1 >>= λ t. gives (made h sections t)
 
-  abbrev made : List RowText → List RuleText → List RowText → Protocol
-  made init rules bad = record { name = title; language = language; sections = sections; init = init; rules = rules; bad = bad }
+abbrev behind_head : (⊤ × Name) × ℕ → Grammar Protocol
+behind_head h = all_sections h.1 >>= λ sections. behind_sections h sections
 
-  pub init-fails : (fault : SyntaxFault) → Fails fault (read s inits i) → Fails fault (read s (behind_sections title language sections) i)
-  unfolding read_then
-  init-fails fault fails = fails_first fault (read s inits i) (λ init. read s (all_rules >>= λ rules. rows >>= λ bad. gives (made init rules bad))) fails
+protocol_as : IsReadAs protocol (head >>= behind_head) (λ p. p)
+unfolding protocol
+protocol_as = read_as _ _ _ (λ s i. refl)
 
-  module _ (init : List RowText) (j : ℕ) (init_read : read s inits i ≡ Ok (init, j)) where
-    pub rules-fail : (fault : SyntaxFault) → Fails fault (read s all_rules j) → Fails fault (read s (behind_sections title language sections) i)
-    unfolding read_then
-    rules-fail fault fails = rw init_read (fails_first fault (read s all_rules j) (λ rules. read s (rows >>= λ bad. gives (made init rules bad))) fails)
+module _ (s : Source) (i : ℕ) where
+  pub head-fails : (fault : SyntaxFault) → Fails fault (read s head i) → Fails fault (read s protocol i)
+  head-fails fault fails = fails_too protocol_as s i fault (fails_with head behind_head s i fault fails)
 
-    module _ (rules : List RuleText) (l : ℕ) (rules_read : read s all_rules j ≡ Ok (rules, l)) where
-      pub bad-fails : (fault : SyntaxFault) → Fails fault (read s rows l) → Fails fault (read s (behind_sections title language sections) i)
-      unfolding read_then
-      bad-fails fault fails = rw (init_read, rules_read) (fails_first fault (read s rows l) (λ bad. read s (gives (made init rules bad))) fails)
+  module _ (h : (⊤ × Name) × ℕ) (j : ℕ) (head_read : read s head i ≡ Ok (h, j)) where
+    pub sections-fail : (fault : SyntaxFault) → Fails fault (read s (all_sections h.1) j) → Fails fault (read s protocol i)
+    sections-fail fault fails =
+        fails_too protocol_as s i fault
+        (subst (Fails fault) (sym (goes_on head behind_head s i j h head_read)) (fails_with (all_sections h.1) (behind_sections h) s j fault fails))
 
-      pub all_read : (bad : List RowText) (m : ℕ) → read s rows l ≡ Ok (bad, m) → read s (behind_sections title language sections) i ≡ Ok (made init rules bad, m)
-      unfolding read_then
-      all_read bad m bad_read = rw (init_read, rules_read, bad_read) refl
+    module _ (sections : List SectionText) (k : ℕ) (sections_read : read s (all_sections h.1) j ≡ Ok (sections, k)) where
+      behind : read s (head >>= behind_head) i ≡ read s (behind_sections h sections) k
+      behind = goes_on head behind_head s i j h head_read ∙ goes_on (all_sections h.1) (behind_sections h) s j k sections sections_read
+
+      pub tail-fails : (fault : SyntaxFault) → Fails fault (read s (tail h.1) k) → Fails fault (read s protocol i)
+      tail-fails fault fails =
+          fails_too protocol_as s i fault
+          (subst (Fails fault) (sym behind) (fails_with (tail h.1) (λ t. gives (made h sections t)) s k fault fails))
+
+      pub all_read : (t : (List RowText × List RuleText) × List RowText) (m : ℕ) → read s (tail h.1) k ≡ Ok (t, m)
+          → read s protocol i ≡ Ok (made h sections t, m)
+      all_read t m tail_read =
+          says_made protocol_as s i m (made h sections t) (behind ∙ goes_on (tail h.1) (λ u. gives (made h sections u)) s k m t tail_read)

@@ -3,12 +3,11 @@
 
 ghost use Rattle.protocol_syntax.specs.Grammar.{guard, set};
 
-use crate::ends::ended;
 use crate::limits::MAX_GUARDS;
 use crate::protocol::{GuardText, Region};
 use forms::{
     AnyName, BRACE_LEFT, BRACE_RIGHT, Form, Keyword, Many, Means, Name, Or, Sign, Source, Symbol,
-    SyntaxFault, UpTo, What,
+    SyntaxFault, Then, UpTo, What,
 };
 use sequence::Sequence;
 
@@ -50,11 +49,10 @@ impl Form for Set {
         BRACE_LEFT.opens(source, at)
     }
 
-    #[tactic(auto, unfolding(crate::specs::Grammar::set, forms::specs::Reading::read_then))]
     fn read(&self, source: &Source<'_>, at: &mut usize) -> Result<Sequence<Name>, SyntaxFault> {
-        BRACE_LEFT.read(source, at)?;
-        let names = Many(AnyName).read(source, at)?;
-        ended(names, BRACE_RIGHT, source, at)
+        let parts = Then(Then(BRACE_LEFT, Many(AnyName)), BRACE_RIGHT).read(source, at)?;
+        let ((_, names), _) = parts;
+        Ok(names)
     }
 }
 
@@ -72,13 +70,10 @@ impl Form for Guard {
         WHEN.opens(source, at)
     }
 
-    #[tactic(auto, unfolding(crate::specs::Grammar::guard, crate::specs::Grammar::quantifier, crate::specs::Grammar::region, forms::specs::Reading::read_then))]
     fn read(&self, source: &Source<'_>, at: &mut usize) -> Result<GuardText, SyntaxFault> {
-        WHEN.read(source, at)?;
-        let all = QUANTIFIER.read(source, at)?;
-        let region = REGION.read(source, at)?;
-        IN.read(source, at)?;
-        let letters = Set.read(source, at)?;
+        let head = Then(Then(WHEN, QUANTIFIER), REGION);
+        let parts = Then(Then(head, IN), Set).read(source, at)?;
+        let ((((_, all), region), _), letters) = parts;
         Ok(GuardText {
             all,
             region,

@@ -6,7 +6,6 @@ ghost use Rattle.forms.specs.Reading.{IsRead};
 ghost use Rattle.protocol_syntax.specs.Grammar.{any_move, at_move, channel_or_stack_move, common_move, entry, exit_move, four_names, later_move};
 ghost use Rattle.protocol_syntax.specs.Grammar.{lose_move, pair_move, pop_move, push_move, pushed, recv_move, ring_move, rule, send_move};
 ghost use Rattle.protocol_syntax.specs.Grammar.{set_move, spawn_move, step, table, two_move};
-ghost use Rattle.protocol_syntax.specs.private.Parts.{two_names};
 
 use crate::ends::ended;
 use crate::guards::GUARDS;
@@ -15,7 +14,7 @@ use crate::protocol::{MoveBody, MoveText, RuleText};
 use crate::rows::Base;
 use forms::{
     ARROW, AnyName, BRACE_LEFT, BRACE_RIGHT, COLON, Form, Keyword, Many, Name, Only, OrEmpty,
-    SEMICOLON, Sign, Source, Symbol, SyntaxFault, UpTo, What, with_first,
+    SEMICOLON, Sign, Source, Symbol, SyntaxFault, Then, UpTo, What, with_first,
 };
 use sequence::Sequence;
 
@@ -61,12 +60,10 @@ impl Form for Entry {
         AnyName.opens(source, at)
     }
 
-    #[tactic(auto, unfolding(crate::specs::Grammar::entry, forms::specs::Reading::read_then))]
     fn read(&self, source: &Source<'_>, at: &mut usize) -> Result<(Name, Name), SyntaxFault> {
-        let from = AnyName.read(source, at)?;
-        ARROW.read(source, at)?;
-        let to = AnyName.read(source, at)?;
-        ended((from, to), SEMICOLON, source, at)
+        let parts = Then(Then(Then(AnyName, ARROW), AnyName), SEMICOLON).read(source, at)?;
+        let (((from, _), to), _) = parts;
+        Ok((from, to))
     }
 }
 
@@ -84,30 +81,25 @@ impl Form for Table {
         MAP.opens(source, at)
     }
 
-    #[tactic(auto, unfolding(crate::specs::Grammar::table, forms::specs::Reading::read_then))]
     fn read(
         &self,
         source: &Source<'_>,
         at: &mut usize,
     ) -> Result<Sequence<(Name, Name)>, SyntaxFault> {
-        MAP.read(source, at)?;
-        BRACE_LEFT.read(source, at)?;
-        let entries = Many(Entry).read(source, at)?;
-        ended(entries, BRACE_RIGHT, source, at)
+        let body = Then(Then(MAP, BRACE_LEFT), Many(Entry));
+        let parts = Then(body, BRACE_RIGHT).read(source, at)?;
+        let ((_, entries), _) = parts;
+        Ok(entries)
     }
 }
 
 /// A move of one position.
-#[tactic(auto, unfolding(crate::specs::Grammar::at_move, forms::specs::Reading::read_then))]
 fn at_move(source: &Source<'_>, at: &mut usize) -> Result<MoveBody, SyntaxFault>
     ensures { IsRead at_move (source_of source.now.text.now source.now.tokens.now) at.old at.new result }
 {
-    AT.read(source, at)?;
-    let from = AnyName.read(source, at)?;
-    ARROW.read(source, at)?;
-    let to = AnyName.read(source, at)?;
-    let guards = GUARDS.read(source, at)?;
-    let map = OrEmpty(Table).read(source, at)?;
+    let change = Then(Then(Then(AT, AnyName), ARROW), AnyName);
+    let parts = Then(Then(change, GUARDS), OrEmpty(Table)).read(source, at)?;
+    let (((((_, from), _), to), guards), map) = parts;
     Ok(MoveBody::At {
         from,
         to,
@@ -116,18 +108,7 @@ fn at_move(source: &Source<'_>, at: &mut usize) -> Result<MoveBody, SyntaxFault>
     })
 }
 
-/// Reads two names.
-#[tactic(auto, unfolding(forms::specs::Reading::read_then))]
-fn two_names(source: &Source<'_>, at: &mut usize) -> Result<(Name, Name), SyntaxFault>
-    ensures { IsRead two_names (source_of source.now.text.now source.now.tokens.now) at.old at.new result }
-{
-    let a = AnyName.read(source, at)?;
-    let b = AnyName.read(source, at)?;
-    Ok((a, b))
-}
-
 /// Reads a word, two names, and what they become.
-#[tactic(auto, unfolding(crate::specs::Grammar::four_names, forms::specs::Reading::read_then))]
 fn four_names(
     word: Keyword,
     source: &Source<'_>,
@@ -135,10 +116,9 @@ fn four_names(
 ) -> Result<(Name, Name, Name, Name), SyntaxFault>
     ensures { IsRead (four_names word) (source_of source.now.text.now source.now.tokens.now) at.old at.new result }
 {
-    Sign(Symbol::Reserved(word)).read(source, at)?;
-    let (a, b) = two_names(source, at)?;
-    ARROW.read(source, at)?;
-    let (c, d) = two_names(source, at)?;
+    let two = Then(Then(Sign(Symbol::Reserved(word)), AnyName), AnyName);
+    let parts = Then(Then(Then(two, ARROW), AnyName), AnyName).read(source, at)?;
+    let (((((_, a), b), _), c), d) = parts;
     Ok((a, b, c, d))
 }
 
@@ -170,14 +150,11 @@ fn two_move(source: &Source<'_>, at: &mut usize) -> Result<MoveBody, SyntaxFault
 }
 
 /// A move of a cell.
-#[tactic(auto, unfolding(crate::specs::Grammar::set_move, forms::specs::Reading::read_then))]
 fn set_move(source: &Source<'_>, at: &mut usize) -> Result<MoveBody, SyntaxFault>
     ensures { IsRead set_move (source_of source.now.text.now source.now.tokens.now) at.old at.new result }
 {
-    SET.read(source, at)?;
-    let from = AnyName.read(source, at)?;
-    ARROW.read(source, at)?;
-    let to = AnyName.read(source, at)?;
+    let parts = Then(Then(Then(SET, AnyName), ARROW), AnyName).read(source, at)?;
+    let (((_, from), _), to) = parts;
     Ok(MoveBody::Set { from, to })
 }
 
@@ -201,6 +178,12 @@ fn recv_move(source: &Source<'_>, at: &mut usize) -> Result<MoveBody, SyntaxFaul
     Ok(MoveBody::Recv { letter })
 }
 
+const MORE_PUSHED: UpTo<AnyName> = UpTo {
+    limit: MAX_PUSHED - 1,
+    what: What::Pushed,
+    form: AnyName,
+};
+
 /// The letters that a move pushes.
 #[derive(Clone, Copy)]
 pub struct Pushed;
@@ -215,28 +198,19 @@ impl Form for Pushed {
         PUSH.opens(source, at)
     }
 
-    #[tactic(auto, unfolding(crate::specs::Grammar::pushed, forms::specs::Reading::read_then))]
     fn read(&self, source: &Source<'_>, at: &mut usize) -> Result<Sequence<Name>, SyntaxFault> {
-        PUSH.read(source, at)?;
-        let first = AnyName.read(source, at)?;
-        let more = UpTo {
-            limit: MAX_PUSHED - 1,
-            what: What::Pushed,
-            form: AnyName,
-        };
-        let rest = more.read(source, at)?;
+        let parts = Then(Then(PUSH, AnyName), MORE_PUSHED).read(source, at)?;
+        let ((_, first), rest) = parts;
         with_first(first, rest.into_vec())
     }
 }
 
 /// A letter is taken from a stack, and others may be put on it.
-#[tactic(auto, unfolding(crate::specs::Grammar::pop_move, forms::specs::Reading::read_then))]
 fn pop_move(source: &Source<'_>, at: &mut usize) -> Result<MoveBody, SyntaxFault>
     ensures { IsRead pop_move (source_of source.now.text.now source.now.tokens.now) at.old at.new result }
 {
-    POP.read(source, at)?;
-    let letter = AnyName.read(source, at)?;
-    let push = OrEmpty(Pushed).read(source, at)?;
+    let parts = Then(Then(POP, AnyName), OrEmpty(Pushed)).read(source, at)?;
+    let ((_, letter), push) = parts;
     Ok(MoveBody::Stack {
         pop: Some(letter),
         push,
@@ -404,15 +378,13 @@ impl Form for Rule {
         RULE.opens(source, at)
     }
 
-    #[tactic(auto, unfolding(crate::specs::Grammar::rule, forms::specs::Reading::read_then))]
     fn read(&self, source: &Source<'_>, at: &mut usize) -> Result<RuleText, SyntaxFault> {
-        RULE.read(source, at)?;
-        let name = AnyName.read(source, at)?;
-        BRACE_LEFT.read(source, at)?;
-        let step = Step {
+        let steps = Many(Step {
             language: self.language,
-        };
-        let moves = Many(step).read(source, at)?;
-        ended(RuleText { name, moves }, BRACE_RIGHT, source, at)
+        });
+        let head = Then(Then(RULE, AnyName), BRACE_LEFT);
+        let parts = Then(Then(head, steps), BRACE_RIGHT).read(source, at)?;
+        let ((((_, name), _), moves), _) = parts;
+        Ok(RuleText { name, moves })
     }
 }

@@ -1,7 +1,7 @@
 //! Reading rows and their patterns.
 //! What stands before an atom's count is told by one token.
 
-ghost use Rattle.protocol_syntax.specs.Grammar.{atom, base, part, pattern, row, row_body};
+ghost use Rattle.protocol_syntax.specs.Grammar.{atom, atoms, base, part, pattern, row, row_body};
 ghost use Rattle.forms.specs.Symbol.{source_of};
 ghost use Rattle.forms.specs.Reading.{IsRead};
 
@@ -11,7 +11,7 @@ use crate::limits::MAX_ATOMS;
 use crate::protocol::{AtomText, BaseText, Many as Count, PartText, RowText};
 use forms::{
     AnyName, BRACE_LEFT, BRACE_RIGHT, COLON, Form, Keyword, Many, Means, Optional, Or, SEMICOLON,
-    Sign, Source, Symbol, SyntaxFault, UpTo, What, with_first,
+    Sign, Source, Symbol, SyntaxFault, Then, UpTo, What, with_first,
 };
 use protocol_lexer::TokenKind;
 use sequence::Sequence;
@@ -74,26 +74,44 @@ impl Form for Atom {
         Base.opens(source, at)
     }
 
-    #[tactic(auto, unfolding(crate::specs::Grammar::atom, crate::specs::Grammar::count, forms::specs::Reading::read_then))]
     fn read(&self, source: &Source<'_>, at: &mut usize) -> Result<AtomText, SyntaxFault> {
-        let base = Base.read(source, at)?;
-        let many = Optional(COUNT, Count::One).read(source, at)?;
+        let parts = Then(Base, Optional(COUNT, Count::One)).read(source, at)?;
+        let (base, many) = parts;
         Ok(AtomText { base, many })
     }
 }
 
-/// The pattern of a section.
-#[tactic(auto, unfolding(crate::specs::Grammar::pattern, crate::specs::Grammar::atoms, forms::specs::Reading::read_or, forms::specs::Reading::read_then))]
-fn pattern(source: &Source<'_>, at: &mut usize) -> Result<Sequence<AtomText>, SyntaxFault>
-    ensures { IsRead pattern (source_of source.now.text.now source.now.tokens.now) at.old at.new result }
+/// The atoms of a pattern.
+fn atoms(source: &Source<'_>, at: &mut usize) -> Result<Sequence<AtomText>, SyntaxFault>
+    ensures { IsRead atoms (source_of source.now.text.now source.now.tokens.now) at.old at.new result }
 {
-    if EMPTY.opens(source, *at) {
-        EMPTY.read(source, at)?;
-        return Ok(Sequence::from_vec(Vec::new(source.alloc)));
-    }
-    let first = Atom.read(source, at)?;
-    let rest = MORE_ATOMS.read(source, at)?;
+    let parts = Then(Atom, MORE_ATOMS).read(source, at)?;
+    let (first, rest) = parts;
     with_first(first, rest.into_vec())
+}
+
+/// The pattern of a section.
+#[derive(Clone, Copy)]
+struct Pattern;
+
+impl Form for Pattern {
+    type Meaning = Sequence<AtomText>;
+
+    ghost grammar = { λ _. pattern };
+
+    #[tactic(auto, unfolding(crate::specs::Grammar::pattern, crate::specs::Grammar::atoms))]
+    fn opens(&self, source: &Source<'_>, at: usize) -> bool {
+        EMPTY.opens(source, at) || Atom.opens(source, at)
+    }
+
+    #[tactic(auto, unfolding(crate::specs::Grammar::pattern, forms::specs::Reading::read_or, forms::specs::Reading::read_then))]
+    fn read(&self, source: &Source<'_>, at: &mut usize) -> Result<Sequence<AtomText>, SyntaxFault> {
+        if EMPTY.opens(source, *at) {
+            EMPTY.read(source, at)?;
+            return Ok(Sequence::from_vec(Vec::new(source.alloc)));
+        }
+        atoms(source, at)
+    }
 }
 
 /// The pattern of a section, with the section's name.
@@ -110,12 +128,10 @@ impl Form for Part {
         AnyName.opens(source, at)
     }
 
-    #[tactic(auto, unfolding(crate::specs::Grammar::part, forms::specs::Reading::read_then))]
     fn read(&self, source: &Source<'_>, at: &mut usize) -> Result<PartText, SyntaxFault> {
-        let section = AnyName.read(source, at)?;
-        COLON.read(source, at)?;
-        let atoms = pattern(source, at)?;
-        ended(PartText { section, atoms }, SEMICOLON, source, at)
+        let parts = Then(Then(Then(AnyName, COLON), Pattern), SEMICOLON).read(source, at)?;
+        let (((section, _), atoms), _) = parts;
+        Ok(PartText { section, atoms })
     }
 }
 

@@ -10,12 +10,11 @@ ghost use Rattle.forms.specs.Reading.{IsRead};
 ghost use Rattle.protocol_syntax.specs.Grammar.{kind, letters_of, lossy_kind, section};
 ghost use Rattle.protocol_syntax.specs.private.Parts.{all_sections, letters_behind};
 
-use crate::ends::ended;
 use crate::limits::{MAX_LETTERS, MAX_SECTIONS};
 use crate::protocol::{Kind, SectionText};
 use forms::{
     AnyName, BRACE_LEFT, BRACE_RIGHT, Form, Item, Items, Keyword, Means, Name, Only, Or, Sign,
-    Source, Symbol, SyntaxFault, UpTo, What, read_many, with_first,
+    Source, Symbol, SyntaxFault, Then, UpTo, What, read_many, with_first,
 };
 use sequence::Sequence;
 
@@ -109,42 +108,53 @@ impl Form for Section {
         kind.opens(source, at)
     }
 
-    #[tactic(auto, unfolding(crate::specs::Grammar::section, forms::specs::Reading::read_then))]
     fn read(&self, source: &Source<'_>, at: &mut usize) -> Result<SectionText, SyntaxFault> {
-        let any_kind = SectionKind {
+        let kind = SectionKind {
             language: self.language,
         };
-        let kind = any_kind.read(source, at)?;
-        let name = AnyName.read(source, at)?;
-        BRACE_LEFT.read(source, at)?;
-        let letters = letters(self.used, source, at)?;
-        let section = SectionText {
+        let head = Then(Then(kind, AnyName), BRACE_LEFT);
+        let letters = Letters { used: self.used };
+        let parts = Then(Then(head, letters), BRACE_RIGHT).read(source, at)?;
+        let ((((kind, name), _), letters), _) = parts;
+        Ok(SectionText {
             kind,
             name,
             letters,
-        };
-        ended(section, BRACE_RIGHT, source, at)
+        })
     }
 }
 
-/// Reads the letters of a section, where the earlier sections have so many together.
-#[tactic(auto, unfolding(forms::specs::Reading::read_then))]
-fn letters(used: usize, source: &Source<'_>, at: &mut usize) -> Result<Sequence<Name>, SyntaxFault>
-    ensures { IsRead (letters_behind used) (source_of source.now.text.now source.now.tokens.now) at.old at.new result }
-{
-    let one = Item {
-        full: MAX_LETTERS <= used,
-        what: What::Letters,
-        form: AnyName,
-    };
-    let letter = one.read(source, at)?;
-    let others = UpTo {
-        limit: (MAX_LETTERS - 1).saturating_sub(used),
-        what: What::Letters,
-        form: AnyName,
-    };
-    let more = others.read(source, at)?;
-    with_first(letter, more.into_vec())
+/// The letters of a section, where the earlier sections have so many together.
+#[derive(Clone, Copy)]
+struct Letters {
+    used: usize,
+}
+
+impl Form for Letters {
+    type Meaning = Sequence<Name>;
+
+    ghost grammar = { λ x. letters_behind x.used };
+
+    fn opens(&self, source: &Source<'_>, at: usize) -> bool {
+        AnyName.opens(source, at)
+    }
+
+    #[tactic(auto, unfolding(forms::specs::Reading::read_then))]
+    fn read(&self, source: &Source<'_>, at: &mut usize) -> Result<Sequence<Name>, SyntaxFault> {
+        let one = Item {
+            full: MAX_LETTERS <= self.used,
+            what: What::Letters,
+            form: AnyName,
+        };
+        let letter = one.read(source, at)?;
+        let others = UpTo {
+            limit: (MAX_LETTERS - 1).saturating_sub(self.used),
+            what: What::Letters,
+            form: AnyName,
+        };
+        let more = others.read(source, at)?;
+        with_first(letter, more.into_vec())
+    }
 }
 
 /// The sections behind the first, in a text of this language.

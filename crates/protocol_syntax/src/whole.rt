@@ -11,7 +11,7 @@ use crate::protocol::Protocol;
 use crate::rows::Row;
 use crate::sections::sections;
 use forms::{
-    AnyName, Form, Keyword, OneOf, Optional, Sign, Source, Symbol, SyntaxFault, UpTo, What,
+    AnyName, Form, Keyword, OneOf, Optional, Sign, Source, Symbol, SyntaxFault, Then, UpTo, What,
 };
 use sequence::Text;
 use std::alloc::Global;
@@ -71,20 +71,18 @@ impl Form for WholeProtocol {
         PROTOCOL.opens(source, at)
     }
 
-    #[tactic(auto, unfolding(crate::specs::Grammar::protocol, crate::specs::Grammar::more_sections, forms::specs::Reading::read_then))]
     fn read(&self, source: &Source<'_>, at: &mut usize) -> Result<Protocol, SyntaxFault> {
-        PROTOCOL.read(source, at)?;
-        let name = AnyName.read(source, at)?;
-        let language = Optional(SecondLanguage, 1u32).read(source, at)?;
+        let second = Optional(SecondLanguage, 1u32);
+        let head = Then(Then(PROTOCOL, AnyName), second).read(source, at)?;
+        let ((_, name), language) = head;
         let sections = sections(language, source, at)?;
-        let init = INIT.read(source, at)?;
-        let each_rule = UpTo {
+        let rules = UpTo {
             limit: MAX_RULES,
             what: What::Rules,
             form: Rule { language },
         };
-        let rules = each_rule.read(source, at)?;
-        let bad = BAD.read(source, at)?;
+        let tail = Then(Then(INIT, rules), BAD).read(source, at)?;
+        let ((init, rules), bad) = tail;
         Ok(Protocol {
             name,
             language,

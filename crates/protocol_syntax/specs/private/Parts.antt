@@ -14,13 +14,6 @@ ended end said = do
   end ← sign end
   gives said
 
--- name name
-abbrev pub two_names : Grammar (Name × Name)
-two_names = do
-  a ← name
-  b ← name
-  gives (a, b)
-
 -- name { name }: the letters of a section, where the earlier sections have so many together
 abbrev pub letters_behind : ℕ → Grammar (List Name)
 letters_behind used = do

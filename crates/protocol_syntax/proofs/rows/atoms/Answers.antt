@@ -1,0 +1,15 @@
+use Rattle.std.proofs.lemmas.Result.{err_from_is_err_and}
+use Rattle.forms.specs.Symbol.{source_of}
+use Rattle.forms.proofs.ForCallers.{says_made, fails_too}
+use Rattle.protocol_syntax.proofs.Together.{atoms_as, listed}
+use Rattle.protocol_syntax.proofs.rows.atoms.Goals as goal
+
+pub returns-in_err-parts : goal.returns-in_err-parts
+returns-in_err-parts c =
+    let p = err_from_is_err_and c.from_residual.result c.from_residual.ensures.1 in
+    rw (p.1, p.2) (fails_too atoms_as (source_of c.args.source.now.text.now c.args.source.now.tokens.now) _ _ c.in_err-parts.ensures)
+
+pub returns : goal.returns
+returns c =
+    listed _ _ _ _ _ c.with_first.result (says_made atoms_as (source_of c.args.source.now.text.now c.args.source.now.tokens.now) _ _ _ c.in_ok-parts.ensures)
+    c.into_vec.ensures c.with_first.ensures.ok c.with_first.ensures.memory
