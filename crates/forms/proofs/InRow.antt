@@ -1,10 +1,10 @@
 -- Forms one behind another: a production of several parts is read as the nested pairs of its parts are.
-use Rattle.std.proofs.Common.{◌≡◌, ℕ, Ok, Err, refl, sym, ap, subst, ◌∙◌}
+use Rattle.std.proofs.Common.{◌≡◌, ℕ, Ok, Err, Result, refl, sym, ap, subst, ◌∙◌}
 use Rattle.forms.specs.declared.fault.SyntaxFault.{SyntaxFault}
 use Rattle.forms.specs.declared.fault.SyntaxFault.TheVariants as Faults
 use Rattle.forms.specs.Symbol.{Source}
 use Rattle.forms.specs.Grammar.{Grammar, sign, name, one_of, gives, ◌>>=◌, ◌or◌, optional, many_by, item, only}
-use Rattle.forms.specs.Reading.{Answer, Reader, Fails, follow, read, read_then}
+use Rattle.forms.specs.Reading.{Answer, Reader, Fails, Gives, follow, read, read_then}
 
 -- what is answered where this is read behind the form; it does not tell how the parts of the form are nested
 abbrev pub read_before : {A B : Type 0} → Source → Grammar A → (A → Reader B) → Reader B
@@ -70,6 +70,12 @@ module _ {A C : Type 0} {production : Grammar C} {parts : Grammar A} {made : A �
 
   pub fails_too : (i : ℕ) (fault : SyntaxFault) → Fails fault (read s parts i) → Fails fault (read s production i)
   fails_too i fault fails = subst (Fails fault) (sym (alike.same s i)) (fails_first fault (read s parts i) (λ a j. Ok (made a, j)) fails)
+
+-- A production that means what its parts mean gives what they give.
+pub given_alike : {A : Type 0} {production parts : Grammar A} (alike : IsReadAs production parts (λ a. a)) (s : Source) (i j : ℕ)
+    (r : Result A SyntaxFault) → Gives (read s parts i) j r → Gives (read s production i) j r
+given_alike {A} {production} {parts} alike s i j r given =
+    subst (λ (answer : Answer A). Gives answer j r) (sym (alike.same s i ∙ follow_nothing (read s parts i))) given
 
 -- what is read behind a form
 pub goes_on : {A B : Type 0} (x : Grammar A) (y : A → Grammar B) (s : Source) (i j : ℕ) (a : A) → read s x i ≡ Ok (a, j)

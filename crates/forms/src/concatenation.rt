@@ -1,10 +1,11 @@
 //! One form behind another.
 //! Each is read once, from the left; time is that of both.
 
-ghost use Rattle.forms.specs.Concatenation.{both};
+ghost use Rattle.forms.specs.Concatenation.{behind, both, ended};
 
 use crate::fault::SyntaxFault;
 use crate::form::Form;
+use crate::one::Sign;
 use crate::source::Source;
 
 /// The one form, and behind it the other: a sequence of three or more forms is `Then(Then(a, b), c)`.
@@ -29,5 +30,46 @@ impl<X: Form, Y: Form> Form for Then<X, Y> {
         let first = self.0.read(source, at)?;
         let second = self.1.read(source, at)?;
         Ok((first, second))
+    }
+}
+
+/// The form behind a reserved word or a sign, which says no more.
+#[derive(Clone, Copy)]
+pub struct Behind<X>(pub Sign, pub X);
+
+impl<X: Form> Form for Behind<X> {
+    type Meaning = X::Meaning;
+
+    ghost grammar = { λ x. behind x.0.0 (X.grammar x.1) };
+
+    fn opens(&self, source: &Source<'_>, at: usize) -> bool {
+        self.0.opens(source, at)
+    }
+
+    #[tactic(auto, unfolding(crate::specs::Reading::read_then))]
+    fn read(&self, source: &Source<'_>, at: &mut usize) -> Result<X::Meaning, SyntaxFault> {
+        self.0.read(source, at)?;
+        self.1.read(source, at)
+    }
+}
+
+/// The form, and behind it a reserved word or a sign.
+#[derive(Clone, Copy)]
+pub struct Ended<X>(pub X, pub Sign);
+
+impl<X: Form> Form for Ended<X> {
+    type Meaning = X::Meaning;
+
+    ghost grammar = { λ x. ended (X.grammar x.0) x.1.0 };
+
+    fn opens(&self, source: &Source<'_>, at: usize) -> bool {
+        self.0.opens(source, at)
+    }
+
+    #[tactic(auto, unfolding(crate::specs::Reading::read_then))]
+    fn read(&self, source: &Source<'_>, at: &mut usize) -> Result<X::Meaning, SyntaxFault> {
+        let said = self.0.read(source, at)?;
+        self.1.read(source, at)?;
+        Ok(said)
     }
 }
