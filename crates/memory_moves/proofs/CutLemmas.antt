@@ -1,7 +1,7 @@
 -- What transducers relate that take one letter out of a list.
-use Rattle.std.proofs.Common.{◌≡◌, ◌==◌, ℕ, ◌+◌, ◌<◌, ◌≤◌, true, false, List, [], ◌∷◌, ◌++◌, Contains, refl, sym, ap, ◌∙◌, subst, inl, inr, arith, All, true≢false, IsTrue, zero, suc, eq-eqb, eqb-true, get_or}
+use Rattle.std.proofs.Common.{◌≡◌, ◌==◌, ℕ, ◌+◌, ◌<◌, ◌≤◌, true, false, List, [], ◌∷◌, ◌++◌, Contains, refl, sym, ap, ◌∙◌, subst, inl, inr, arith, All, true≢false, IsTrue, eq-eqb, eqb-true, get_or}
 use Rattle.std.proofs.lemmas.List.{append-nil, map-append}
-use Rattle.std.proofs.lemmas.List.Elements.{All-nil, All-cons, All-append, Contains-append_right}
+use Rattle.std.proofs.lemmas.List.Elements.{All-nil, All-cons, All-append, All-contains, All-from_recursion, All-map, Contains-append_right}
 use Rattle.std.proofs.lemmas.List.Folds.{list_any_at}
 use Rattle.std.proofs.lemmas.Map.Views.{Contains-from_any}
 use Rattle.word_automata.specs.Path.{Node, edges_of, spelled_one}
@@ -28,9 +28,7 @@ contains_listed : (set : List ℕ) (a : ℕ) → IsTrue (is_in set a) → Contai
 contains_listed set a h = Contains-from_any {eq = λ x y. y == x} (λ x y e. sym (eqb-true y x e)) a set h
 
 letter_below : (count : ℕ) (set : List ℕ) (a : ℕ) → AllBelow count set → Contains set a → a < count
-letter_below count [] a h c = nothing_in_nil a c
-letter_below count (x ∷ set) a h (zero, l, e) = subst (λ y. y < count) e h.0
-letter_below count (x ∷ set) a h (suc k, l, e) = letter_below count set a h.1 (k, omega (arith, l), e)
+letter_below count set a h c = All-contains (λ y. y < count) set a (All-from_recursion (λ y. y < count) set h) c
 
 -- the whole transducer
 abbrev pub cutting : ℕ → List ℕ → ℕ → ℕ → Transducer
@@ -138,15 +136,10 @@ module _ (letters : ℕ) (set : List ℕ) (offset count : ℕ) where
 
 cut_edges_in_range : (letters offset count : ℕ) (set : List ℕ) → offset + count ≤ letters → AllBelow count set
     → All (IsEdge letters 2) (cut_edges offset set 1)
-cut_edges_in_range letters offset count [] fits h = All-nil (IsEdge letters 2)
-cut_edges_in_range letters offset count (a ∷ set) fits h =
-    All-cons (IsEdge letters 2) (reading (a + offset), 1) (cut_edges offset set 1)
-    (record {
-      read_in_range = omega (arith, h.0, fits);
-      write_in_range = tt;
-      target_in_range = omega arith;
-    })
-    (cut_edges_in_range letters offset count set fits h.1)
+cut_edges_in_range letters offset count set fits h =
+    All-map (IsEdge letters 2) (λ (a : ℕ). (reading (a + offset), 1)) set (λ k d lt.
+    let below : get_or set k d < count = All-from_recursion (λ a. a < count) set h k d lt in
+    record { read_in_range = omega (arith, below, fits); write_in_range = tt; target_in_range = omega arith })
 
 pub IsValid-cutting : (letters : ℕ) (set : List ℕ) (offset count : ℕ) → offset + count ≤ letters → AllBelow count set
     → IsValid (cutting letters set offset count)

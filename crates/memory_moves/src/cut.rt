@@ -44,10 +44,7 @@ fn cutting_states(
     let mut before = copy_edges(alloc, alphabet.offset, alphabet.count, 0)?;
     push_cuts(&mut before, set, alphabet)?;
     let behind = copy_edges(alloc, alphabet.offset, alphabet.count, 1)?;
-    let mut states = Vec::with_capacity(alloc, 2)?;
-    states.push(State::new(false, before))?;
-    states.push(State::new(true, behind))?;
-    Ok(states)
+    Ok(vec![in alloc; State::new(false, before), State::new(true, behind)]?)
 }
 
 /// Appends an edge to the second state for each letter of the set, which is read and not written.

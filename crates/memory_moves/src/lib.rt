@@ -11,7 +11,7 @@ ghost use Rattle.protocol_model.specs.System.{IsValidMove, belongs_to};
 ghost use Rattle.protocol_model.specs.Moves.{IsMove};
 ghost use Rattle.protocol_model.specs.Raised.{IsRaisedMove};
 ghost use Rattle.transducers.specs.Transducer.{Relates};
-ghost use Rattle.memory_moves.specs.private.Machine.{reading, writing, stack_prefix};
+ghost use Rattle.memory_moves.specs.private.Machine.{reading, writing, pop_prefix, stack_prefix};
 
 pub use cut::compile_cut;
 use machine::copy_between;
@@ -125,12 +125,25 @@ fn stack_prefix(
     requires fits { alphabet.offset + alphabet.count < 2 ^ 32 }
     ensures { IfOk result (λ labels. labels.items ≡ stack_prefix alphabet.offset pop push.now) }
 {
-    let mut labels = Vec::new(alloc);
-    if let Some(letter) = pop {
-        labels.push(reading(letter + alphabet.offset))?;
-    }
+    let mut labels = pop_prefix(alloc, pop, alphabet)?;
     'pushed: for letter in push {
         labels.push(writing(*letter + alphabet.offset))?;
     }
     Ok(labels)
+}
+
+/// The label that reads the popped letter, if there is one, raised by `alphabet.offset`.
+fn pop_prefix(
+    alloc: Global,
+    pop: Option<u32>,
+    alphabet: SectionLetters,
+) -> Result<Vec<Label>, AllocError>
+    requires pops { IfSome pop (λ a. a < alphabet.count) }
+    requires fits { alphabet.offset + alphabet.count < 2 ^ 32 }
+    ensures { IfOk result (λ labels. labels.items ≡ pop_prefix alphabet.offset pop) }
+{
+    match pop {
+        Some(letter) => Ok(vec![in alloc; reading(letter + alphabet.offset)]?),
+        None => Ok(Vec::new(alloc)),
+    }
 }

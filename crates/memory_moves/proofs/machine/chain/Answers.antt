@@ -1,7 +1,8 @@
 use Rattle.std.proofs.Common.{◌≡◌, ◌+◌, ◌<◌, ◌++◌, ◌∷◌, [], false, None, length, take, get_or, sym, ap, ◌∙◌, arith}
-use Rattle.std.proofs.lemmas.List.{take_more, length-take-le}
+use Rattle.std.proofs.lemmas.List.{take_all, take_more, length-take-le}
 use Rattle.word_automata.specs.Path.{Node}
 use Rattle.transducers.specs.declared.Label.{Label}
+use Rattle.memory_moves.specs.private.Machine.{chain}
 use Rattle.memory_moves.proofs.MachineLemmas.{chain-push}
 use Rattle.memory_moves.proofs.machine.chain.Goals as goal
 
@@ -17,3 +18,6 @@ labels-preserved c =
     rw (take_more labels i unread lt)
     (c.in_ok-push.ensures.items ∙ (λ j. c.labels.invariant j ++ node j ∷ [])
     ∙ sym (chain-push 0 (take i labels) (get_or labels i unread) (i + 1) next))
+
+pub returns : goal.returns
+returns c = c.labels.invariant ∙ ap (chain 0) (take_all c.labels.i c.args.labels.now (omega arith))
