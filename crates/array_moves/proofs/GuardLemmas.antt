@@ -1,11 +1,13 @@
--- Lemmas on guards and their flags: what the letters on and_parts sides of the moving position meet.
+-- Lemmas on guards and their flags: what the letters on both sides of the moving position meet.
 use Rattle.std.proofs.Common.{◌≡◌, ℕ, zero, suc, ◌<◌, Bool, true, false, not, ◌&&◌, ◌||◌, List, [], ◌∷◌, ◌++◌, slice_get, Option, Some}
-use Rattle.std.proofs.Common.{None, refl, sym, ap, ◌∙◌, subst, inl, inr, arith, ◌⊎◌, true≢false, if◌then◌else◌, fold}
+use Rattle.std.proofs.Common.{None, refl, sym, ap, ◌∙◌, subst, inl, inr, arith, true≢false, if◌then◌else◌, fold, get_or}
 use Rattle.std.specs.List.{list_all, list_any}
 use Rattle.std.proofs.lemmas.List.Folds.{list_all-append, list_any-append}
-use Rattle.std.proofs.lemmas.Option.{same_Some, none-some}
-use Rattle.std.proofs.lemmas.Bool.{and_parts, and_from, or_cases, or_left, or_right}
-use Rattle.transducers.proofs.ForCallers.{slice_get-cases}
+use Rattle.std.proofs.lemmas.List.Elements.{All-contains}
+use Rattle.std.proofs.lemmas.List.Sums.{AllPass-from_list_all, list_all-from_AllPass}
+use Rattle.std.proofs.lemmas.Option.{same_Some, none-some, slice_get-get_or}
+use Rattle.std.proofs.lemmas.Bool.{and_parts, and_from, or_left, or_right}
+use Rattle.transducers.proofs.ForCallers.{Contains-from_place, slice_get-cases}
 use Rattle.protocol_syntax.specs.declared.protocol.Region.{Region}
 use Rattle.protocol_syntax.specs.declared.protocol.Region.TheVariants.{Left, Right, Others}
 use Rattle.protocol_model.specs.System.{Guard}
@@ -15,14 +17,11 @@ use Rattle.array_moves.specs.private.Flags.{asks_at, widened}
 
 -- a test of all elements, by their places
 pub all_at : {X : Type 0} (p : X → Bool) (xs : List X) (k : ℕ) (x : X) → list_all p xs ≡ true → slice_get xs k ≡ Some x → p x ≡ true
-all_at p [] k x h e = absurd (none-some x e)
-all_at p (y ∷ xs) zero x h e = subst (λ z. p z ≡ true) (same_Some _ _ e) (and_parts (p y) (list_all p xs) h).0
-all_at p (y ∷ xs) (suc k) x h e = all_at p xs k x (and_parts (p y) (list_all p xs) h).1 e
+all_at p xs k x h e = All-contains (λ y. p y ≡ true) xs x (AllPass-from_list_all p xs h) (Contains-from_place xs k x e)
 
 pub all_from_each : {X : Type 0} (p : X → Bool) (xs : List X) → ((k : ℕ) (x : X) → slice_get xs k ≡ Some x → p x ≡ true)
     → list_all p xs ≡ true
-all_from_each p [] each = refl
-all_from_each p (y ∷ xs) each = and_from (p y) (list_all p xs) (each 0 y refl) (all_from_each p xs (λ k x e. each (suc k) x e))
+all_from_each p xs each = list_all-from_AllPass p xs (λ k d h. each k (get_or xs k d) (slice_get-get_or xs k d h))
 
 all_of_true : {X : Type 0} (xs : List X) → list_all (λ x. true) xs ≡ true
 all_of_true [] = refl
@@ -32,14 +31,14 @@ any_of_false : {X : Type 0} (xs : List X) → list_any (λ x. false) xs ≡ fals
 any_of_false [] = refl
 any_of_false (x ∷ xs) = any_of_false xs
 
--- the letters of lists on and_parts sides, one after the other
-pub all_joined : (p : ℕ → Bool) (s t : List ℕ) → list_all p s ≡ true → list_all p t ≡ true → list_all p (s ++ t) ≡ true
+-- the letters of lists on both sides, one after the other
+all_joined : (p : ℕ → Bool) (s t : List ℕ) → list_all p s ≡ true → list_all p t ≡ true → list_all p (s ++ t) ≡ true
 all_joined p s t h g = list_all-append p s t ∙ and_from (list_all p s) (list_all p t) h g
 
-pub all_parts : (p : ℕ → Bool) (s t : List ℕ) → list_all p (s ++ t) ≡ true → (list_all p s ≡ true) × (list_all p t ≡ true)
+all_parts : (p : ℕ → Bool) (s t : List ℕ) → list_all p (s ++ t) ≡ true → (list_all p s ≡ true) × (list_all p t ≡ true)
 all_parts p s t h = and_parts (list_all p s) (list_all p t) (sym (list_all-append p s t) ∙ h)
 
--- a guard that asks for all letters holds exactly where it permits the letters on and_parts sides
+-- a guard that asks for all letters holds exactly where it permits the letters on both sides
 all_holds : (region : Region) (letters before after : List ℕ)
     → list_all (permits (record { all = true; region = region; letters = letters }) false) before ≡ true
     → list_all (permits (record { all = true; region = region; letters = letters }) true) after ≡ true
@@ -68,7 +67,7 @@ some_met Left letters before after = or_false (list_any (is_in letters) before) 
 some_met Right letters before after = ap (λ a. a || list_any (is_in letters) after) (sym (any_of_false before))
 some_met Others letters before after = list_any-append (is_in letters) before after
 
--- what a guard says of and_parts sides
+-- what a guard says of both sides
 pub record IsSatisfied (guard : Guard) (before after : List ℕ) : Type 0 where
   pub permitted_before : list_all (permits guard false) before ≡ true
   pub permitted_after : list_all (permits guard true) after ≡ true
@@ -176,7 +175,7 @@ guard_from_asks guards k h =
     ]
 
 -- the flags that the effects of a side may set
-pub flag-fold : (effects : List (Option (List Bool))) (flags : List Bool) (k : ℕ) → k < 4 → flag flags k ≡ true
+flag-fold : (effects : List (Option (List Bool))) (flags : List Bool) (k : ℕ) → k < 4 → flag flags k ≡ true
     → flag (fold widened flags effects) k ≡ true
 flag-fold [] flags k lt h = h
 flag-fold (None ∷ effects) flags k lt h = flag-fold effects flags k lt h
@@ -191,17 +190,3 @@ flag-reach (effect ∷ effects) flags met zero k lt e h =
     (flag-fold effects (union_of flags met) k lt (flag-four (λ j. flag flags j || flag met j) k lt
     ∙ or_right (flag flags k) (flag met k) h))
 flag-reach (effect ∷ effects) flags met (suc i) k lt e h = flag-reach effects (widened flags effect) met i k lt e h
-
--- a flag that may be set comes from some effect
-pub effect_from_reach : (effects : List (Option (List Bool))) (flags : List Bool) (k : ℕ) → k < 4
-    → flag (fold widened flags effects) k ≡ true
-    → (flag flags k ≡ true) ⊎ ((i : ℕ) × (met : List Bool) × (slice_get effects i ≡ Some (Some met)) × (flag met k ≡ true))
-effect_from_reach [] flags k lt h = inl h
-effect_from_reach (None ∷ effects) flags k lt h =
-    elim (effect_from_reach effects flags k lt h) [ inl old ↦ inl old | inr found ↦ inr (suc found.0, found.1, found.2, found.3) ]
-effect_from_reach (Some met ∷ effects) flags k lt h =
-    elim (effect_from_reach effects (union_of flags met) k lt h) [
-      | inl old ↦ (elim (or_cases (flag flags k) (flag met k) (sym (flag-four (λ j. flag flags j || flag met j) k lt) ∙ old))
-          [ inl a ↦ inl a | inr b ↦ inr (0, met, refl, b) ])
-      | inr found ↦ inr (suc found.0, found.1, found.2, found.3)
-    ]

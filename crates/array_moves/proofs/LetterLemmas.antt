@@ -1,13 +1,13 @@
 -- Lemmas on machines that read and write one letter of the section at each position.
-use Rattle.std.proofs.Common.{◌≡◌, ℕ, ◌+◌, ◌<◌, ◌≤◌, List, [], ◌∷◌, ◌++◌, Contains, refl, sym, ap, subst, inl, inr, arith, IsTrue, ◌⊎◌}
+use Rattle.std.proofs.Common.{◌≡◌, ℕ, ◌+◌, ◌<◌, ◌≤◌, List, [], ◌∷◌, ◌++◌, Contains, All, length, refl, sym, ap, subst, inl, inr, arith, IsTrue, ◌⊎◌, ◌↔◌}
 use Rattle.std.proofs.lemmas.Option.{same_Some}
-use Rattle.std.proofs.lemmas.List.Elements.{Contains-append_left, Contains-append_right, Contains-append_cases}
+use Rattle.std.proofs.lemmas.List.Elements.{All-contains, All-weaker, Contains-append_left, Contains-append_right, Contains-append_cases}
 use Rattle.word_automata.specs.Path.{Node, edges_of, is_accepting}
 use Rattle.transducers.specs.declared.Label.{Label}
-use Rattle.transducers.specs.Transducer.{Transducer, Relates, RelatesFrom}
+use Rattle.transducers.specs.Transducer.{Transducer, IsEdge, Relates, RelatesFrom}
 use Rattle.transducers.specs.Combination.{exchange, copy_edges}
 use Rattle.transducers.proofs.ForCallers.{Exchanges, HasExchanges, RelatesFrom-exchanges, exchanges_from_RelatesFrom, copy_from_edge}
-use Rattle.transducers.proofs.ForCallers.{copy_edge_from_letter, Contains-single}
+use Rattle.transducers.proofs.ForCallers.{copy_edge_from_letter, Contains-single, Contains-from_place, node_from_edge}
 use Rattle.protocol_model.specs.System.{AllBelow}
 use Rattle.protocol_model.specs.Words.{raised}
 use Rattle.protocol_model.specs.Raised.{IsRaisedMove}
@@ -24,10 +24,26 @@ same_exchange a b x y offset e =
     let writes : b + offset ≡ y + offset = same_Some _ _ (ap (λ l. l.write) e) in
     (omega arith, omega arith)
 
--- each edge exchanges two letters of the section
-pub record HasLetters (offset count : ℕ) (states : List (Node Label)) : Type 0 where
-  pub each : (p : ℕ) (edge : Label × ℕ) → Contains (edges_of states p) edge → (x y : ℕ) × (x < count) × (y < count)
-      × (edge.0 ≡ exchange (x + offset) (y + offset))
+-- an edge of a machine with n states that exchanges two letters of the section
+pub record ExchangesLetters (offset count n : ℕ) (edge : Label × ℕ) : Type 0 where
+  pub old : ℕ
+  pub new : ℕ
+  pub old_in_range : old < count
+  pub new_in_range : new < count
+  pub label : edge.0 ≡ exchange (old + offset) (new + offset)
+  pub target_in_range : edge.1 < n
+
+-- every edge of the states is one
+abbrev pub HasLetters : ℕ → ℕ → List (Node Label) → Type 0
+HasLetters offset count states = All (λ node. All (ExchangesLetters offset count (length states)) node.edges) states
+
+-- the transducer of the states that begins in the first of them
+abbrev pub machine : ℕ → List (Node Label) → Transducer
+machine letters states = record { letters = letters; starts = 0 ∷ []; states = states }
+
+pub machine_is : (letters : ℕ) (starts : List ℕ) (states wanted : List (Node Label)) → starts ≡ 0 ∷ [] → states ≡ wanted
+    → machine letters wanted ≡ record { letters = letters; starts = starts; states = states }
+machine_is letters starts states wanted first same = λ i. record { letters = letters; starts = sym first i; states = sym same i }
 
 module _ (offset : ℕ) (states : List (Node Label)) where
   -- a path from the state p to an accepting state changes the first list into the second, position by position
@@ -43,85 +59,85 @@ module _ (offset : ℕ) (states : List (Node Label)) where
   exchanges_from_Changes (x ∷ s) [] p h = absurd h
   exchanges_from_Changes (x ∷ s) (y ∷ t) p h = (h.0, h.1, exchanges_from_Changes s t h.0 h.2)
 
--- two lists in range that are raised to the words, between which the machine leads
-pub record IsChanged (offset count : ℕ) (states : List (Node Label)) (p : ℕ) (u w : List ℕ) : Type 0 where
-  pub old : List ℕ
-  pub new : List ℕ
-  pub old_in_range : AllBelow count old
-  pub new_in_range : AllBelow count new
-  pub word_before : u ≡ raised offset old
-  pub word_after : w ≡ raised offset new
-  pub changes : Changes offset states p old new
-
 module _ (offset count : ℕ) (states : List (Node Label)) (letters : HasLetters offset count states) where
-  pub IsChanged-exchanges : (u w : List ℕ) (p : ℕ) → Exchanges states p u w → IsChanged offset count states p u w
-  IsChanged-exchanges [] [] p h = record {
+  letters_of : (p : ℕ) (edge : Label × ℕ) → Contains (edges_of states p) edge → ExchangesLetters offset count (length states) edge
+  letters_of p edge h =
+      let node = node_from_edge states p edge h in
+      All-contains (ExchangesLetters offset count (length states)) node.0.edges edge
+      (All-contains (λ node. All (ExchangesLetters offset count (length states)) node.edges) states node.0 letters
+      (Contains-from_place states p node.0 node.1)) node.2
+
+  -- exchanged words are two lists of the section, raised, between which the states lead
+  lists_of : (u w : List ℕ) (p : ℕ) → Exchanges states p u w → IsRaisedMove (Changes offset states p) offset count u w
+  lists_of [] [] p h = record {
     old = [];
     new = [];
     old_in_range = tt;
     new_in_range = tt;
     word_before = refl;
     word_after = refl;
-    changes = h;
+    leads = h;
   }
-  IsChanged-exchanges [] (b ∷ w) p h = absurd h
-  IsChanged-exchanges (a ∷ u) [] p h = absurd h
-  IsChanged-exchanges (a ∷ u) (b ∷ w) p h =
-      let rest = IsChanged-exchanges u w h.0 h.2 in
-      let e = letters.each p (exchange a b, h.0) h.1 in
-      let reads : a ≡ e.0 + offset = same_Some _ _ (ap (λ l. l.read) e.4) in
-      let writes : b ≡ e.1 + offset = same_Some _ _ (ap (λ l. l.write) e.4) in
+  lists_of [] (b ∷ w) p h = absurd h
+  lists_of (a ∷ u) [] p h = absurd h
+  lists_of (a ∷ u) (b ∷ w) p h =
+      let rest = lists_of u w h.0 h.2 in
+      let e = letters_of p (exchange a b, h.0) h.1 in
+      let reads : a ≡ e.old + offset = same_Some _ _ (ap (λ l. l.read) e.label) in
+      let writes : b ≡ e.new + offset = same_Some _ _ (ap (λ l. l.write) e.label) in
       record {
-        old = e.0 ∷ rest.old;
-        new = e.1 ∷ rest.new;
-        old_in_range = (e.2, rest.old_in_range);
-        new_in_range = (e.3, rest.new_in_range);
+        old = e.old ∷ rest.old;
+        new = e.new ∷ rest.new;
+        old_in_range = (e.old_in_range, rest.old_in_range);
+        new_in_range = (e.new_in_range, rest.new_in_range);
         word_before = λ i. reads i ∷ rest.word_before i;
         word_after = λ i. writes i ∷ rest.word_after i;
-        changes = (h.0, subst (λ l. Contains (edges_of states p) (l, h.0)) e.4 h.1, rest.changes);
+        leads = (h.0, subst (λ l. Contains (edges_of states p) (l, h.0)) e.label h.1, rest.leads);
       }
 
-  has_exchanges : HasExchanges states
-  has_exchanges = record { exchanges = λ p edge h. let e = letters.each p edge h in (e.0 + offset, e.1 + offset, e.4) }
-
-  -- what the machine relates from state 0, where it leads from one list to another exactly as the move does
+  -- what the machine relates, where it leads from one list to another exactly as the move does
   pub Relates-raised : (n : ℕ) (moves : List ℕ → List ℕ → Type 0) → ((s t : List ℕ) → Changes offset states 0 s t → moves s t)
-      → ((s t : List ℕ) → AllBelow count s → AllBelow count t → moves s t → Changes offset states 0 s t)
-      → (u w : List ℕ) → (Relates (record { letters = n; starts = 0 ∷ []; states = states }) u w → IsRaisedMove moves offset count u w)
-      × (IsRaisedMove moves offset count u w → Relates (record { letters = n; starts = 0 ∷ []; states = states }) u w)
-  Relates-raised n moves there back u w = (to_move, from_move)
+      → ((s t : List ℕ) → AllBelow count s → moves s t → Changes offset states 0 s t)
+      → (u w : List ℕ) → Relates (machine n states) u w ↔ IsRaisedMove moves offset count u w
+  Relates-raised n moves there back u w = (
+    λ r.
+        let run = subst (λ q. RelatesFrom (machine n states) q u w) (sym (Contains-single 0 r.start r.is_start)) r.run in
+        let each : HasExchanges states = record {
+          exchanges = λ p edge h. let e = letters_of p edge h in (e.old + offset, e.new + offset, e.label);
+        } in
+        let m = lists_of u w 0 (exchanges_from_RelatesFrom (machine n states) each u w 0 run) in
+        record {
+          old = m.old;
+          new = m.new;
+          old_in_range = m.old_in_range;
+          new_in_range = m.new_in_range;
+          word_before = m.word_before;
+          word_after = m.word_after;
+          leads = there m.old m.new m.leads;
+        },
+    λ m.
+        let run = RelatesFrom-exchanges (machine n states) (raised offset m.old) (raised offset m.new) 0
+        (exchanges_from_Changes offset states m.old m.new 0 (back m.old m.new m.old_in_range m.leads)) in
+        record {
+          start = 0;
+          is_start = (0, omega arith, refl);
+          run = subst (λ v. RelatesFrom (machine n states) 0 v w) (sym m.word_before)
+              (subst (λ v. RelatesFrom (machine n states) 0 (raised offset m.old) v) (sym m.word_after) run);
+        },
+  )
+
+  -- its edges are in range
+  pub edges_valid : (n : ℕ) → offset + count ≤ n → All (λ node. All (IsEdge n (length states)) node.edges) states
+  edges_valid n fits =
+      All-weaker (λ node. All (ExchangesLetters offset count (length states)) node.edges) (λ node. All (IsEdge n (length states)) node.edges)
+      (λ node. All-weaker (ExchangesLetters offset count (length states)) (IsEdge n (length states)) in_range node.edges) states letters
     where
-      t : Transducer
-      t = record { letters = n; starts = 0 ∷ []; states = states }
-
-      to_move : Relates (record { letters = n; starts = 0 ∷ []; states = states }) u w → IsRaisedMove moves offset count u w
-      to_move r =
-          let run = subst (λ q. RelatesFrom (record { letters = n; starts = 0 ∷ []; states = states }) q u w)
-          (sym (Contains-single 0 r.start r.is_start)) r.run in
-          let c = IsChanged-exchanges u w 0 (exchanges_from_RelatesFrom (record { letters = n; starts = 0 ∷ []; states = states })
-          has_exchanges u w 0 run) in
-          record {
-            old = c.old;
-            new = c.new;
-            old_in_range = c.old_in_range;
-            new_in_range = c.new_in_range;
-            word_before = c.word_before;
-            word_after = c.word_after;
-            leads = there c.old c.new c.changes;
-          }
-
-      from_move : IsRaisedMove moves offset count u w → Relates (record { letters = n; starts = 0 ∷ []; states = states }) u w
-      from_move m =
-          let run = RelatesFrom-exchanges (record { letters = n; starts = 0 ∷ []; states = states }) (raised offset m.old)
-          (raised offset m.new) 0 (exchanges_from_Changes offset states m.old m.new 0
-          (back m.old m.new m.old_in_range m.new_in_range m.leads)) in
-          record {
-            start = 0;
-            is_start = (0, omega arith, refl);
-            run = subst (λ v. RelatesFrom (record { letters = n; starts = 0 ∷ []; states = states }) 0 v w) (sym m.word_before)
-                (subst (λ v. RelatesFrom (record { letters = n; starts = 0 ∷ []; states = states }) 0 (raised offset m.old) v)
-                (sym m.word_after) run);
-          }
+      in_range : (edge : Label × ℕ) → ExchangesLetters offset count (length states) edge → IsEdge n (length states) edge
+      in_range edge e = subst (λ label. IsEdge n (length states) (label, edge.1)) (sym e.label) (record {
+        read_in_range = omega (arith, e.old_in_range, fits);
+        write_in_range = omega (arith, e.new_in_range, fits);
+        target_in_range = e.target_in_range;
+      })
 
 -- the lists have a common part over n letters, and then an edge of the list changes a letter
 pub record Leaves (offset : ℕ) (states : List (Node Label)) (n : ℕ) (further : List (Label × ℕ)) (s t : List ℕ) : Type 0 where

@@ -1,18 +1,16 @@
--- Lemmas on reading lists in control states: what the letters before and behind the moving position do, and what the machine of a move leads to.
-use Rattle.std.proofs.Common.{◌≡◌, ℕ, ◌<◌, ◌≤◌, Bool, true, false, ◌&&◌, ◌||◌, List, [], ◌∷◌, map, length, slice_get, slice_index, get_or}
-use Rattle.std.proofs.Common.{Option, Some, None, refl, sym, ap, ◌∙◌, inl, inr, arith, ◌⊎◌, true≢false, if◌then◌else◌, zero-add, ◌==◌}
+-- Lemmas on reading lists in control states: what the letters before and behind the moving position do.
+use Rattle.std.proofs.Common.{◌≡◌, ℕ, ◌<◌, ◌≤◌, Bool, true, false, ◌&&◌, ◌||◌, List, [], ◌∷◌, map, length, slice_get}
+use Rattle.std.proofs.Common.{Option, Some, refl, sym, ap, ◌∙◌, inl, inr, arith, ◌⊎◌, true≢false, if◌then◌else◌, zero-add, ◌==◌}
 use Rattle.std.specs.List.{list_all, list_any, range_with_len, AllByRecursion}
 use Rattle.std.proofs.lemmas.List.FromFn.{length-range_with_len, get_or-range_with_len}
-use Rattle.std.proofs.lemmas.Option.{same_Some, none-some, slice_get_within, slice_get-get_or, get_or_from_slice_get}
-use Rattle.std.proofs.lemmas.Bool.{and_from, or_cases, or_left, or_right}
+use Rattle.std.proofs.lemmas.Option.{slice_get_within, slice_get-get_or}
+use Rattle.std.proofs.lemmas.Bool.{and_from, or_cases}
 use Rattle.transducers.proofs.ForCallers.{slice_get-map_image}
 use Rattle.protocol_model.specs.System.{Guard, AllBelow}
 use Rattle.protocol_model.specs.Moves.{table_value, guard_holds}
-use Rattle.array_moves.specs.declared.guard_table.ControlState.{ControlState}
-use Rattle.array_moves.specs.declared.guard_table.GuardTable.{GuardTable}
 use Rattle.array_moves.specs.private.Flags.{flag, four_flags, no_flags, union_of, covers, permits, meets, meets_at, effect_of, asks_at}
 use Rattle.array_moves.specs.private.Flags.{required_of, reach_of}
-use Rattle.array_moves.specs.private.ControlStates.{IsGuardTable, first_control, listed, with_effect, after_letter, can_end, after_move}
+use Rattle.array_moves.specs.private.ControlStates.{listed}
 use Rattle.array_moves.proofs.GuardLemmas.{all_at, all_from_each, IsSatisfied}
 use Rattle.array_moves.proofs.GuardLemmas.{satisfied_from_holds, holds_from_satisfied, flag-four, flag-none, flag_from_covers}
 use Rattle.array_moves.proofs.GuardLemmas.{covers_from_flags, permitted_from_effect, effect_from_permitted, meets_at-there, asks_at-there}
@@ -91,7 +89,7 @@ module _ (guards : List Guard) (count : ℕ) (behind : Bool) where
         | inr reach ↦ inr reach
       ]
 
-listed-map : (count : ℕ) (g : ℕ → Option (List Bool)) (x : ℕ) → x < count → listed (map g (range_with_len 0 count)) x ≡ g x
+pub listed-map : (count : ℕ) (g : ℕ → Option (List Bool)) (x : ℕ) → x < count → listed (map g (range_with_len 0 count)) x ≡ g x
 listed-map count g x h = let at = slice_get-map_image g (range_with_len 0 count) x x (slice_get-range count x h) in rw (at, listed)
 
 -- the guards hold exactly where the lists on both sides can be read and the required guards are met then
@@ -150,73 +148,3 @@ table_value_in_range count (entry ∷ table) x h lt = by (entry.0 == x) (table_v
     by : (b : Bool) → table_value table x < count → (if b then entry.1 else table_value table x) < count
     by true rest = h.0.1
     by false rest = rest
-
-module _ (f t : ℕ) (guards : List Guard) (table : List (ℕ × ℕ)) (count : ℕ) (guard_table : GuardTable) (is_guard_table : IsGuardTable f t guards table count guard_table)
-  where
-    pub image_is : (x : ℕ) → x < count → slice_index guard_table.images.items x ≡ table_value table x
-    image_is x h =
-        let at = slice_get-map_image (table_value table) (range_with_len 0 count) x x (slice_get-range count x h) in
-        ap (λ l. get_or l x 0) is_guard_table.images_are ∙ get_or_from_slice_get (map (table_value table) (range_with_len 0 count)) x
-        (table_value table x) 0 at
-
-    effect_is : (moved : Bool) (x : ℕ) → x < count → listed (if moved then guard_table.behind.items else guard_table.before.items) x ≡ effect_of guards
-        moved x
-    effect_is true x h = ap (λ l. listed l x) is_guard_table.behind_is ∙ listed-map count (effect_of guards true) x h
-    effect_is false x h = ap (λ l. listed l x) is_guard_table.before_is ∙ listed-map count (effect_of guards false) x h
-
-    -- the control state after a letter, by its effect
-    pub effect_from_after : (moved : Bool) (met : List Bool) (x : ℕ) (q : ControlState) → x < count
-        → after_letter guard_table (record { moved = moved; met = met }) x ≡ Some q
-        → (e : List Bool) × (effect_of guards moved x ≡ Some e) × (q ≡ record { moved = moved; met = union_of met e })
-    effect_from_after moved met x q h after =
-        by (effect_of guards moved x) refl (ap (with_effect (record { moved = moved; met = met })) (sym (effect_is moved x h)) ∙ after)
-      where
-        by : (o : Option (List Bool)) → effect_of guards moved x ≡ o → with_effect (record { moved = moved; met = met }) o ≡ Some q
-            → (e : List Bool) × (effect_of guards moved x ≡ Some e) × (q ≡ record { moved = moved; met = union_of met e })
-        by None is e = absurd (none-some q e)
-        by (Some met') is e = (met', is, sym (same_Some _ _ e))
-
-    pub after_from_effect : (moved : Bool) (met e : List Bool) (x : ℕ) → x < count → effect_of guards moved x ≡ Some e
-        → after_letter guard_table (record { moved = moved; met = met }) x ≡ Some (record { moved = moved; met = union_of met e })
-    after_from_effect moved met e x h is = ap (with_effect (record { moved = moved; met = met })) (effect_is moved x h ∙ is)
-
-    -- the control state behind the move
-    pub control_from_move : (met : List Bool) (q : ControlState) → after_move guard_table (record { moved = false; met = met }) ≡ Some q
-        → q ≡ record { moved = true; met = met }
-    control_from_move met q h = by (can_end guard_table (record { moved = true; met = met })) h
-      where
-        by : (b : Bool) → (if b then Some (let p : ControlState = record { moved = true; met = met } in p) else None) ≡ Some q
-            → q ≡ record { moved = true; met = met }
-        by true e = sym (same_Some _ _ e)
-        by false e = absurd (none-some q e)
-
-    pub move_from_end : (met : List Bool) → can_end guard_table (record { moved = true; met = met }) ≡ true
-        → after_move guard_table (record { moved = false; met = met }) ≡ Some (record { moved = true; met = met })
-    move_from_end met h = ap (λ b. if b then Some (let p : ControlState = record { moved = true; met = met } in p) else None) h
-
-    -- a control state from which a list can be read to the end can end
-    pub can_end-behind : (met last : List Bool) (s : List ℕ) → ReadsLetters guards count true met s last → covers last guard_table.required ≡ true
-        → can_end guard_table (record { moved = true; met = met }) ≡ true
-    can_end-behind met last s reads covered =
-        covers_from_flags (union_of met guard_table.reach_behind) guard_table.required (λ k lt set.
-        flag-four (λ j. flag met j || flag guard_table.reach_behind j) k lt
-        ∙ elim (reach-ReadsLetters guards count true s met last k lt reads (flag_from_covers last guard_table.required covered k lt set)) [
-          | inl before ↦ or_left (flag met k) (flag guard_table.reach_behind k) before
-          | inr reach ↦ or_right (flag met k) (flag guard_table.reach_behind k) (ap (λ r. flag r k) is_guard_table.reach_behind_is ∙ reach)
-        ])
-
-    pub can_end-first : (middle last : List Bool) (s s' : List ℕ) → ReadsLetters guards count false no_flags s middle
-        → ReadsLetters guards count true middle s' last → covers last guard_table.required ≡ true → can_end guard_table first_control ≡ true
-    can_end-first middle last s s' first second covered =
-        covers_from_flags (union_of (union_of no_flags guard_table.reach_before) guard_table.reach_behind) guard_table.required (λ k lt set.
-        flag-four (λ j. flag (union_of no_flags guard_table.reach_before) j || flag guard_table.reach_behind j) k lt
-        ∙ elim (reach-ReadsLetters guards count true s' middle last k lt second (flag_from_covers last guard_table.required covered k lt set)) [
-          | inl earlier ↦ or_left (flag (union_of no_flags guard_table.reach_before) k) (flag guard_table.reach_behind k)
-              (flag-four (λ j. flag no_flags j || flag guard_table.reach_before j) k lt
-              ∙ elim (reach-ReadsLetters guards count false s no_flags middle k lt first earlier) [
-                | inl none ↦ absurd (true≢false (sym none ∙ flag-none k))
-                | inr reach ↦ or_right (flag no_flags k) (flag guard_table.reach_before k) (ap (λ r. flag r k) is_guard_table.reach_before_is ∙ reach)
-              ])
-          | inr reach ↦ or_right (flag (union_of no_flags guard_table.reach_before) k) (flag guard_table.reach_behind k)
-              (ap (λ r. flag r k) is_guard_table.reach_behind_is ∙ reach)
-        ])

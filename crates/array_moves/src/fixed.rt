@@ -1,12 +1,12 @@
 //! The moves that change two positions.
 //! Each machine has three or four states, which copy the other positions.
 
-ghost use Rattle.std.specs.Prelude.{◌≡◌, ◌↔◌, ◌≤◌, ◌<◌, ◌+◌, ◌^◌, ◌++◌, ◌∷◌, List, [], ℕ, IfOk, OnOk};
+ghost use Rattle.std.specs.Prelude.{◌≡◌, ◌↔◌, ◌≤◌, ◌<◌, ◌+◌, ◌^◌, ◌∷◌, List, [], ℕ, IfOk, map};
 ghost use Rattle.protocol_model.specs.System.{AllBelow, IsValidMove};
 ghost use Rattle.protocol_model.specs.Moves.{IsMove};
 ghost use Rattle.transducers.specs.Transducer.{Relates};
 ghost use Rattle.protocol_model.specs.Raised.{IsRaisedMove};
-ghost use Rattle.array_moves.specs.private.Fixed.{exchange_edge, copying_node, pair_states, ring_states, two_states, fixed_states, ChangesTwoPositions};
+ghost use Rattle.array_moves.specs.private.Fixed.{exchange_edge, copying_state, pair_states, ring_states, two_states, fixed_states, ChangesTwoPositions};
 
 use protocol_model::{Move, SectionLetters};
 use std::alloc::{AllocError, Global};
@@ -63,14 +63,17 @@ fn pair_states(
     requires fits { alphabet.offset + alphabet.count < 2 ^ 32 }
     ensures { IfOk result (λ states. states.items ≡ pair_states a b c d alphabet.offset alphabet.count) }
 {
-    let SectionLetters { offset, count, .. } = alphabet;
-    let left = [edge(offset, a, c, 1)];
-    let right = [edge(offset, b, d, 2)];
-    let mut states = Vec::with_capacity(alloc, 3)?;
-    push_state(alloc, &mut states, false, offset, count, 0, &left)?;
-    push_state(alloc, &mut states, false, offset, 0, 1, &right)?;
-    push_state(alloc, &mut states, true, offset, count, 2, &[])?;
-    Ok(states)
+    let left = [edge(alphabet.offset, a, c, 1)];
+    let right = [edge(alphabet.offset, b, d, 2)];
+    copying_states(
+        alloc,
+        alphabet,
+        &[
+            (0, true, left.as_slice()),
+            (1, false, right.as_slice()),
+            (2, true, &[]),
+        ],
+    )
 }
 
 /// Before the first position, after it, and after the last one.
@@ -86,14 +89,17 @@ fn ring_states(
     requires fits { alphabet.offset + alphabet.count < 2 ^ 32 }
     ensures { IfOk result (λ states. states.items ≡ ring_states a b c d alphabet.offset alphabet.count) }
 {
-    let SectionLetters { offset, count, .. } = alphabet;
-    let first = [edge(offset, b, d, 1)];
-    let last = [edge(offset, a, c, 2)];
-    let mut states = Vec::with_capacity(alloc, 3)?;
-    push_state(alloc, &mut states, false, offset, 0, 0, &first)?;
-    push_state(alloc, &mut states, false, offset, count, 1, &last)?;
-    push_state(alloc, &mut states, true, offset, 0, 2, &[])?;
-    Ok(states)
+    let first = [edge(alphabet.offset, b, d, 1)];
+    let last = [edge(alphabet.offset, a, c, 2)];
+    copying_states(
+        alloc,
+        alphabet,
+        &[
+            (0, false, first.as_slice()),
+            (1, true, last.as_slice()),
+            (2, false, &[]),
+        ],
+    )
 }
 
 /// No position has changed, that of `a` has, that of `b` has, and both have.
@@ -109,16 +115,22 @@ fn two_states(
     requires fits { alphabet.offset + alphabet.count < 2 ^ 32 }
     ensures { IfOk result (λ states. states.items ≡ two_states a b c d alphabet.offset alphabet.count) }
 {
-    let SectionLetters { offset, count, .. } = alphabet;
-    let either = [edge(offset, a, c, 1), edge(offset, b, d, 2)];
-    let second = [edge(offset, b, d, 3)];
-    let first = [edge(offset, a, c, 3)];
-    let mut states = Vec::with_capacity(alloc, 4)?;
-    push_state(alloc, &mut states, false, offset, count, 0, &either)?;
-    push_state(alloc, &mut states, false, offset, count, 1, &second)?;
-    push_state(alloc, &mut states, false, offset, count, 2, &first)?;
-    push_state(alloc, &mut states, true, offset, count, 3, &[])?;
-    Ok(states)
+    let either = [
+        edge(alphabet.offset, a, c, 1),
+        edge(alphabet.offset, b, d, 2),
+    ];
+    let second = [edge(alphabet.offset, b, d, 3)];
+    let first = [edge(alphabet.offset, a, c, 3)];
+    copying_states(
+        alloc,
+        alphabet,
+        &[
+            (0, true, either.as_slice()),
+            (1, true, second.as_slice()),
+            (2, true, first.as_slice()),
+            (3, true, &[]),
+        ],
+    )
 }
 
 /// The edge to the state `to` on which the letter `from` becomes `into`.
@@ -130,21 +142,37 @@ fn edge(offset: u32, from: u32, into: u32, to: usize) -> (Label, usize)
     (Label::exchange(from + offset, into + offset), to)
 }
 
-/// Appends a state that copies each of the `count` letters from `offset` on, which leads to the state `to`, and has further edges.
-fn push_state(
+/// States, each of which copies the letters of the section and stays, or copies none, and has further edges. One without further edges
+/// accepts.
+fn copying_states(
     alloc: Global,
-    states: &mut Vec<State>,
-    accepting: bool,
-    offset: u32,
-    count: u32,
-    to: usize,
-    further: &[(Label, usize)],
-) -> Result<(), AllocError>
-    requires { offset + count < 2 ^ 32 }
-    ensures { OnOk result (states.new.items ≡ states.old.items ++ copying_node accepting offset count to further.now ∷ []) }
+    alphabet: SectionLetters,
+    parts: &[(usize, bool, &[(Label, usize)])],
+) -> Result<Vec<State>, AllocError>
+    requires { alphabet.offset + alphabet.count < 2 ^ 32 }
+    ensures { IfOk result (λ states. states.items ≡ map (λ part. copying_state alphabet.offset alphabet.count part.0 part.1 part.2.now) parts.now) }
 {
-    let mut edges = copy_edges(alloc, offset, count, to)?;
+    let mut states = Vec::with_capacity(alloc, parts.len())?;
+    'parts: for part in parts {
+        let state = copying_state(alloc, alphabet, part.0, part.1, part.2)?;
+        states.push(state)?;
+    }
+    Ok(states)
+}
+
+/// The state of this number that copies the letters and stays, or copies none, and has further edges. Without further edges it accepts.
+fn copying_state(
+    alloc: Global,
+    alphabet: SectionLetters,
+    number: usize,
+    copies: bool,
+    further: &[(Label, usize)],
+) -> Result<State, AllocError>
+    requires { alphabet.offset + alphabet.count < 2 ^ 32 }
+    ensures { IfOk result (λ state. state ≡ copying_state alphabet.offset alphabet.count number copies further.now) }
+{
+    let count = if copies { alphabet.count } else { 0 };
+    let mut edges = copy_edges(alloc, alphabet.offset, count, number)?;
     edges.extend_from_slice(further)?;
-    states.push(State::new(accepting, edges))?;
-    Ok(())
+    Ok(State::new(further.is_empty(), edges))
 }

@@ -257,7 +257,7 @@ fn widened(flags: [bool; 4], effect: Option<[bool; 4]>) -> [bool; 4]
 fn union(a: [bool; 4], b: [bool; 4]) -> [bool; 4]
     ensures { result ≡ union_of a b }
 {
-    [a[0] || b[0], a[1] || b[1], a[2] || b[2], a[3] || b[3]]
+    [a[0] | b[0], a[1] | b[1], a[2] | b[2], a[3] | b[3]]
 }
 
 /// Whether the first flags have all of the second.
@@ -265,9 +265,9 @@ fn covers(a: [bool; 4], b: [bool; 4]) -> bool
     ensures { result ≡ covers a b }
 {
     covers_one(a[0], b[0])
-        && covers_one(a[1], b[1])
-        && covers_one(a[2], b[2])
-        && covers_one(a[3], b[3])
+        & covers_one(a[1], b[1])
+        & covers_one(a[2], b[2])
+        & covers_one(a[3], b[3])
 }
 
 /// Whether the first flag is set if the second one is.

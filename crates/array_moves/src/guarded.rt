@@ -1,7 +1,7 @@
 //! The move of one position, with guards on the other positions and a table for them.
 //! The control states that can be reached are found by a worklist, and one from which the guards cannot be met any more is no state.
 
-ghost use Rattle.std.specs.Prelude.{◌≡◌, ◌↔◌, ◌≤◌, ◌<◌, ◌+◌, ◌^◌, List, ℕ, Some, IfOk, length, slice_get};
+ghost use Rattle.std.specs.Prelude.{◌≡◌, ◌↔◌, ◌≤◌, ◌<◌, ◌+◌, ◌^◌, List, [], ℕ, Some, IfOk, OnOk, length, slice_get};
 ghost use Rattle.indexmap.specs.IndexSet.{index_set_len};
 ghost use Rattle.protocol_syntax.specs.declared.protocol.Move.TheVariants.{At};
 ghost use Rattle.protocol_model.specs.System.{IsValidMove};
@@ -60,24 +60,40 @@ fn states(
     ensures { IfOk result (λ states. (controls : List ControlState)
         × IsMachine guard_table.now alphabet.offset alphabet.count controls states.items) }
 {
-    let mut controls = first_controls(alloc, guard_table)?;
+    let mut controls = IndexSet::new(alloc);
+    reached_states(alloc, guard_table, &mut controls, alphabet)
+}
+
+/// The same, which also numbers the control states.
+fn reached_states(
+    alloc: Global,
+    guard_table: &GuardTable,
+    controls: &mut IndexSet<ControlState>,
+    alphabet: SectionLetters,
+) -> Result<Vec<State>, AllocError>
+    requires room { HasRoom alphabet.offset alphabet.count guard_table.now }
+    requires none { controls.old.keys ≡ [] }
+    ensures { IfOk result (λ states. (controls : List ControlState)
+        × IsMachine guard_table.now alphabet.offset alphabet.count controls states.items) }
+{
+    number_first(guard_table, controls)?;
     let mut states = Vec::new(alloc);
     'controls: while states.len() < controls.len() {
-        let control = control_at(&controls, states.len());
-        let edges = control_edges(alloc, guard_table, &mut controls, control, alphabet)?;
+        let control = control_at(controls, states.len());
+        let edges = control_edges(alloc, guard_table, controls, control, alphabet)?;
         states.push(State::new(guard_table.is_final(control), edges))?;
     }
     Ok(states)
 }
 
-/// The first control state, where the guards can be met from there.
-fn first_controls(
-    alloc: Global,
+/// Numbers the first control state, where the guards can be met from there.
+fn number_first(
     guard_table: &GuardTable,
-) -> Result<IndexSet<ControlState>, AllocError>
-    ensures { IfOk result (λ controls. HasFirst guard_table.now controls.keys) }
+    controls: &mut IndexSet<ControlState>,
+) -> Result<(), AllocError>
+    requires { controls.old.keys ≡ [] }
+    ensures { OnOk result (HasFirst guard_table.now controls.new.keys) }
 {
-    let mut controls = IndexSet::new(alloc);
     let first = ControlState {
         moved: false,
         met: [false; 4],
@@ -85,7 +101,7 @@ fn first_controls(
     if guard_table.can_end(first) {
         controls.insert(first)?;
     }
-    Ok(controls)
+    Ok(())
 }
 
 /// The edges that leave the control state. The control states to which they lead are numbered.

@@ -2,11 +2,11 @@ use Rattle.std.proofs.Common.{◌≡◌, length, arith, ◌∷◌, [], ◌++◌,
 use Rattle.word_automata.specs.Path.{Node}
 use Rattle.transducers.specs.declared.Label.{Label}
 use Rattle.array_moves.proofs.ControlLemmas.{IsGrowing, IsGrowing-start, IsGrowing-more, IsMachine-end}
-use Rattle.array_moves.proofs.guarded.states.Goals as goal
+use Rattle.array_moves.proofs.guarded.reached_states.Goals as goal
 
 pub controls-init : goal.controls-init
 controls-init c = rw c.new-states.ensures.items (IsGrowing-start c.args.guard_table.now c.args.alphabet.offset c.args.alphabet.count _
-    c.in_ok-controls.ensures)
+    c.in_ok-number_first.ensures)
 
 pub controls-preserved : goal.controls-preserved
 controls-preserved c =
