@@ -1,8 +1,10 @@
 -- The law of all grammars: a line says at most one thing; and what follows for the parts.
-use Rattle.std.proofs.Common.{◌≡◌, ℕ, List, ◌∷◌, ◌++◌, refl, sym, subst, ap, ◌∙◌, inl, inr}
+use Rattle.std.proofs.Common.{◌≡◌, ℕ, List, Option, Some, None, ◌∷◌, ◌++◌, refl, sym, subst, ap, ◌∙◌, inl, inr}
+use Rattle.std.specs.Option.{option_zip}
 use Rattle.std.proofs.lemmas.List.{append_cancel_left}
 use Rattle.lines.specs.Bytes.{IsCutAt, Lacks}
 use Rattle.lines.specs.Grammar.{Line, none, gives, number, valued, case, just, cut, fields, otherwise, means, Says}
+use Rattle.lines.specs.Reading.{IsReading}
 use Rattle.lines.proofs.FieldLists.{fields_one}
 pub use Rattle.lines.proofs.FieldLists.{cut_one}
 
@@ -47,3 +49,13 @@ module _ {A B : Type 0} (c : ℕ) (x : Line A) (y : Line B) (bytes front back : 
 
   pub second_not : ((b : B) → Says y back b → ⊥) → (p : A × B) → Says (cut c x y) bytes p → ⊥
   second_not not p h = not p.1 (subst (λ f. Says y f p.1) (cut_one c bytes h.0 front h.1 back h.2 at).1 h.4)
+
+  both_read : (a : Option A) (b : Option B) → IsReading x front a → IsReading y back b → IsReading (cut c x y) bytes (option_zip a b)
+  both_read None b h k = first_not h
+  both_read (Some a) None h k = second_not k
+  both_read (Some a) (Some b) h k = (front, back, at, h, k)
+
+  -- what both parts were read as is what the line was read as
+  pub cut_read : (a : Option A) (b : Option B) (found : Option (A × B)) → found ≡ option_zip a b → IsReading x front a → IsReading y back b
+      → IsReading (cut c x y) bytes found
+  cut_read a b found e h k = subst (IsReading (cut c x y) bytes) (sym e) (both_read a b h k)

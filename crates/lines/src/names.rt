@@ -1,7 +1,7 @@
 //! Names by their places.
 //! What is looked for among the names is looked at as a name only where it is not there.
 
-ghost use Rattle.std.specs.Prelude.{◌≡◌, ℕ, List, IfOk, length, position};
+ghost use Rattle.std.specs.Prelude.{◌≡◌, ℕ, List, IfOk, Some, length, position};
 ghost use Rattle.std.specs.Str.{bytes_eq};
 ghost use Rattle.lines.specs.Grammar.{numbered};
 
@@ -32,23 +32,21 @@ impl<N: Names, X: Form> Form for Numbered<N, X> {
 
     fn read(&self, alloc: Global, bytes: &[u8]) -> Result<Option<u32>, AllocError> {
         if let Some(place) = self.0.place_of(bytes) {
-            let number = number_of(place)?;
-            return Ok(Some(number));
+            return number_of(place);
         }
-        let found = self.1.read(alloc, bytes)?;
-        match found {
-            Some(_) => {
-                let number = number_of(self.0.count())?;
-                Ok(Some(number))
-            }
+        match self.1.read(alloc, bytes)? {
+            Some(_) => number_of(self.0.count()),
             None => Ok(None),
         }
     }
 }
 
 /// The same number, which takes no more than 32 bits where the names fit into memory.
-fn number_of(place: usize) -> Result<u32, AllocError>
-    ensures { IfOk result (λ number. number ≡ place) }
+fn number_of(place: usize) -> Result<Option<u32>, AllocError>
+    ensures { IfOk result (λ number. number ≡ Some place) }
 {
-    u32::try_from(place).map_err(|_| AllocError)
+    match u32::try_from(place) {
+        Ok(number) => Ok(Some(number)),
+        Err(_) => Err(AllocError),
+    }
 }

@@ -47,7 +47,7 @@ impl<'a, A: Copy, X: Form<Meaning = A>> Form for Just<'a, A, X> {
 }
 
 /// Just these bytes, which mean no values; other bytes are a line of the form.
-#[derive(Clone, Copy)]
+#[derive(Drop)]
 pub struct OrEmpty<'a, X>(pub &'a [u8], pub X);
 
 impl<'a, T: Drop, X: Form<Meaning = Sequence<T>>> Form for OrEmpty<'a, X> {
@@ -78,8 +78,14 @@ impl<A: Drop> Form for NoLine<A> {
 }
 
 /// The one form before the first separator, and the other after it.
-#[derive(Clone, Copy)]
+#[derive(Copy)]
 pub struct Cut<X, Y>(pub u8, pub X, pub Y);
+
+impl<X: Copy, Y: Copy> Clone for Cut<X, Y> {
+    fn clone(&self) -> Result<Self, AllocError> {
+        Ok(*self)
+    }
+}
 
 impl<X: Form, Y: Form> Form for Cut<X, Y> {
     type Meaning = (X::Meaning, Y::Meaning);
@@ -95,14 +101,8 @@ impl<X: Form, Y: Form> Form for Cut<X, Y> {
             return Ok(None);
         };
         let first = self.1.read(alloc, front)?;
-        let Some(first) = first else {
-            return Ok(None);
-        };
         let second = self.2.read(alloc, back)?;
-        match second {
-            Some(second) => Ok(Some((first, second))),
-            None => Ok(None),
-        }
+        Ok(first.zip(second))
     }
 }
 
