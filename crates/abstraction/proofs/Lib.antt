@@ -6,5 +6,6 @@ pub mod FactCodes
 pub mod FactLemmas
 pub mod Firsts
 pub mod ForCallers
+pub mod KnownClassLemmas
 pub mod ListMembers
 pub mod MergedWords

@@ -4,6 +4,7 @@ pub mod Bounds
 pub mod ClassAutomata
 pub mod Excluding
 pub mod FirstStates
+pub mod KnownClasses
 pub mod Merging
 pub mod Partitions
 pub mod Signatures

@@ -4,6 +4,7 @@
 ghost use Rattle.std.specs.Prelude.{◌≡◌, ℕ, List, [], ◌∷◌, ◌++◌, IfOk, OnOk, OnErr, length};
 ghost use Rattle.word_automata.specs.Automaton.{Automaton};
 ghost use Rattle.abstraction.specs.Merging.{Key, IsOver, IsEquivalence, AreClasses};
+ghost use Rattle.abstraction.specs.KnownClasses.{AreClassesBefore};
 ghost use Rattle.abstraction.specs.Excluding.{refined_by, Excludes};
 
 use minimise::Canon;
@@ -39,6 +40,21 @@ pub trait Refinable: Abstraction {
         ensures ok { OnOk result (Self.key self.new ≡ next (Self.key self.old) refuted.now) }
         ensures value { OnOk result (self.new ≡ after self.old refuted.now) }
         ensures err { OnErr result (self.new ≡ self.old) };
+
+    /// What `classes` gives, where the classes `before` of the automaton under the key before the last refinement are known.
+    fn classes_after(
+        &self,
+        alloc: Global,
+        a: &Canon,
+        before: &[usize],
+    ) -> Result<Vec<usize>, AllocError>
+        requires letters { IsOver a.now.letters (Self.key self.now) }
+        requires before { AreClassesBefore Self.related next (Self.key self.now) a.now before.now }
+        ensures { IfOk result (λ classes. AreClasses (Self.related (Self.key self.now) a.now) (length a.now.states) classes.items) }
+    {
+        let _before = before;
+        self.classes(alloc, a)
+    }
 
     // What the next key relates, the key relates too.
     ghost finer: { (k : Key) (x a : Automaton) (p q : ℕ) → Self.related (next k x) a p q → Self.related k a p q };

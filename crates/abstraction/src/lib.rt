@@ -12,5 +12,5 @@ mod partition;
 pub use abstractions::{Abstraction, Excluding, Refinable};
 pub use class_numbers::{are_single, first_states};
 pub use laws::one_merged_language;
-pub use merging::{merge, merge_related};
+pub use merging::{Merged, merge, merge_after, merge_related};
 pub use partition::Partition;
