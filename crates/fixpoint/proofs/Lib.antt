@@ -4,3 +4,4 @@ pub mod Growth
 pub mod IndexLemmas
 pub mod KnownLemmas
 pub mod LastLemmas
+pub mod MergedLemmas

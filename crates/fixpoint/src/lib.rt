@@ -9,7 +9,7 @@ mod laws;
 mod outcome;
 mod rounds;
 
-pub use known::no_round;
+pub use known::{KnownRound, no_round};
 pub use laws::rounds_are_bounded;
 pub use outcome::RoundOutcome;
 pub use rounds::round;
