@@ -1,12 +1,11 @@
 -- The names of letters: no two are the same, what they lack, and that each is found by its own.
-use Rattle.std.proofs.Common.{◌≡◌, ◌≢◌, ℕ, suc, false, true, ◌+◌, ◌<◌, List, [], ◌∷◌, ◌++◌, Some, Vec, AllPairs, length, slice_get, get_or, unwrap_or, option_map, codes, flat_map, refl, sym, ap, subst, ◌∙◌, arith, inl, inr, ◌⊎◌}
+use Rattle.std.proofs.Common.{◌≡◌, ◌≢◌, ℕ, suc, false, true, ◌+◌, ◌<◌, List, [], ◌∷◌, ◌++◌, Some, AllPairs, length, get_or, codes, flat_map, refl, sym, ap, subst, ◌∙◌, arith, inl, inr, ◌⊎◌}
 use Rattle.std.specs.List.{AllByRecursion, position}
 use Rattle.std.specs.Str.{bytes_eq}
 use Rattle.std.specs.Cmp.Lexicographic.{bytes_decides}
-use Rattle.std.proofs.lemmas.List.{append_assoc, append_cancel_left, length-append, length-map}
+use Rattle.std.proofs.lemmas.List.{append_assoc, append_cancel_left, get_or_read, length-append, length-map}
 use Rattle.std.proofs.lemmas.List.Elements.{All-from_recursion, recursion_from_All}
 use Rattle.std.proofs.lemmas.List.Sums.{sum_by-cons}
-use Rattle.std.proofs.lemmas.Option.{unwrap_or-slice_get, slice_get-map}
 use Rattle.protocol_lexer.specs.Piece.{is_word_byte}
 use Rattle.protocol_model.specs.declared.system.Section.{Section}
 use Rattle.protocol_model.specs.System.{SystemData, letter_count, total_letters, IsValid, IsValidSection}
@@ -16,9 +15,9 @@ use Rattle.lines.specs.Bytes.{Lacks}
 use Rattle.lines.specs.Grammar.{Says}
 use Rattle.sequence.proofs.ForCallers.{cut_unique, no_cut, Lacks-append}
 use Rattle.certificate.specs.Words.{section_texts, letter_texts, letter_text, letter, letter_layout}
-use Rattle.certificate.specs.private.Alphabet.{lists_of, IsAlphabetOf}
+use Rattle.certificate.specs.private.Alphabet.{IsAlphabetOf}
 use Rattle.certificate.proofs.ListFacts.{AllByRecursion-append, AllByRecursion-mapped, AllByRecursion-weaker, AllPairs-append, AllPairs-mapped, AllPairs-tail}
-use Rattle.certificate.proofs.Places.{name_lacks, numbered_says, place_of_name, position_mapped}
+use Rattle.certificate.proofs.Places.{name_lacks, numbered_says, place_of_name}
 
 -- the names of the first section's letters come first
 letter_texts-cons : (section : Section) (sections : List Section)
@@ -130,27 +129,19 @@ module _ (s : SystemData) (valid : IsValid s) where
       (within_texts a within)
 
 -- there are as many texts as letters
-pub letters_counted : {X : Type 0} (s : SystemData) (texts : List (Vec ℕ X)) → lists_of texts ≡ letter_texts s.sections → length texts
-    ≡ automata_letters s
-letters_counted s texts e = sym (length-map texts (λ text. text.items)) ∙ ap length e ∙ length-letter_texts s.sections
+pub letters_counted : (s : SystemData) (texts : List (List ℕ)) → texts ≡ letter_texts s.sections → length texts ≡ automata_letters s
+letters_counted s texts e = ap length e ∙ length-letter_texts s.sections
 
 -- the text at a letter's number
-pub letter_text-at : {X : Type 0} (s : SystemData) (texts : List (Vec ℕ X)) → lists_of texts ≡ letter_texts s.sections
-    → (a : ℕ) (text : Vec ℕ X) → slice_get texts a ≡ Some text → text.items ≡ letter_text s.sections a
-letter_text-at s texts e a text at =
-    sym (sym (unwrap_or-slice_get (lists_of texts) a [])
-    ∙ ap (λ o. unwrap_or o []) (slice_get-map (λ text. text.items) texts a ∙ ap (option_map (λ text. text.items)) at))
-    ∙ ap (λ all. get_or all a []) e
+pub letter_text-at : (s : SystemData) (texts : List (List ℕ)) → texts ≡ letter_texts s.sections → (a : ℕ) (text : List ℕ)
+    → a < length texts → text ≡ get_or texts a text → text ≡ letter_text s.sections a
+letter_text-at s texts e a text within at = get_or_read texts a text within at [] ∙ ap (λ all. get_or all a []) e
 
--- a letter whose text stands at a place is found there, or by a search of all texts
-module _ {X : Type 0} (s : SystemData) (texts : List (Vec ℕ X)) (h : IsAlphabetOf s texts) (bytes : List ℕ) where
-  pub letter-found : (a : ℕ) (text : Vec ℕ X) → a < length texts → slice_get texts a ≡ Some text → bytes_eq bytes text.items ≡ true
-      → Some a ≡ position (bytes_eq bytes) (letter_texts s.sections)
-  letter-found a text within at same =
-      let is : bytes ≡ letter_text s.sections a = (bytes_decides bytes text.items).0 same ∙ letter_text-at s texts h.texts_are a text at in
-      sym (ap (λ name. position (bytes_eq name) (letter_texts s.sections)) is
-      ∙ place_of_name (letter_texts s.sections) (letter_texts_distinct s h.valid) a
-      (within_texts s h.valid a (omega (arith, within, letters_counted s texts h.texts_are))))
-
-  pub letter-searched : position (λ (text : Vec ℕ X). bytes_eq bytes text.items) texts ≡ position (bytes_eq bytes) (letter_texts s.sections)
-  letter-searched = position_mapped (bytes_eq bytes) (λ text. text.items) texts ∙ ap (position (bytes_eq bytes)) h.texts_are
+-- a letter whose text stands at a place is found there
+pub letter-found : (s : SystemData) (texts : List (List ℕ)) → IsAlphabetOf s texts → (bytes : List ℕ) (a : ℕ) (text : List ℕ)
+    → a < length texts → text ≡ get_or texts a text → bytes_eq bytes text ≡ true → Some a ≡ position (bytes_eq bytes) (letter_texts s.sections)
+letter-found s texts h bytes a text within at same =
+    let is : bytes ≡ letter_text s.sections a = (bytes_decides bytes text).0 same ∙ letter_text-at s texts h.texts_are a text within at in
+    sym (ap (λ name. position (bytes_eq name) (letter_texts s.sections)) is
+    ∙ place_of_name (letter_texts s.sections) (letter_texts_distinct s h.valid) a
+    (within_texts s h.valid a (omega (arith, within, letters_counted s texts h.texts_are))))

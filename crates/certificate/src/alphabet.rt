@@ -7,10 +7,10 @@ ghost use Rattle.std.specs.Str.{bytes_eq};
 ghost use Rattle.protocol_model.specs.System.{IsValid};
 ghost use Rattle.protocol_model.specs.Words.{automata_letters};
 ghost use Rattle.certificate.specs.Words.{letter_text, letter_texts, section_texts};
-ghost use Rattle.certificate.specs.private.Alphabet.{lists_of};
 
-use crate::words::is;
-use protocol_model::{Rule, Section, System};
+use crate::words::{is, place_among};
+use protocol_model::{Section, System};
+use sequence::Text;
 use std::alloc::{AllocError, Global};
 use std::collections::HashMap;
 use std::marker::Model;
@@ -20,7 +20,7 @@ use std::marker::Model;
 #[derive(Drop)]
 pub struct Alphabet<'a> {
     system: &'a System,
-    texts: Vec<Vec<u8>>,
+    texts: Vec<Text>,
     places: HashMap<Vec<u8>, usize>,
 }
 
@@ -57,22 +57,6 @@ impl<'a> Alphabet<'a> {
         self.system
     }
 
-    /// The sections of the system.
-    pub(crate) fn sections(&self) -> &[Section]
-        ensures { result.now ≡ self.now.sections }
-    {
-        let system = self.system;
-        system.sections.as_slice()
-    }
-
-    /// The rules of the system.
-    pub(crate) fn rules(&self) -> &[Rule]
-        ensures { result.now ≡ self.now.rules }
-    {
-        let system = self.system;
-        system.rules.as_slice()
-    }
-
     /// The number of letters.
     pub fn size(&self) -> u32
         ensures count { result ≡ automata_letters self.now }
@@ -86,8 +70,8 @@ impl<'a> Alphabet<'a> {
         requires { letter < automata_letters self.now }
         ensures { result.now ≡ letter_text self.now.sections letter }
     {
-        let text: &Vec<u8> = &self.texts[letter as usize];
-        text.as_slice()
+        let text: &Text = &self.texts[letter as usize];
+        text.as_str().as_bytes()
     }
 
     /// The number of the letter with this text, if there is one.
@@ -95,41 +79,30 @@ impl<'a> Alphabet<'a> {
         ensures { result ≡ position (bytes_eq text.now) (letter_texts self.now.sections) }
     {
         if let Some(place) = self.places.get(text).copied() {
-            if place < self.texts.len() && is(text, self.texts[place].as_slice()) {
+            if place < self.texts.len() && is(text, self.texts[place].as_str().as_bytes()) {
                 return Some(place);
             }
         }
-        place_in(self.texts.as_slice(), text)
+        place_among(self.texts.as_slice(), text)
     }
 }
 
-/// The place of the first of these texts with the bytes, if there is one.
-fn place_in(texts: &[Vec<u8>], bytes: &[u8]) -> Option<usize>
-    ensures { result ≡ position (λ text. bytes_eq bytes.now text.items) texts.now }
-{
-    texts.iter().position(|text| is(bytes, text.as_slice()))
-}
-
 /// The texts of all letters, in the order of their numbers.
-fn letter_texts(alloc: Global, system: &System) -> Result<Vec<Vec<u8>>, AllocError>
-    ensures texts { IfOk result (λ texts. lists_of texts.items ≡ letter_texts system.now.sections) }
+fn letter_texts(alloc: Global, system: &System) -> Result<Vec<Text>, AllocError>
+    ensures texts { IfOk result (λ texts. texts.items ≡ letter_texts system.now.sections) }
     ensures valid { IsValid system.now }
 {
     let mut texts = Vec::new(alloc);
     'sections: for section in system.sections.as_slice() {
         push_section(alloc, &mut texts, section)?;
     }
-    texts.push(Vec::from_slice(alloc, b"|")?)?;
+    texts.push(Text::from_string(String::from_str(alloc, "|")?))?;
     Ok(texts)
 }
 
 /// Adds the texts of the section's letters.
-fn push_section(
-    alloc: Global,
-    texts: &mut Vec<Vec<u8>>,
-    section: &Section,
-) -> Result<(), AllocError>
-    ensures { OnOk result (lists_of texts.new.items ≡ lists_of texts.old.items ++ section_texts section.now) }
+fn push_section(alloc: Global, texts: &mut Vec<Text>, section: &Section) -> Result<(), AllocError>
+    ensures { OnOk result (texts.new.items ≡ texts.old.items ++ section_texts section.now) }
 {
     'letters: for letter in section.letters.as_slice() {
         texts.push(joined(alloc, section.name.as_str(), letter.as_str())?)?;
@@ -138,20 +111,21 @@ fn push_section(
 }
 
 /// The text of a letter: its section's name and its own, with a dot between them.
-fn joined(alloc: Global, section: &str, letter: &str) -> Result<Vec<u8>, AllocError>
-    ensures { IfOk result (λ text. text.items ≡ section.now ++ codes "." ++ letter.now) }
+fn joined(alloc: Global, section: &str, letter: &str) -> Result<Text, AllocError>
+    ensures { IfOk result (λ text. text ≡ section.now ++ codes "." ++ letter.now) }
 {
-    let mut text = Vec::from_slice(alloc, section.as_bytes())?;
-    text.push(b'.')?;
-    text.extend_from_slice(letter.as_bytes())?;
-    Ok(text)
+    let text = format!(in alloc; "{section}.{letter}")?;
+    Ok(Text::from_string(text))
 }
 
 /// The place of each text.
-fn places_of(alloc: Global, texts: &[Vec<u8>]) -> Result<HashMap<Vec<u8>, usize>, AllocError> {
+fn places_of(alloc: Global, texts: &[Text]) -> Result<HashMap<Vec<u8>, usize>, AllocError> {
     let mut places = HashMap::new(alloc);
     'texts: for place in 0..texts.len() {
-        places.insert(Vec::from_slice(alloc, texts[place].as_slice())?, place)?;
+        places.insert(
+            Vec::from_slice(alloc, texts[place].as_str().as_bytes())?,
+            place,
+        )?;
     }
     Ok(places)
 }

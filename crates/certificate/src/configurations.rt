@@ -59,11 +59,12 @@ impl<'a> Names for Rules<'a> {
     ghost names = { λ x. map (λ rule. rule.name) x.0.now.rules };
 
     fn place_of(&self, bytes: &[u8]) -> Option<usize> {
-        rule_place(self.0.rules(), bytes)
+        let system = self.0.system();
+        rule_place(system.rules.as_slice(), bytes)
     }
 
     fn count(&self) -> usize {
-        self.0.rules().len()
+        self.0.system().rules.len()
     }
 }
 
@@ -201,7 +202,8 @@ impl<'a> Form for Configurations<'a> {
     ghost grammar = { λ x. configuration x.0.now.sections };
 
     fn read(&self, alloc: Global, bytes: &[u8]) -> Result<Option<Configuration>, AllocError> {
-        read_parts(alloc, self.0.sections(), bytes)
+        let system = self.0.system();
+        read_parts(alloc, system.sections.as_slice(), bytes)
     }
 }
 

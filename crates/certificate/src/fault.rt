@@ -5,11 +5,11 @@ ghost use Rattle.std.specs.Prelude.{◌≡◌};
 ghost use Rattle.certificate.specs.declared.fault.CertFault.TheVariants.{Memory};
 
 use std::alloc::AllocError;
-use thiserror::Error;
+use std::error::Error;
+use std::fmt;
 
 /// Why a text is no certificate, with the number of the first line that has a fault. Lines are counted from 1.
-#[derive(Clone, Copy, Debug, PartialEq, Eq, Error)]
-#[error("{:?}", self)]
+#[derive(Clone, Copy, Debug)]
 pub enum CertFault {
     /// The first line is that of another version.
     Version {
@@ -67,3 +67,11 @@ impl From<AllocError> for CertFault {
         CertFault::Memory
     }
 }
+
+impl fmt::Display for CertFault {
+    fn fmt<W: fmt::Write>(&self, f: &mut fmt::Formatter<W>) -> fmt::Result {
+        fmt::Debug::fmt(self, f)
+    }
+}
+
+impl Error for CertFault {}

@@ -59,7 +59,7 @@ pub enum Said {
 }
 
 /// What is wrong with what a line says.
-#[derive(Clone, Copy, PartialEq, Eq)]
+#[derive(Clone, Copy)]
 pub enum What {
     /// It is the first line of another version.
     Version,

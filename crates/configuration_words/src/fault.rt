@@ -6,11 +6,11 @@ ghost use Rattle.configuration_words.specs.declared.fault.ConfigFault.TheVariant
 
 use protocol_lexer::Place;
 use std::alloc::AllocError;
-use thiserror::Error;
+use std::error::Error;
+use std::fmt;
 
 /// The first fault of a text that is no configuration of a system.
-#[derive(Clone, Copy, Debug, PartialEq, Eq, Error)]
-#[error("{:?}", self)]
+#[derive(Clone, Copy, Debug)]
 pub enum ConfigFault {
     /// The byte at this place is the first outside a comment that begins no token.
     BadByte { place: Place },
@@ -27,3 +27,11 @@ impl From<AllocError> for ConfigFault {
         ConfigFault::Memory
     }
 }
+
+impl fmt::Display for ConfigFault {
+    fn fmt<W: fmt::Write>(&self, f: &mut fmt::Formatter<W>) -> fmt::Result {
+        fmt::Debug::fmt(self, f)
+    }
+}
+
+impl Error for ConfigFault {}

@@ -1,5 +1,4 @@
-use Rattle.std.proofs.Common.{◌<◌, ◌∙◌, length, refl, ap, sym, arith, subst}
-use Rattle.std.proofs.lemmas.Option.{slice_get_read}
+use Rattle.std.proofs.Common.{◌<◌, ◌∙◌, sym, ap, arith, subst}
 use Rattle.protocol_model.specs.Words.{automata_letters}
 use Rattle.certificate.specs.Words.{letter_text}
 use Rattle.certificate.proofs.AlphabetLemmas.{letters_counted, letter_text-at}
@@ -17,8 +16,7 @@ returns c =
     let texts = c.self.inside.texts.items in
     let counted = letters_counted s texts c.self.invariant.texts_are in
     let within = subst (λ s. c.args.letter < automata_letters s) (sym c.self.view_is) c.requires in
-    let text = c.index-text.result.now in
-    let at = slice_get_read texts (length texts) c.args.letter text refl (omega (arith, counted, within)) c.index-text.ensures in
-    c.as_slice.ensures.value
-    ∙ letter_text-at s texts c.self.invariant.texts_are c.args.letter text at
+    c.as_bytes.ensures.value
+    ∙ c.as_str.ensures
+    ∙ letter_text-at s texts c.self.invariant.texts_are c.args.letter c.index-text.result.now (omega (arith, counted, within)) c.index-text.ensures
     ∙ ap (λ s. letter_text s.sections c.args.letter) c.self.view_is
