@@ -248,15 +248,15 @@ also here later = (here, later)
 all_formed : AllByRecursion IsFormed forms
 all_formed =
     also (record { built_is = refl; is_simple = refl; places = (refl, refl, refl); flags_are = one_flag (codes "report") refl })
-    (also (record { built_is = refl; is_simple = refl; places = (refl, refl, refl); flags_are = no_flag refl })
-    (also (record { built_is = refl; is_simple = refl; places = (refl, refl, refl); flags_are = no_flag refl })
-    (also (record { built_is = refl; is_simple = refl; places = (refl, refl, refl); flags_are = no_flag refl })
-    (also (record { built_is = refl; is_simple = refl; places = (refl, refl, (refl, refl, refl)); flags_are = no_flag refl })
-    (also (record { built_is = refl; is_simple = refl; places = (refl, refl, (refl, refl, refl)); flags_are = no_flag refl })
     (also (record { built_is = refl; is_simple = refl; places = (refl, refl, (refl, refl, refl)); flags_are = no_flag refl })
     (also (record { built_is = refl; is_simple = refl; places = (refl, refl, refl); flags_are = no_flag refl })
     (also (record { built_is = refl; is_simple = refl; places = (refl, refl, (refl, refl, refl)); flags_are = no_flag refl })
-    (also (record { built_is = refl; is_simple = refl; places = (refl, refl, refl); flags_are = no_flag refl }) tt)))))))))
+    (also (record { built_is = refl; is_simple = refl; places = (refl, refl, refl); flags_are = no_flag refl })
+    (also (record { built_is = refl; is_simple = refl; places = (refl, refl, (refl, refl, refl)); flags_are = no_flag refl })
+    (also (record { built_is = refl; is_simple = refl; places = (refl, refl, refl); flags_are = no_flag refl })
+    (also (record { built_is = refl; is_simple = refl; places = (refl, refl, refl); flags_are = no_flag refl })
+    (also (record { built_is = refl; is_simple = refl; places = (refl, refl, refl); flags_are = no_flag refl })
+    (also (record { built_is = refl; is_simple = refl; places = (refl, refl, (refl, refl, refl)); flags_are = no_flag refl }) tt)))))))))
 
 -- what holds of all holds of one that is found
 found_has : {T : Type 0} (P : T → Type 0) (p : T → Bool) (xs : List T) (x : T) → AllByRecursion P xs → find p xs ≡ Some x → P x

@@ -1,5 +1,5 @@
 -- Only private functions cite this file: the command of `clap` for a form, what its parse gives, and what its matches are read as.
-use Rattle.std.specs.Prelude.{◌≡◌, ◌++◌, ℕ, false, true, List, [], ◌∷◌, map, codes, Option, Some, None, MatchOption, IfSome}
+use Rattle.std.specs.Prelude.{◌≡◌, ◌++◌, ℕ, false, true, List, [], ◌∷◌, map, codes, Option, Some, None, MatchOption}
 use Rattle.std.specs.Borrow.{Bor}
 use Rattle.clap.specs.Kinds.{Kinds}
 use Rattle.clap.specs.Simple.{App, new_rule, new_shape}
@@ -11,7 +11,7 @@ use Rattle.command_words.specs.declared.Command.{Command as CommandWords}
 use Rattle.command_words.specs.declared.forms.Name.{Name}
 use Rattle.command_words.specs.declared.parsers.Role.{Role}
 use Rattle.command_words.specs.declared.parsers.Role.TheVariants.{Valued, Flag, Positional}
-use Rattle.command_words.specs.Words.{Binding, Command, CommandForm, IsInRange, bindings, is_flag, is_true, said, value_of}
+use Rattle.command_words.specs.Words.{Binding, Command, CommandForm, bindings, is_flag, is_true, said, value_of}
 
 -- the form that a value of the program stands for
 abbrev pub form_as_words : Name × Bor (List ℕ) × Bor (List (Bor (List ℕ))) × Bor (List (Bor (List ℕ))) × Bor (List (Bor (List ℕ))) → CommandForm
@@ -66,6 +66,3 @@ pub record IsParsed (form : CommandForm) (words : List (List ℕ)) (matches : Ar
 -- the value of the program stands for this command, or there is none
 abbrev pub Gives : Option CommandWords → Option Command → Type 0
 Gives found command = MatchOption found (command ≡ None) (λ (value : CommandWords). command ≡ Some (said value))
-
-abbrev pub GivesInRange : Option CommandWords → Type 0
-GivesInRange found = IfSome found (λ (value : CommandWords). IsInRange (said value))

@@ -1,19 +1,13 @@
 -- The plain forms of each command mean what one expects.
 use Rattle.std.specs.Prelude.{◌≡◌, ℕ, false, List, [], ◌∷◌, codes, Some}
 use Rattle.command_words.specs.declared.Limits.{Limits}
-use Rattle.command_words.specs.declared.Method.TheVariants.{Predicates}
 use Rattle.command_words.specs.declared.Query.TheVariants.{Check, Back, Deadlock, Past}
-use Rattle.command_words.specs.declared.Settings.{Settings}
-use Rattle.command_words.specs.declared.Start.TheVariants.{Bad}
-use Rattle.command_words.specs.Words.{checking_all, command_of, default_budget, is_empty, kind_of, migrate, most_bound, most_budget, number_in, plain, searching, show, steps, verify}
+use Rattle.command_words.specs.Words.{checking_all, command_of, default_budget, default_settings, is_empty, kind_of, migrate, most_bound, most_budget, number_in, plain, searching, show, steps, verify}
 
 -- a word that is not empty and is no option
 pub record IsPlain (word : List ℕ) : Type 0 where
   pub is_full : is_empty word ≡ false
   pub is_plain : kind_of word ≡ plain
-
-abbrev pub default_settings : Settings
-default_settings = record { method = Predicates; start = Bad; bound = 0; report = false }
 
 abbrev pub default_limits : Limits
 default_limits = record { budget = default_budget; workers = 1 }

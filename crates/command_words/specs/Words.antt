@@ -1,5 +1,5 @@
 -- Which words mean which command, and with which settings.
-use Rattle.std.specs.Prelude.{◌<◌, ◌≤◌, ◌+◌, ◌-◌, ◌*◌, ◌==◌, ◌&&◌, ℕ, Bool, true, false, not, List, [], ◌∷◌, length, codes, bytes_eq, nat_lt, nat_le, Option, Some, None, option_map, option_and_then, find, if◌then◌else◌}
+use Rattle.std.specs.Prelude.{◌<◌, ◌≤◌, ◌+◌, ◌-◌, ◌*◌, ◌==◌, ◌&&◌, ◌++◌, ℕ, Bool, true, false, not, List, [], ◌∷◌, length, codes, bytes_eq, nat_lt, nat_le, Option, Some, None, option_map, option_and_then, find, map, flat_map, if◌then◌else◌}
 use Rattle.std.specs.List.{list_any, before_first, after_first}
 use Rattle.std.specs.Str.{all_ascii_digits}
 use Rattle.command_words.specs.declared.Command.{Command as CommandWords}
@@ -196,22 +196,29 @@ abbrev pub number_in : ℕ → ℕ → List ℕ → Option ℕ
 number_in least most word =
     if is_number word && (nat_le least (number_after 0 word) && nat_le (number_after 0 word) most) then Some (number_after 0 word) else None
 
-abbrev pub method_of : List ℕ → Option Method
-method_of word = if bytes_eq word (codes "predicates") then Some Predicates else (if bytes_eq word (codes "length") then Some Length else None)
+-- the methods and the first predicates, by the words that choose them
+abbrev pub methods : List (List ℕ × Method)
+methods = (codes "predicates", Predicates) ∷ ((codes "length", Length) ∷ [])
 
-abbrev pub start_of : List ℕ → Option Start
-start_of word = if bytes_eq word (codes "bad") then Some Bad else (if bytes_eq word (codes "none") then Some Nothing else None)
+abbrev pub starts : List (List ℕ × Start)
+starts = (codes "bad", Bad) ∷ ((codes "none", Nothing) ∷ [])
+
+abbrev pub chosen : {X : Type 0} → List (List ℕ × X) → List ℕ → Option X
+chosen {X} choices word = option_map (λ (choice : List ℕ × X). choice.1) (find (λ (choice : List ℕ × X). bytes_eq word choice.0) choices)
 
 -- ---- what the names of options give
 
+abbrev pub default_settings : Settings
+default_settings = record { method = Predicates; start = Bad; bound = 0; report = false }
+
 abbrev pub method_given : List Binding → Option Method
-method_given bindings = given Predicates method_of (value_of (codes "method") bindings)
+method_given bindings = given default_settings.method (chosen methods) (value_of (codes "method") bindings)
 
 abbrev pub start_given : List Binding → Option Start
-start_given bindings = given Bad start_of (value_of (codes "start") bindings)
+start_given bindings = given default_settings.start (chosen starts) (value_of (codes "start") bindings)
 
 abbrev pub bound_given : List Binding → Option ℕ
-bound_given bindings = given 0 (number_in 0 most_bound) (value_of (codes "bound") bindings)
+bound_given bindings = given default_settings.bound (number_in 0 most_bound) (value_of (codes "bound") bindings)
 
 abbrev pub budget_given : List Binding → Option ℕ
 budget_given bindings = given default_budget (number_in 1 most_budget) (value_of (codes "budget") bindings)
@@ -257,15 +264,39 @@ forms =
       flags = codes "report" ∷ [];
       positionals = codes "FILE" ∷ [];
     } ∷
+    (record { name = names.Verify; word = codes "verify"; valued = []; flags = []; positionals = codes "FILE" ∷ (codes "CERT" ∷ []) } ∷
+    (record { name = names.Show; word = codes "show"; valued = []; flags = []; positionals = codes "FILE" ∷ [] } ∷
+    (record { name = names.Steps; word = codes "steps"; valued = []; flags = []; positionals = codes "FILE" ∷ (codes "CONFIGURATION" ∷ []) } ∷
+    (record { name = names.Generate; word = codes "gen"; valued = codes "workers" ∷ []; flags = []; positionals = codes "N" ∷ [] } ∷
+    (record { name = names.Migrate; word = codes "migrate"; valued = []; flags = []; positionals = codes "FILE" ∷ (codes "CERT" ∷ []) } ∷
     (record { name = names.Back; word = codes "back"; valued = search_options; flags = []; positionals = codes "FILE" ∷ [] } ∷
     (record { name = names.Deadlock; word = codes "deadlock"; valued = search_options; flags = []; positionals = codes "FILE" ∷ [] } ∷
     (record { name = names.Past; word = codes "past"; valued = codes "bound" ∷ search_options; flags = []; positionals = codes "FILE" ∷ [] } ∷
-    (record { name = names.CheckAll; word = codes "checkall"; valued = search_options; flags = []; positionals = codes "FILE" ∷ (codes "PROPS" ∷ []) } ∷
-    (record { name = names.Verify; word = codes "verify"; valued = []; flags = []; positionals = codes "FILE" ∷ (codes "CERT" ∷ []) } ∷
-    (record { name = names.Migrate; word = codes "migrate"; valued = []; flags = []; positionals = codes "FILE" ∷ (codes "CERT" ∷ []) } ∷
-    (record { name = names.Show; word = codes "show"; valued = []; flags = []; positionals = codes "FILE" ∷ [] } ∷
-    (record { name = names.Steps; word = codes "steps"; valued = []; flags = []; positionals = codes "FILE" ∷ (codes "CONFIGURATION" ∷ []) } ∷
-    (record { name = names.Generate; word = codes "gen"; valued = codes "workers" ∷ []; flags = []; positionals = codes "N" ∷ [] } ∷ [])))))))))
+    (record { name = names.CheckAll; word = codes "checkall"; valued = search_options; flags = []; positionals = codes "FILE" ∷ (codes "PROPS" ∷ []) } ∷ [])))))))))
+
+-- the texts in their order, with one text between each two
+abbrev pub separated : List ℕ → List (List ℕ) → List ℕ
+separated between [] = []
+separated between (text ∷ texts) = text ++ flat_map (λ other. between ++ other) texts
+
+abbrev pub alternatives : {X : Type 0} → List (List ℕ × X) → List ℕ
+alternatives {X} choices = separated (codes "|") (map (λ (choice : List ℕ × X). choice.0) choices)
+
+-- what the usage has in place of the value of an option
+abbrev pub value_words : List ℕ → List ℕ
+value_words name =
+    if bytes_eq name (codes "method") then alternatives methods else (if bytes_eq name (codes "start") then alternatives starts else codes "N")
+
+-- the words of a form: its own, those in places, and its options
+abbrev pub form_words : CommandForm → List ℕ
+form_words form =
+    form.word ++ flat_map (λ name. codes " " ++ name) form.positionals
+    ++ flat_map (λ name. codes " [--" ++ name ++ codes " " ++ value_words name ++ codes "]") form.valued
+    ++ flat_map (λ name. codes " [--" ++ name ++ codes "]") form.flags
+
+-- the commands with their words
+abbrev pub usage_text : List ℕ
+usage_text = codes "armc: usage: " ++ separated (codes "; ") (map form_words forms)
 
 -- the form of the command that the word names
 abbrev pub form_named : List ℕ → Option CommandForm

@@ -1,11 +1,11 @@
 //! The command that the matches of `clap` mean, by the command's name. Every searching command has its query, and the file and the limits
 //! are read once for all of them. Each value is looked at once.
 
-ghost use Rattle.std.specs.Prelude.{List, ℕ, ◌≡◌, false, codes, option_map, IfSome};
+ghost use Rattle.std.specs.Prelude.{List, ℕ, ◌≡◌, false, codes, option_map};
 ghost use Rattle.command_words.specs.declared.Query.TheVariants.{Check, Past};
 ghost use Rattle.command_words.specs.declared.forms.Name.TheVariants as names;
-ghost use Rattle.command_words.specs.Parsing.{Gives, GivesInRange, GivesValues};
-ghost use Rattle.command_words.specs.Words.{Binding, Command as CommandData, IsQuery, bound_given, command_given};
+ghost use Rattle.command_words.specs.Parsing.{Gives, GivesValues};
+ghost use Rattle.command_words.specs.Words.{Binding, Command as CommandData, bound_given, command_given};
 ghost use Rattle.command_words.specs.Words.{is_flag, searching_given, settings_given, two_of, value_of};
 
 use crate::forms::Name;
@@ -15,8 +15,7 @@ use clap::ArgMatches;
 
 // The query of `check`.
 fn check_query_in(matches: &ArgMatches<'_>) -> Option<Query>
-    ensures query { (bound : List Binding) → GivesValues bound matches.now → result ≡ option_map Check (settings_given bound) }
-    ensures in_range { IfSome result IsQuery }
+    ensures { (bound : List Binding) → GivesValues bound matches.now → result ≡ option_map Check (settings_given bound) }
 {
     let settings = settings_in(matches)?;
     Some(Query::Check(settings))
@@ -24,8 +23,7 @@ fn check_query_in(matches: &ArgMatches<'_>) -> Option<Query>
 
 // The query of `past`.
 fn past_query_in(matches: &ArgMatches<'_>) -> Option<Query>
-    ensures query { (bound : List Binding) → GivesValues bound matches.now → result ≡ option_map Past (bound_given bound) }
-    ensures in_range { IfSome result IsQuery }
+    ensures { (bound : List Binding) → GivesValues bound matches.now → result ≡ option_map Past (bound_given bound) }
 {
     let bound = bound_in(matches)?;
     Some(Query::Past {
@@ -35,9 +33,7 @@ fn past_query_in(matches: &ArgMatches<'_>) -> Option<Query>
 
 // The searching command of this query, if there is one.
 fn search_in<'a>(matches: &ArgMatches<'a>, query: Option<Query>) -> Option<Command<'a>>
-    requires { IfSome query IsQuery }
-    ensures command { (bound : List Binding) → GivesValues bound matches.now → Gives result (searching_given bound query) }
-    ensures in_range { GivesInRange result }
+    ensures { (bound : List Binding) → GivesValues bound matches.now → Gives result (searching_given bound query) }
 {
     let file = value_in(matches, "FILE")?;
     let query = query?;
@@ -62,8 +58,7 @@ fn two_in<'a>(matches: &ArgMatches<'a>, other: &str) -> Option<(&'a str, &'a str
 
 // The command of `checkall`.
 fn check_all_in<'a>(matches: &ArgMatches<'a>) -> Option<Command<'a>>
-    ensures command { (bound : List Binding) → GivesValues bound matches.now → Gives result (command_given names.CheckAll bound) }
-    ensures in_range { GivesInRange result }
+    ensures { (bound : List Binding) → GivesValues bound matches.now → Gives result (command_given names.CheckAll bound) }
 {
     let limits = limits_in(matches)?;
     let (file, properties) = two_in(matches, "PROPS")?;
@@ -76,8 +71,7 @@ fn check_all_in<'a>(matches: &ArgMatches<'a>) -> Option<Command<'a>>
 
 // The command of `verify`.
 fn verify_in<'a>(matches: &ArgMatches<'a>) -> Option<Command<'a>>
-    ensures command { (bound : List Binding) → GivesValues bound matches.now → Gives result (command_given names.Verify bound) }
-    ensures in_range { GivesInRange result }
+    ensures { (bound : List Binding) → GivesValues bound matches.now → Gives result (command_given names.Verify bound) }
 {
     let (file, certificate) = two_in(matches, "CERT")?;
     Some(Command::Verify { file, certificate })
@@ -85,8 +79,7 @@ fn verify_in<'a>(matches: &ArgMatches<'a>) -> Option<Command<'a>>
 
 // The command of `migrate`.
 fn migrate_in<'a>(matches: &ArgMatches<'a>) -> Option<Command<'a>>
-    ensures command { (bound : List Binding) → GivesValues bound matches.now → Gives result (command_given names.Migrate bound) }
-    ensures in_range { GivesInRange result }
+    ensures { (bound : List Binding) → GivesValues bound matches.now → Gives result (command_given names.Migrate bound) }
 {
     let (file, certificate) = two_in(matches, "CERT")?;
     Some(Command::Migrate { file, certificate })
@@ -94,8 +87,7 @@ fn migrate_in<'a>(matches: &ArgMatches<'a>) -> Option<Command<'a>>
 
 // The command of `show`.
 fn show_in<'a>(matches: &ArgMatches<'a>) -> Option<Command<'a>>
-    ensures command { (bound : List Binding) → GivesValues bound matches.now → Gives result (command_given names.Show bound) }
-    ensures in_range { GivesInRange result }
+    ensures { (bound : List Binding) → GivesValues bound matches.now → Gives result (command_given names.Show bound) }
 {
     let file = value_in(matches, "FILE")?;
     Some(Command::Show { file })
@@ -103,8 +95,7 @@ fn show_in<'a>(matches: &ArgMatches<'a>) -> Option<Command<'a>>
 
 // The command of `steps`.
 fn steps_in<'a>(matches: &ArgMatches<'a>) -> Option<Command<'a>>
-    ensures command { (bound : List Binding) → GivesValues bound matches.now → Gives result (command_given names.Steps bound) }
-    ensures in_range { GivesInRange result }
+    ensures { (bound : List Binding) → GivesValues bound matches.now → Gives result (command_given names.Steps bound) }
 {
     let (file, configuration) = two_in(matches, "CONFIGURATION")?;
     Some(Command::Steps {
@@ -115,8 +106,7 @@ fn steps_in<'a>(matches: &ArgMatches<'a>) -> Option<Command<'a>>
 
 // The command of `gen`.
 fn generate_in<'a>(matches: &ArgMatches<'a>) -> Option<Command<'a>>
-    ensures command { (bound : List Binding) → GivesValues bound matches.now → Gives result (command_given names.Generate bound) }
-    ensures in_range { GivesInRange result }
+    ensures { (bound : List Binding) → GivesValues bound matches.now → Gives result (command_given names.Generate bound) }
 {
     let number = generated_in(matches)?;
     let workers = workers_in(matches)?;
@@ -125,8 +115,7 @@ fn generate_in<'a>(matches: &ArgMatches<'a>) -> Option<Command<'a>>
 
 /// The command of this name that the matches mean, if there is one.
 pub(crate) fn command_in<'a>(name: Name, matches: &ArgMatches<'a>) -> Option<Command<'a>>
-    ensures command { (bound : List Binding) → GivesValues bound matches.now → Gives result (command_given name bound) }
-    ensures in_range { GivesInRange result }
+    ensures { (bound : List Binding) → GivesValues bound matches.now → Gives result (command_given name bound) }
 {
     match name {
         Name::Check => search_in(matches, check_query_in(matches)),

@@ -4,7 +4,7 @@
 ghost use Rattle.std.specs.Prelude.{◌≡◌, find, map, option_map};
 ghost use Rattle.std.specs.Str.{bytes_eq};
 ghost use Rattle.command_words.specs.Parsing.{form_as_words};
-ghost use Rattle.command_words.specs.Words.{form_named as form_named_so};
+ghost use Rattle.command_words.specs.Words.{form_named as form_named_so, usage_text};
 
 /// A command by its name.
 #[derive(Clone, Copy, Drop)]
@@ -50,6 +50,11 @@ const FORMS: [Form; 10] = [
         &["report"],
         &["FILE"],
     ),
+    (Name::Verify, "verify", &[], &[], &["FILE", "CERT"]),
+    (Name::Show, "show", &[], &[], &["FILE"]),
+    (Name::Steps, "steps", &[], &[], &["FILE", "CONFIGURATION"]),
+    (Name::Generate, "gen", &["workers"], &[], &["N"]),
+    (Name::Migrate, "migrate", &[], &[], &["FILE", "CERT"]),
     (Name::Back, "back", &["budget", "workers"], &[], &["FILE"]),
     (
         Name::Deadlock,
@@ -72,12 +77,22 @@ const FORMS: [Form; 10] = [
         &[],
         &["FILE", "PROPS"],
     ),
-    (Name::Verify, "verify", &[], &[], &["FILE", "CERT"]),
-    (Name::Migrate, "migrate", &[], &[], &["FILE", "CERT"]),
-    (Name::Show, "show", &[], &[], &["FILE"]),
-    (Name::Steps, "steps", &[], &[], &["FILE", "CONFIGURATION"]),
-    (Name::Generate, "gen", &["workers"], &[], &["N"]),
 ];
+
+/// The commands with their words.
+const USAGE: &str =
+    "armc: usage: check FILE [--method predicates|length] [--start bad|none] [--bound N] [--budget N] [--workers N] [--report]; \
+    verify FILE CERT; show FILE; steps FILE CONFIGURATION; gen N [--workers N]; \
+    migrate FILE CERT; back FILE [--budget N] [--workers N]; deadlock FILE [--budget N] [--workers N]; \
+    past FILE [--bound N] [--budget N] [--workers N]; \
+    checkall FILE PROPS [--budget N] [--workers N]";
+
+/// The commands with their words, as their forms have them.
+pub fn usage() -> &'static str
+    ensures { result.now ≡ usage_text }
+{
+    USAGE
+}
 
 // The first of the forms whose command the word names, if there is one.
 fn form_among(forms: &[Form], word: &str) -> Option<Form>

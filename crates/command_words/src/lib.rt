@@ -11,11 +11,12 @@ mod values;
 
 ghost use Rattle.std.specs.Prelude.{◌≡◌, drop, map, string_bytes, MatchOption, IfSome, IfOk, None, Some};
 ghost use Rattle.std.specs.List.{list_any};
-ghost use Rattle.command_words.specs.Parsing.{Gives, GivesInRange};
+ghost use Rattle.command_words.specs.Parsing.{Gives};
 ghost use Rattle.command_words.specs.Words.{command_named, command_of as command_of_words, is_empty, IsInRange, said};
 
 use crate::commands::command_in;
 use crate::forms::form_named;
+pub use crate::forms::usage;
 pub use crate::law::plain_forms_mean;
 use crate::parsers::matches_of;
 use std::alloc::{AllocError, Global};
@@ -148,8 +149,7 @@ fn command_called<'a>(
     name: &str,
     words: &'a [String],
 ) -> Result<Option<Command<'a>>, AllocError>
-    ensures command { IfOk result (λ found. Gives found (command_named name.now (drop 1 (map string_bytes words.entry.now)))) }
-    ensures in_range { IfOk result GivesInRange }
+    ensures { IfOk result (λ found. Gives found (command_named name.now (drop 1 (map string_bytes words.entry.now)))) }
 {
     let Some(form) = form_named(name) else {
         return Ok(None);

@@ -1,14 +1,14 @@
 //! The values of names in what `clap` found: numbers of few digits in a range, choices, the limits of a search, and the settings of
 //! `check`. Each value is looked at once.
 
-ghost use Rattle.std.specs.Prelude.{List, ◌≡◌, ◌≤◌, true, false, codes, option_map, option_and_then, IfSome};
+ghost use Rattle.std.specs.Prelude.{List, ◌≡◌, true, false, codes, option_map, option_and_then};
 ghost use Rattle.std.specs.Char.{is_ascii_digit};
 ghost use Rattle.std.specs.List.{list_all};
 ghost use Rattle.command_words.specs.Parsing.{GivesValues};
-ghost use Rattle.command_words.specs.Words.{Binding, IsLimits, IsSettings, is_flag, is_true};
+ghost use Rattle.command_words.specs.Words.{Binding, is_flag, is_true};
 ghost use Rattle.command_words.specs.Words.{bound_given, budget_given, limits_given, settings_given, workers_given, value_of, given};
-ghost use Rattle.command_words.specs.Words.{is_number as is_number_word, method_of, number_after, number_in, start_of};
-ghost use Rattle.command_words.specs.Words.{most_bound, most_budget, most_generated, most_workers};
+ghost use Rattle.command_words.specs.Words.{is_number as is_number_word, chosen, methods, number_after, number_in, starts};
+ghost use Rattle.command_words.specs.Words.{most_generated};
 
 use crate::{DEFAULT_BUDGET, Limits, Method, Settings, Start};
 use clap::ArgMatches;
@@ -91,8 +91,7 @@ fn number_of(word: &str) -> u32
 
 // The number that the word gives, from `least` to `most`.
 fn number_between(word: &str, least: u32, most: u32) -> Option<u32>
-    ensures number { result ≡ number_in least most word.now }
-    ensures in_range { IfSome result (λ n. (least ≤ n) × (n ≤ most)) }
+    ensures { result ≡ number_in least most word.now }
 {
     if !is_number(word) {
         return None;
@@ -106,9 +105,7 @@ fn number_between(word: &str, least: u32, most: u32) -> Option<u32>
 
 // The number that the option gives, or its default.
 fn number_or(word: Option<&str>, default: u32, least: u32, most: u32) -> Option<u32>
-    requires { (least ≤ default) × (default ≤ most) }
-    ensures number { result ≡ given default (number_in least most) (option_map (λ s. s.now) word.entry) }
-    ensures in_range { IfSome result (λ n. (least ≤ n) × (n ≤ most)) }
+    ensures { result ≡ given default (number_in least most) (option_map (λ s. s.now) word.entry) }
 {
     match word {
         Some(word) => number_between(word, least, most),
@@ -118,7 +115,7 @@ fn number_or(word: Option<&str>, default: u32, least: u32, most: u32) -> Option<
 
 // The method that the option gives, or the default.
 fn method_or(word: Option<&str>) -> Option<Method>
-    ensures { result ≡ given Method.Predicates method_of (option_map (λ s. s.now) word.entry) }
+    ensures { result ≡ given Method.Predicates (chosen methods) (option_map (λ s. s.now) word.entry) }
 {
     match word {
         None => Some(Method::Predicates),
@@ -136,7 +133,7 @@ fn method_or(word: Option<&str>) -> Option<Method>
 
 // The first predicates that the option gives, or the default.
 fn start_or(word: Option<&str>) -> Option<Start>
-    ensures { result ≡ given Start.Bad start_of (option_map (λ s. s.now) word.entry) }
+    ensures { result ≡ given Start.Bad (chosen starts) (option_map (λ s. s.now) word.entry) }
 {
     match word {
         None => Some(Start::Bad),
@@ -154,32 +151,28 @@ fn start_or(word: Option<&str>) -> Option<Start>
 
 // The bound that the matches give.
 pub(crate) fn bound_in(matches: &ArgMatches<'_>) -> Option<u32>
-    ensures number { (bound : List Binding) → GivesValues bound matches.now → result ≡ bound_given bound }
-    ensures in_range { IfSome result (λ n. n ≤ most_bound) }
+    ensures { (bound : List Binding) → GivesValues bound matches.now → result ≡ bound_given bound }
 {
     number_or(value_in(matches, "bound"), 0, 0, MOST_BOUND)
 }
 
 // The budget that the matches give.
 pub(crate) fn budget_in(matches: &ArgMatches<'_>) -> Option<u32>
-    ensures number { (bound : List Binding) → GivesValues bound matches.now → result ≡ budget_given bound }
-    ensures in_range { IfSome result (λ n. (1 ≤ n) × (n ≤ most_budget)) }
+    ensures { (bound : List Binding) → GivesValues bound matches.now → result ≡ budget_given bound }
 {
     number_or(value_in(matches, "budget"), DEFAULT_BUDGET, 1, MOST_BUDGET)
 }
 
 // The number of workers that the matches give.
 pub(crate) fn workers_in(matches: &ArgMatches<'_>) -> Option<u32>
-    ensures number { (bound : List Binding) → GivesValues bound matches.now → result ≡ workers_given bound }
-    ensures in_range { IfSome result (λ n. (1 ≤ n) × (n ≤ most_workers)) }
+    ensures { (bound : List Binding) → GivesValues bound matches.now → result ≡ workers_given bound }
 {
     number_or(value_in(matches, "workers"), 1, 1, MOST_WORKERS)
 }
 
 // The limits that the matches give.
 pub(crate) fn limits_in(matches: &ArgMatches<'_>) -> Option<Limits>
-    ensures limits { (bound : List Binding) → GivesValues bound matches.now → result ≡ limits_given bound }
-    ensures in_range { IfSome result IsLimits }
+    ensures { (bound : List Binding) → GivesValues bound matches.now → result ≡ limits_given bound }
 {
     let budget = budget_in(matches)?;
     let workers = workers_in(matches)?;
@@ -191,8 +184,7 @@ pub(crate) fn limits_in(matches: &ArgMatches<'_>) -> Option<Limits>
 
 // The settings that the matches of `check` give.
 pub(crate) fn settings_in(matches: &ArgMatches<'_>) -> Option<Settings>
-    ensures settings { (bound : List Binding) → GivesValues bound matches.now → result ≡ settings_given bound }
-    ensures in_range { IfSome result IsSettings }
+    ensures { (bound : List Binding) → GivesValues bound matches.now → result ≡ settings_given bound }
 {
     let method = method_or(value_in(matches, "method"))?;
     let start = start_or(value_in(matches, "start"))?;
@@ -208,9 +200,8 @@ pub(crate) fn settings_in(matches: &ArgMatches<'_>) -> Option<Settings>
 
 // The number that the matches of `gen` give.
 pub(crate) fn generated_in(matches: &ArgMatches<'_>) -> Option<u32>
-    ensures number { (bound : List Binding) → GivesValues bound matches.now
+    ensures { (bound : List Binding) → GivesValues bound matches.now
         → result ≡ option_and_then (number_in 1 most_generated) (value_of (codes "N") bound) }
-    ensures in_range { IfSome result (λ n. (1 ≤ n) × (n ≤ most_generated)) }
 {
     let word = value_in(matches, "N")?;
     number_between(word, 1, MOST_GENERATED)

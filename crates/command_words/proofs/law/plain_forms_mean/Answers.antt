@@ -1,7 +1,7 @@
 use Rattle.std.proofs.Common.{◌≡◌, ℕ, List, Option, Some, refl, ap, option_map}
 use Rattle.command_words.specs.declared.Query.TheVariants.{Check, Past}
-use Rattle.command_words.specs.PlainForms.{default_limits, default_settings}
-use Rattle.command_words.specs.Words.{default_budget, limits_from, most_bound, most_budget, number_in, searching, searching_of}
+use Rattle.command_words.specs.PlainForms.{default_limits}
+use Rattle.command_words.specs.Words.{default_budget, default_settings, limits_from, most_bound, most_budget, number_in, searching, searching_of}
 use Rattle.command_words.proofs.law.plain_forms_mean.Goals as goal
 
 budgeted : (file : List ℕ) (o : Option ℕ) (budget : ℕ) → o ≡ Some budget
