@@ -3,6 +3,7 @@ use Rattle.std.specs.Prelude.{◌≡◌, ℕ, List, [], ◌++◌, codes, Result,
 use Rattle.protocol_model.specs.System.{SystemData}
 use Rattle.certificate.specs.declared.fault.CertFault.{CertFault}
 use Rattle.certificate.specs.Faults.{HasFault}
+use Rattle.command_words.specs.Words.{usage_text}
 use Rattle.command_replies.specs.declared.status.Status.{Status}
 use Rattle.command_replies.specs.declared.status.Status.TheVariants as status
 use Rattle.command_replies.specs.declared.reply.Reply.{Reply}
@@ -18,15 +19,6 @@ on_out status text = record { status = status; out = text; err = [] }
 
 abbrev pub on_err : Status → List ℕ → Reply
 on_err status text = record { status = status; out = []; err = text }
-
--- the commands with their words
-abbrev pub usage_text : List ℕ
-usage_text =
-    codes "armc: usage: check FILE [--method predicates|length] [--start bad|none] [--bound N] [--budget N] [--workers N] [--report]; "
-    ++ codes "verify FILE CERT; show FILE; steps FILE CONFIGURATION; gen N [--workers N]; "
-    ++ codes "migrate FILE CERT; back FILE [--budget N] [--workers N]; deadlock FILE [--budget N] [--workers N]; "
-    ++ codes "past FILE [--bound N] [--budget N] [--workers N]; "
-    ++ codes "checkall FILE PROPS [--budget N] [--workers N]"
 
 -- the reply to words that mean no command
 abbrev pub usage : Reply

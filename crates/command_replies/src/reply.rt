@@ -14,14 +14,6 @@ use certificate::CertFault;
 use sequence::{Sequence, Text};
 use std::alloc::{AllocError, Global};
 
-/// The line that tells the commands with their words.
-const USAGE: &[u8] =
-    b"armc: usage: check FILE [--method predicates|length] [--start bad|none] [--bound N] [--budget N] [--workers N] [--report]; \
-    verify FILE CERT; show FILE; steps FILE CONFIGURATION; gen N [--workers N]; \
-    migrate FILE CERT; back FILE [--budget N] [--workers N]; deadlock FILE [--budget N] [--workers N]; \
-    past FILE [--bound N] [--budget N] [--workers N]; \
-    checkall FILE PROPS [--budget N] [--workers N]\n";
-
 /// A reply before it is written: the exit status, and the whole texts of standard output and standard error.
 #[derive(Drop)]
 pub struct Reply {
@@ -59,7 +51,7 @@ pub fn on_err(alloc: Global, status: Status, text: Vec<u8>) -> Reply
 pub fn usage(alloc: Global) -> Result<Reply, AllocError>
     ensures { IfOk result (λ reply. reply ≡ usage_reply) }
 {
-    let text = USAGE.to_vec(alloc)?;
+    let text = line_of(alloc, command_words::usage().as_bytes(), b"")?;
     Ok(on_err(alloc, Status::Usage, text))
 }
 
