@@ -73,14 +73,10 @@ settings-from _ _ _ report has = tt
 settings-in : (b : List Binding) → IfSome (settings_given b) IsSettings
 settings-in b = settings-from (method_given b) (start_given b) (bound_given b) (is_true (value_of (codes "report") b)) (bound-in b)
 
-searching-in : (file : Option (List ℕ)) (query : Option Query) (b : List Binding) → IfSome query IsQuery
-    → IfSome (searching_of file query (limits_given b)) IsInRange
-searching-in file query b has = go file query (limits_given b) has (limits-in b)
-  where
-    go : (file : Option (List ℕ)) (query : Option Query) (limits : Option Limits) → IfSome query IsQuery → IfSome limits IsLimits
-        → IfSome (searching_of file query limits) IsInRange
-    go (Some file) (Some query) (Some limits) q l = record { query_in = q; limits_in = l }
-    go _ _ _ q l = tt
+searching-in : (file : Option (List ℕ)) (query : Option Query) (limits : Option Limits) → IfSome query IsQuery → IfSome limits IsLimits
+    → IfSome (searching_of file query limits) IsInRange
+searching-in (Some file) (Some query) (Some limits) q l = record { query_in = q; limits_in = l }
+searching-in _ _ _ q l = tt
 
 two-in : (command : List ℕ → List ℕ → Command) (x y : Option (List ℕ)) → ((a b : List ℕ) → IsInRange (command a b))
     → IfSome (two_of command x y) IsInRange
@@ -107,11 +103,12 @@ show-in None = tt
 
 command-in : (name : Name) (b : List Binding) → IfSome (command_given name b) IsInRange
 command-in names.Check b =
-    searching-in (value_of (codes "FILE") b) _ b (mapped IsSettings IsQuery Check (settings_given b) (λ settings has. has) (settings-in b))
-command-in names.Back b = searching-in (value_of (codes "FILE") b) (Some Back) b tt
-command-in names.Deadlock b = searching-in (value_of (codes "FILE") b) (Some Deadlock) b tt
+    searching-in (value_of (codes "FILE") b) _ (limits_given b) (mapped IsSettings IsQuery Check (settings_given b) (λ settings has. has) (settings-in b)) (limits-in b)
+command-in names.Back b = searching-in (value_of (codes "FILE") b) (Some Back) (limits_given b) tt (limits-in b)
+command-in names.Deadlock b = searching-in (value_of (codes "FILE") b) (Some Deadlock) (limits_given b) tt (limits-in b)
 command-in names.Past b =
-    searching-in (value_of (codes "FILE") b) _ b (mapped (IsBetween 0 most_bound) IsQuery Past (bound_given b) (λ bound has. has.1) (bound-in b))
+    searching-in (value_of (codes "FILE") b) _ (limits_given b) (mapped (IsBetween 0 most_bound) IsQuery Past (bound_given b) (λ bound has. has.1) (bound-in b))
+    (limits-in b)
 command-in names.CheckAll b = all-in (limits_given b) (value_of (codes "FILE") b) (value_of (codes "PROPS") b) (limits-in b)
 command-in names.Verify b = two-in verify (value_of (codes "FILE") b) (value_of (codes "CERT") b) (λ _ _. tt)
 command-in names.Migrate b = two-in migrate (value_of (codes "FILE") b) (value_of (codes "CERT") b) (λ _ _. tt)

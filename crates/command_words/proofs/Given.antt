@@ -10,9 +10,7 @@ use Rattle.clap.proofs.WalkLemmas.{first_value-rows, list_any-map}
 use Rattle.std.specs.List.{list_any, slice_index_or}
 use Rattle.command_words.specs.declared.Command.{Command as CommandWords}
 use Rattle.command_words.specs.Parsing.{Fails, Gives, GivesValues, IsParsed, parser_of}
-use Rattle.command_words.specs.declared.Method.{Method}
-use Rattle.command_words.specs.declared.Start.{Start}
-use Rattle.command_words.specs.Words.{Binding, Command, CommandForm, bindings, bound_given, budget_given, command_named, command_of, form_named, is_among, is_empty, is_true, limits_from, limits_given, method_given, settings_from, settings_given, start_given, value_of, workers_given}
+use Rattle.command_words.specs.Words.{Binding, Command, CommandForm, bindings, command_named, command_of, form_named, is_among, is_empty, is_true, value_of}
 use Rattle.command_words.proofs.FormMatches.{HasBindings, first_or_default, formed, later_have_heads, own_flag, refused_is, taken_is}
 
 plain_value : (form : CommandForm) (name : List ℕ) (o : Option (List ℕ)) → is_among name form.flags ≡ false → first_or_default form name o ≡ o
@@ -54,29 +52,6 @@ from_matches word form p words (Some m) is named given =
           gives_values word form taken.0 m named
           (subst (HasBindings form taken.0) (sym (given.1 ∙ ap (λ (a : App). matches_of a (map string_bytes words)) is)) taken.2);
     }
-
--- the limits and the settings, where one is not given well, and where each is
-pub no_budget : (b : List Binding) → budget_given b ≡ None → None ≡ limits_given b
-no_budget b eg = λ i. limits_from (sym eg i) (workers_given b)
-
-pub no_workers : (b : List Binding) (g : ℕ) → budget_given b ≡ Some g → workers_given b ≡ None → None ≡ limits_given b
-no_workers b g eg ew = λ i. limits_from (sym eg i) (sym ew i)
-
-pub all_limits : (b : List Binding) (g w : ℕ) → budget_given b ≡ Some g → workers_given b ≡ Some w → Some (record { budget = g; workers = w }) ≡ limits_given b
-all_limits b g w eg ew = λ i. limits_from (sym eg i) (sym ew i)
-
-pub no_method : (b : List Binding) → method_given b ≡ None → None ≡ settings_given b
-no_method b em = λ i. settings_from (sym em i) (start_given b) (bound_given b) (is_true (value_of (codes "report") b))
-
-pub no_start : (b : List Binding) (m : Method) → method_given b ≡ Some m → start_given b ≡ None → None ≡ settings_given b
-no_start b m em es = λ i. settings_from (sym em i) (sym es i) (bound_given b) (is_true (value_of (codes "report") b))
-
-pub no_bound : (b : List Binding) (m : Method) (s : Start) → method_given b ≡ Some m → start_given b ≡ Some s → bound_given b ≡ None → None ≡ settings_given b
-no_bound b m s em es en = λ i. settings_from (sym em i) (sym es i) (sym en i) (is_true (value_of (codes "report") b))
-
-pub all_settings : (b : List Binding) (m : Method) (s : Start) (n : ℕ) (r : Bool) → method_given b ≡ Some m → start_given b ≡ Some s → bound_given b ≡ Some n
-    → r ≡ is_true (value_of (codes "report") b) → Some (record { method = m; start = s; bound = n; report = r }) ≡ settings_given b
-all_settings b m s n r em es en er = λ i. settings_from (sym em i) (sym es i) (sym en i) (er i)
 
 pub gives_none : (found : Option CommandWords) (command : Option Command) → found ≡ None → command ≡ None → Gives found command
 gives_none found command none is = subst (λ o. Gives o command) (sym none) is
