@@ -3,7 +3,7 @@ use Rattle.std.proofs.Common.{◌≡◌, ℕ, List, [], ◌∷◌, false, refl}
 use Rattle.serde_json.specs.Written.{has_float}
 use Rattle.search_history.specs.declared.log.Log.{Log}
 use Rattle.search_history.specs.declared.log.RoundLog.{RoundLog}
-use Rattle.search_report.specs.declared.methods.Method.{Method}
+use Rattle.command_words.specs.declared.Method.{Method}
 use Rattle.search_report.specs.Report.{sizes_array, round_object, rounds_array, report_object}
 
 sizes_exact : (sizes : List ℕ) → has_float (sizes_array sizes) ≡ false

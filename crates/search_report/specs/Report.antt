@@ -7,8 +7,8 @@ use Rattle.search_history.specs.declared.log.LogEnd.{LogEnd}
 use Rattle.search_history.specs.declared.log.LogEnd.TheVariants.{Closed, Refuted, Real, Spent}
 use Rattle.search_history.specs.declared.log.RoundLog.{RoundLog}
 use Rattle.search_history.specs.declared.log.Log.{Log}
-use Rattle.search_report.specs.declared.methods.Method.{Method}
-use Rattle.search_report.specs.declared.methods.Method.TheVariants.{Predicates, Length}
+use Rattle.command_words.specs.declared.Method.{Method}
+use Rattle.command_words.specs.declared.Method.TheVariants.{Predicates, Length}
 
 abbrev pub method_name : Method → List ℕ
 method_name Predicates = codes "predicates"

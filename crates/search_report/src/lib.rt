@@ -2,8 +2,6 @@
 //! the log.
 #![tactic(auto)]
 
-mod methods;
 mod writing;
 
-pub use methods::Method;
 pub use writing::report;

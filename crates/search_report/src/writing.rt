@@ -5,7 +5,7 @@ ghost use Rattle.std.specs.Prelude.{◌≡◌, ◌-◌, IfOk, length, slice_get}
 ghost use Rattle.serde_json.specs.View.{view};
 ghost use Rattle.search_report.specs.Report.{method_name, end_name, end_verdict, verdict_of, sizes_array, round_object, rounds_array, report_object, report_text};
 
-use crate::methods::Method;
+use command_words::Method;
 use search_history::{Log, LogEnd, RoundLog};
 use serde_json::{Value, json};
 use std::alloc::{AllocError, Global};
