@@ -1,47 +1,31 @@
 -- Elements of lists.
-use Rattle.std.proofs.Common.{◌≡◌, ◌==◌, ◌<◌, ◌≤◌, ◌+◌, ◌-◌, ◌||◌, ℕ, Bool, true, false, List, [], ◌∷◌, ◌++◌, Contains, All, cond, length, get_or, sym, ap, subst, ◌∙◌, inl, inr, arith, eq-eqb, eqb-true, nat_lt, lt-ltb, ltb-true, add-one, zero-add, take, drop}
+use Rattle.std.proofs.Common.{◌≡◌, ◌==◌, ◌<◌, ◌≤◌, ◌+◌, ◌-◌, ℕ, Bool, true, false, List, [], ◌∷◌, ◌++◌, Contains, All, cond, length, get_or, sym, ap, subst, ◌∙◌, inl, inr, arith, eq-eqb, eqb-true, nat_lt, lt-ltb, ltb-true, add-one, zero-add, take, drop}
 use Rattle.std.specs.List.{range_with_len, filter}
-use Rattle.std.proofs.lemmas.Bool.{cases_Bool, false≢true, or_left, or_right}
+use Rattle.std.proofs.lemmas.List.Folds.{list_any_at}
+use Rattle.std.proofs.lemmas.Map.Views.{Contains-from_any}
 use Rattle.std.proofs.lemmas.List.{append-nil, map_push, take_all}
 use Rattle.protocol_model.proofs.ForCallers.{range_with_len_push}
 use Rattle.std.proofs.lemmas.List.FromFn.{length-range_with_len, get_or-range_with_len}
-use Rattle.std.proofs.lemmas.List.Elements.{All-cons, Contains-get_or, filter-append}
+use Rattle.std.proofs.lemmas.List.Elements.{All-cons, All-contains, All-contains_itself, All-filter, Contains-get_or, filter-append, filter_passes}
 use Rattle.word_automata.proofs.ForCallers.{Contains-cases, Contains-here, Contains-there, Contains-none, Contains-map, Contains-map_cases}
 use Rattle.protocol_model.specs.Moves.{is_in}
 use Rattle.protocol_model.specs.System.{AllBelow}
 use Rattle.protocol_model.specs.Words.{raised}
 
 pub is_in-Contains : (letters : List ℕ) (a : ℕ) → is_in letters a ≡ true → Contains letters a
-is_in-Contains [] a h = absurd (false≢true h)
-is_in-Contains (y ∷ ys) a h = elim (cases_Bool (y == a)) [
-  | inl here ↦ subst (Contains (y ∷ ys)) (eqb-true y a here) (Contains-here ys y)
-  | inr other ↦ Contains-there y ys a (is_in-Contains ys a (sym (ap (λ b. b || is_in ys a) other) ∙ h))
-]
+is_in-Contains letters a h = Contains-from_any {eq = λ x y. y == x} (λ x y e. sym (eqb-true y x e)) a letters h
 
 pub Contains-is_in : (letters : List ℕ) (a : ℕ) → Contains letters a → is_in letters a ≡ true
-Contains-is_in [] a h = absurd (Contains-none a h)
-Contains-is_in (y ∷ ys) a h = elim (Contains-cases y ys a h) [
-  | inl here ↦ or_left (y == a) (is_in ys a) (eq-eqb y a here)
-  | inr rest ↦ or_right (y == a) (is_in ys a) (Contains-is_in ys a rest)
-]
+Contains-is_in letters a h = list_any_at (λ y. y == a) letters h.0 a h.1 (eq-eqb (get_or letters h.0 a) a h.2)
 
 -- what a filter keeps
-pub Contains-filter_cases : {X : Type 0} (p : X → Bool) (xs : List X) (x : X) → Contains (filter p xs) x → Contains xs x × (p x ≡ true)
-Contains-filter_cases p [] x h = absurd (Contains-none x h)
-Contains-filter_cases p (y ∷ ys) x h = elim (cases_Bool (p y)) [
-  | inl pass ↦
-      let h' = subst (λ b. Contains (cond b (y ∷ filter p ys) (filter p ys)) x) pass h in
-      elim (Contains-cases y (filter p ys) x h') [
-        | inl here ↦ (subst (Contains (y ∷ ys)) here (Contains-here ys y), ap p (sym here) ∙ pass)
-        | inr rest ↦ let found = Contains-filter_cases p ys x rest in (Contains-there y ys x found.0, found.1)
-      ]
-  | inr fail ↦
-      let h' = subst (λ b. Contains (cond b (y ∷ filter p ys) (filter p ys)) x) fail h in
-      let found = Contains-filter_cases p ys x h' in
-      (Contains-there y ys x found.0, found.1)
-]
+Contains-filter_cases : {X : Type 0} (p : X → Bool) (xs : List X) (x : X) → Contains (filter p xs) x → Contains xs x × (p x ≡ true)
+Contains-filter_cases p xs x h = (
+  All-contains (Contains xs) (filter p xs) x (All-filter p (Contains xs) xs (All-contains_itself xs)) h,
+  All-contains (λ y. p y ≡ true) (filter p xs) x (filter_passes p xs) h,
+)
 
-pub Contains-filter : {X : Type 0} (p : X → Bool) (xs : List X) (x : X) → Contains xs x → p x ≡ true → Contains (filter p xs) x
+Contains-filter : {X : Type 0} (p : X → Bool) (xs : List X) (x : X) → Contains xs x → p x ≡ true → Contains (filter p xs) x
 Contains-filter p [] x h pass = absurd (Contains-none x h)
 Contains-filter p (y ∷ ys) x h pass = elim (Contains-cases y ys x h) [
   | inl here ↦
@@ -56,13 +40,13 @@ Contains-filter p (y ∷ ys) x h pass = elim (Contains-cases y ys x h) [
 ]
 
 -- the numbers below a count
-pub Contains-below_cases : (count a : ℕ) → Contains (range_with_len 0 count) a → a < count
+Contains-below_cases : (count a : ℕ) → Contains (range_with_len 0 count) a → a < count
 Contains-below_cases count a h =
     let lt : h.0 < count = omega (arith, h.1, length-range_with_len 0 count) in
     let e : 0 + h.0 ≡ a = sym (get_or-range_with_len 0 count h.0 a lt) ∙ h.2 in
     omega arith
 
-pub Contains-below : (count a : ℕ) → a < count → Contains (range_with_len 0 count) a
+Contains-below : (count a : ℕ) → a < count → Contains (range_with_len 0 count) a
 Contains-below count a lt =
     let is : 0 + a ≡ a = omega arith in
     (a, omega (arith, length-range_with_len 0 count), get_or-range_with_len 0 count a a lt ∙ is)
@@ -104,7 +88,7 @@ raisable offset count limit (a ∷ letters) below fits =
     All-cons (λ x. x + offset < limit) a letters (omega arith) (raisable offset count limit letters below.1 fits)
 
 -- the letters that are chosen below one number more
-pub chosen_more : (offset : ℕ) (test : ℕ → Bool) (n : ℕ) → raised offset (filter test (range_with_len 0 (n + 1)))
+chosen_more : (offset : ℕ) (test : ℕ → Bool) (n : ℕ) → raised offset (filter test (range_with_len 0 (n + 1)))
     ≡ cond (test n) (raised offset (filter test (range_with_len 0 n)) ++ (n + offset) ∷ []) (raised offset (filter test (range_with_len 0 n)))
 chosen_more offset test n =
     let range : range_with_len 0 (n + 1) ≡ range_with_len 0 n ++ n ∷ [] =

@@ -4,7 +4,8 @@ use Rattle.std.specs.List.{list_all, list_any, AllByRecursion}
 use Rattle.std.proofs.lemmas.Bool.{cases_Bool, false≢true, and_parts, and_from, or_cases, or_left, or_right}
 use Rattle.std.proofs.lemmas.Option.{same_Some, slice_get_within, slice_get-get_or, get_or_from_slice_get}
 use Rattle.std.proofs.lemmas.List.Folds.{list_any-append}
-use Rattle.std.proofs.lemmas.List.Elements.{Contains-push, Contains-push_cases}
+use Rattle.std.proofs.lemmas.List.Sums.{AllPass-from_list_all, list_all-from_AllPass}
+use Rattle.std.proofs.lemmas.List.Elements.{All-contains, All-from_recursion, Contains-push, Contains-push_cases}
 use Rattle.word_automata.specs.Nondeterministic.{NondeterministicAutomaton, Accepts, with_start, empty_nondeterministic}
 use Rattle.word_automata.specs.Path.{IsPath}
 use Rattle.word_automata.proofs.ForCallers.{Contains-none}
@@ -37,11 +38,13 @@ pattern_for_named (part ∷ parts) k pattern e = elim (cases_Bool (part.0 == k))
       (suc rest.0, rest.1)
 ]
 
+-- an element at a place
+Contains-place : {X : Type 0} (xs : List X) (i : ℕ) (x : X) → slice_get xs i ≡ Some x → Contains xs x
+Contains-place xs i x e = (i, slice_get_within xs i x e, get_or_from_slice_get xs i x x e)
+
 -- what all of a list have, at a place
 all_at : {X : Type 0} (P : X → Type 0) (xs : List X) → AllByRecursion P xs → (i : ℕ) (x : X) → slice_get xs i ≡ Some x → P x
-all_at P [] h i x e = cc
-all_at P (y ∷ xs) h zero x e = subst P (same_Some y x e) h.0
-all_at P (y ∷ xs) h (suc i) x e = all_at P xs h.1 i x e
+all_at P xs h i x e = All-contains P xs x (All-from_recursion P xs h) (Contains-place xs i x e)
 
 -- patterns of a valid row are those of their sections
 patterns_by : (parts : List (ℕ × Pattern)) (number : ℕ) (sections : List Section)
@@ -112,13 +115,10 @@ parts_match_at parts number (first ∷ lists) h (suc k) list e =
 
 -- a test of all elements, by places
 list_all_by : {X : Type 0} (p : X → Bool) (xs : List X) → ((i : ℕ) (x : X) → slice_get xs i ≡ Some x → p x ≡ true) → list_all p xs ≡ true
-list_all_by p [] each = refl
-list_all_by p (x ∷ xs) each = and_from (p x) (list_all p xs) (each 0 x refl) (list_all_by p xs (λ i y e. each (suc i) y e))
+list_all_by p xs each = list_all-from_AllPass p xs (λ i d h. each i (get_or xs i d) (slice_get-get_or xs i d h))
 
 list_all_get : {X : Type 0} (p : X → Bool) (xs : List X) → list_all p xs ≡ true → (i : ℕ) (x : X) → slice_get xs i ≡ Some x → p x ≡ true
-list_all_get p [] h i x e = cc
-list_all_get p (y ∷ xs) h zero x e = subst (λ z. p z ≡ true) (same_Some y x e) (and_parts (p y) (list_all p xs) h).0
-list_all_get p (y ∷ xs) h (suc i) x e = list_all_get p xs (and_parts (p y) (list_all p xs) h).1 i x e
+list_all_get p xs h i x e = All-contains (λ y. p y ≡ true) xs x (AllPass-from_list_all p xs h) (Contains-place xs i x e)
 
 module _ (sections : List Section) (row : Row) (valid : IsValidRow sections row) (c : Configuration) where
   -- a row that matches has a pattern for each list
@@ -192,8 +192,11 @@ module _ (s : SystemData) (row : Row) (mid : NondeterministicAutomaton) (start :
   row_alone new e = subst (λ n. Accepts n w ↔ IsWordOfRows s (row ∷ []) w) (sym e) (accepted_in, accepted_out)
 
 -- no configuration is matched by no row
-pub no_rows : (s : SystemData) (w : List ℕ) → IsWordOfRows s [] w → ⊥
-no_rows s w r = false≢true (and_parts (fits s r.0) false r.1).1
+pub no_rows : (s : SystemData) (rows : List Row) → rows ≡ [] → (b : Bool) (w : List ℕ) → b ≡ false → IsTrue b ↔ IsWordOfRows s rows w
+no_rows s rows none b w fails = (
+  λ accepted. absurd (false≢true (sym fails ∙ accepted)),
+  λ r. let matched = subst (λ xs. IsWordOfRows s xs w) none r in absurd (false≢true (and_parts (fits s matched.0) false matched.1).1),
+)
 
 -- a configuration that some row of two lists matches
 module _ (s : SystemData) (first second rows : List Row) (cut : rows ≡ first ++ second) where

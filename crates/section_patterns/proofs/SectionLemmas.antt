@@ -22,6 +22,10 @@ use Rattle.section_patterns.proofs.PatternLemmas.{added_then, list-map, list-tes
 abbrev pub fits_and_matches : Section → Option Pattern → List ℕ → Bool
 fits_and_matches section pattern list = list_fits section list && part_matches pattern list
 
+-- the letters of the section that the pattern matches alone, each raised by the offset
+abbrev chosen : Section → Option Pattern → ℕ → List ℕ
+chosen section pattern offset = raised offset (filter (λ a. part_matches pattern (a ∷ [])) (range_with_len 0 (letter_count section)))
+
 -- the test of a list that follows from that of its letters
 fitting : (section : Section) (pattern : Option Pattern) (list : List ℕ) → list_all (λ a. nat_lt a (letter_count section)) list ≡ true
     → (has_any_length section.kind || (length list == 1)) ≡ true → part_matches pattern list ≡ true → fits_and_matches section pattern list ≡ true
@@ -31,8 +35,8 @@ fitting section pattern list below any matches =
 
 module _ (section : Section) (pattern : Option Pattern) (offset : ℕ) (L : List ℕ → Type 0) where
   -- a cell has one letter
-  pub cell_in : (w : List ℕ) → BeginsWithLetter (raised offset (filter (λ a. part_matches pattern (a ∷ [])) (range_with_len 0 (letter_count section)))) L w
-      → BeginsWithList (λ list. list_fits section list && part_matches pattern list) offset L w
+  pub cell_in : (w : List ℕ) → BeginsWithLetter (chosen section pattern offset) L w
+      → BeginsWithList (fits_and_matches section pattern) offset L w
   cell_in w b =
       let found = raised_chosen_cases offset (letter_count section) (λ a. part_matches pattern (a ∷ [])) b.letter b.is_letter in
       record {
@@ -44,8 +48,8 @@ module _ (section : Section) (pattern : Option Pattern) (offset : ℕ) (L : List
         accepted = b.accepted;
       }
 
-  pub cell_out : has_any_length section.kind ≡ false → (w : List ℕ) → BeginsWithList (λ list. list_fits section list && part_matches pattern list) offset L w
-      → BeginsWithLetter (raised offset (filter (λ a. part_matches pattern (a ∷ [])) (range_with_len 0 (letter_count section)))) L w
+  pub cell_out : has_any_length section.kind ≡ false → (w : List ℕ) → BeginsWithList (fits_and_matches section pattern) offset L w
+      → BeginsWithLetter (chosen section pattern offset) L w
   cell_out cell w b = by b.list b.matches b.begins
     where
       single : (list : List ℕ) → fits_and_matches section pattern list ≡ true → length list ≡ 1
@@ -55,7 +59,7 @@ module _ (section : Section) (pattern : Option Pattern) (offset : ℕ) (L : List
           eqb-true (length list) 1 (sym (ap (λ b. b || (length list == 1)) cell) ∙ any)
 
       by : (list : List ℕ) → fits_and_matches section pattern list ≡ true → w ≡ raised offset list ++ b.rest
-          → BeginsWithLetter (raised offset (filter (λ a. part_matches pattern (a ∷ [])) (range_with_len 0 (letter_count section)))) L w
+          → BeginsWithLetter (chosen section pattern offset) L w
       by [] h e = absurd (omega (arith, single [] h))
       by (x ∷ []) h e =
           let parts = and_parts (list_fits section (x ∷ [])) (part_matches pattern (x ∷ [])) h in
@@ -72,11 +76,11 @@ module _ (section : Section) (pattern : Option Pattern) (offset : ℕ) (L : List
 
   -- the lists of letters that are chosen
   loop_lists : (front rest : List ℕ)
-      → All (λ a. Contains (raised offset (filter (λ a. part_matches None (a ∷ [])) (range_with_len 0 (letter_count section)))) a) front
+      → All (λ a. Contains (chosen section None offset) a) front
       → (list : List ℕ) × ((list_all (λ a. nat_lt a (letter_count section)) list ≡ true) × (front ++ rest ≡ raised offset list ++ rest))
   loop_lists [] rest all = ([], (refl, refl))
   loop_lists (x ∷ front) rest all =
-      let letters = raised offset (filter (λ a. part_matches None (a ∷ [])) (range_with_len 0 (letter_count section))) in
+      let letters = chosen section None offset in
       let found = raised_chosen_cases offset (letter_count section) (λ a. part_matches None (a ∷ [])) x (all 0 x (omega arith)) in
       let later = loop_lists front rest (All-tail (λ a. Contains letters a) x front all) in (
         found.0 ∷ later.0,
@@ -87,18 +91,18 @@ module _ (section : Section) (pattern : Option Pattern) (offset : ℕ) (L : List
       )
 
   loop_letters : (list : List ℕ) → list_all (λ a. nat_lt a (letter_count section)) list ≡ true
-      → All (λ a. Contains (raised offset (filter (λ a. part_matches None (a ∷ [])) (range_with_len 0 (letter_count section)))) a) (raised offset list)
+      → All (λ a. Contains (chosen section None offset) a) (raised offset list)
   loop_letters [] h = λ k d within. absurd (omega arith)
   loop_letters (x ∷ list) h =
-      let letters = raised offset (filter (λ a. part_matches None (a ∷ [])) (range_with_len 0 (letter_count section))) in
+      let letters = chosen section None offset in
       let parts = and_parts (nat_lt x (letter_count section)) (list_all (λ a. nat_lt a (letter_count section)) list) h in
       All-cons (λ a. Contains letters a) (x + offset) (raised offset list)
       (raised_chosen offset (letter_count section) (λ a. part_matches None (a ∷ [])) x parts.0 refl) (loop_letters list parts.1)
 
 module _ (section : Section) (offset : ℕ) (L : List ℕ → Type 0) (any : has_any_length section.kind ≡ true) where
   -- without a pattern there may be any letters
-  pub loop_in : (w : List ℕ) → BeginsWithLetters (raised offset (filter (λ a. part_matches None (a ∷ [])) (range_with_len 0 (letter_count section)))) L w
-      → BeginsWithList (λ list. list_fits section list && part_matches None list) offset L w
+  pub loop_in : (w : List ℕ) → BeginsWithLetters (chosen section None offset) L w
+      → BeginsWithList (fits_and_matches section None) offset L w
   loop_in w b =
       let found = loop_lists section None offset L b.front b.rest b.are_letters in
       record {
@@ -109,8 +113,8 @@ module _ (section : Section) (offset : ℕ) (L : List ℕ → Type 0) (any : has
         accepted = b.accepted;
       }
 
-  pub loop_out : (w : List ℕ) → BeginsWithList (λ list. list_fits section list && part_matches None list) offset L w
-      → BeginsWithLetters (raised offset (filter (λ a. part_matches None (a ∷ [])) (range_with_len 0 (letter_count section)))) L w
+  pub loop_out : (w : List ℕ) → BeginsWithList (fits_and_matches section None) offset L w
+      → BeginsWithLetters (chosen section None offset) L w
   loop_out w b =
       let fits = (and_parts (list_fits section b.list) true b.matches).0 in
       let below = (and_parts (list_all (λ a. nat_lt a (letter_count section)) b.list) (has_any_length section.kind || (length b.list == 1)) fits).0 in
@@ -125,13 +129,13 @@ module _ (section : Section) (offset : ℕ) (L : List ℕ → Type 0) (any : has
   -- with a pattern the list has letters of the section alone
   module _ (pattern : Pattern) (has : HasPatternOf (Some pattern) section) where
     pub pattern_in : (w : List ℕ) → BeginsWithList (atoms_match pattern.atoms) offset L w
-        → BeginsWithList (λ list. list_fits section list && part_matches (Some pattern) list) offset L w
+        → BeginsWithList (fits_and_matches section (Some pattern)) offset L w
     pattern_in w b =
         list-test (atoms_match pattern.atoms) (fits_and_matches section (Some pattern)) offset L
         (λ list h. fitting section (Some pattern) list (atoms_below (letter_count section) pattern.atoms has.in_range list h)
         (or_left (has_any_length section.kind) (length list == 1) any) h) w b
 
-    pub pattern_out : (w : List ℕ) → BeginsWithList (λ list. list_fits section list && part_matches (Some pattern) list) offset L w
+    pub pattern_out : (w : List ℕ) → BeginsWithList (fits_and_matches section (Some pattern)) offset L w
         → BeginsWithList (atoms_match pattern.atoms) offset L w
     pattern_out w b =
         list-test (fits_and_matches section (Some pattern)) (atoms_match pattern.atoms) offset L
@@ -253,7 +257,7 @@ module _ (parts : List (ℕ × Pattern)) (number offset separator : ℕ) (sectio
   pub section_more : (old mid late new : NondeterministicAutomaton) (behind next state : ℕ) (later : List Section)
       → IsAdded old mid behind (IsRest parts (number + 1) (offset + letter_count section) separator later)
       → IsAdded mid late next (IsBehind separator later (AcceptsFrom mid behind))
-      → IsAdded late new state (BeginsWithList (λ list. list_fits section list && part_matches (pattern_for parts number) list) offset (AcceptsFrom late next))
+      → IsAdded late new state (BeginsWithList (fits_and_matches section (pattern_for parts number)) offset (AcceptsFrom late next))
       → IsAdded old new state (IsRest parts number offset separator (section ∷ later))
   section_more old mid late new behind next state later first second third =
       let rest = IsRest parts (number + 1) (offset + letter_count section) separator later in
@@ -280,25 +284,23 @@ sections_none parts number offset separator old new state added =
 -- a cell
 pub cell_added : (section : Section) (pattern : Option Pattern) (offset : ℕ) (L : List ℕ → Type 0) (old new : NondeterministicAutomaton) (state : ℕ)
     (letters : List ℕ) → has_any_length section.kind ≡ false
-    → letters ≡ raised offset (filter (λ a. part_matches pattern (a ∷ [])) (range_with_len 0 (letter_count section)))
+    → letters ≡ chosen section pattern offset
     → IsAdded old new state (BeginsWithLetter letters L)
-    → IsAdded old new state (BeginsWithList (λ list. list_fits section list && part_matches pattern list) offset L)
+    → IsAdded old new state (BeginsWithList (fits_and_matches section pattern) offset L)
 cell_added section pattern offset L old new state letters cell are added =
-    let chosen = raised offset (filter (λ a. part_matches pattern (a ∷ [])) (range_with_len 0 (letter_count section))) in
-    added_as old new state (BeginsWithLetter chosen L) (BeginsWithList (fits_and_matches section pattern) offset L)
+    added_as old new state (BeginsWithLetter (chosen section pattern offset) L) (BeginsWithList (fits_and_matches section pattern) offset L)
     (subst (λ l. IsAdded old new state (BeginsWithLetter l L)) are added)
     (cell_in section pattern offset L) (cell_out section pattern offset L cell)
 
 -- lists of any length, with no pattern
 pub any_added : (section : Section) (pattern : Option Pattern) (offset : ℕ) (L : List ℕ → Type 0) (old new : NondeterministicAutomaton) (state : ℕ)
     (letters : List ℕ) → has_any_length section.kind ≡ true → pattern ≡ None
-    → letters ≡ raised offset (filter (λ a. part_matches None (a ∷ [])) (range_with_len 0 (letter_count section)))
+    → letters ≡ chosen section None offset
     → IsAdded old new state (BeginsWithLetters letters L)
-    → IsAdded old new state (BeginsWithList (λ list. list_fits section list && part_matches pattern list) offset L)
+    → IsAdded old new state (BeginsWithList (fits_and_matches section pattern) offset L)
 any_added section pattern offset L old new state letters any none are added =
-    let chosen = raised offset (filter (λ a. part_matches None (a ∷ [])) (range_with_len 0 (letter_count section))) in
     subst (λ o. IsAdded old new state (BeginsWithList (fits_and_matches section o) offset L)) (sym none)
-    (added_as old new state (BeginsWithLetters chosen L) (BeginsWithList (fits_and_matches section None) offset L)
+    (added_as old new state (BeginsWithLetters (chosen section None offset) L) (BeginsWithList (fits_and_matches section None) offset L)
     (subst (λ l. IsAdded old new state (BeginsWithLetters l L)) are added)
     (loop_in section offset L any) (loop_out section offset L any))
 
@@ -306,7 +308,7 @@ any_added section pattern offset L old new state letters any none are added =
 pub pattern_added : (section : Section) (given : Option Pattern) (offset : ℕ) (L : List ℕ → Type 0) (old new : NondeterministicAutomaton) (state : ℕ)
     (pattern : Pattern) (atoms : List Atom) → has_any_length section.kind ≡ true → given ≡ Some pattern → HasPatternOf given section
     → atoms ≡ pattern.atoms → IsAdded old new state (BeginsWithList (atoms_match atoms) offset L)
-    → IsAdded old new state (BeginsWithList (λ list. list_fits section list && part_matches given list) offset L)
+    → IsAdded old new state (BeginsWithList (fits_and_matches section given) offset L)
 pattern_added section given offset L old new state pattern atoms any some has are added =
     let has_some = subst (λ o. HasPatternOf o section) some has in
     subst (λ o. IsAdded old new state (BeginsWithList (fits_and_matches section o) offset L)) (sym some)
@@ -320,7 +322,7 @@ pub section_next : (parts : List (ℕ × Pattern)) (number offset separator : �
     → section ∷ later ≡ sections → count ≡ letter_count section → found ≡ pattern_for parts number
     → IsAdded old mid behind (IsRest parts (number + 1) (offset + count) separator later)
     → IsAdded mid late next (IsBehind separator later (AcceptsFrom mid behind))
-    → IsAdded late new state (BeginsWithList (λ list. list_fits section list && part_matches found list) offset (AcceptsFrom late next))
+    → IsAdded late new state (BeginsWithList (fits_and_matches section found) offset (AcceptsFrom late next))
     → IsAdded old new state (IsRest parts number offset separator sections)
 section_next parts number offset separator sections later section count found old mid late new behind next state whole counts finds first second third =
     subst (λ xs. IsAdded old new state (IsRest parts number offset separator xs)) whole

@@ -1,8 +1,10 @@
 -- States that are added in front of others.
-use Rattle.std.proofs.Common.{◌≡◌, ◌==◌, ◌<◌, ◌≤◌, ◌+◌, ◌↔◌, ℕ, zero, suc, Bool, true, false, List, [], ◌∷◌, ◌++◌, Option, None, Some, map, length, Contains, All, IsTrue, if◌then◌else◌, inl, inr, refl, sym, ap, subst, ◌∙◌, arith, eq-eqb, ne_eqb, append_assoc}
+use Rattle.std.proofs.Common.{◌≡◌, ◌==◌, ◌<◌, ◌≤◌, ◌+◌, ◌↔◌, ℕ, Bool, true, false, List, [], ◌∷◌, ◌++◌, Option, None, Some, map, length, slice_get, get_or, Contains, All, IsTrue, if◌then◌else◌, inl, inr, refl, sym, ap, subst, ◌∙◌, arith, eq-eqb, ne_eqb, append_assoc}
 use Rattle.std.proofs.lemmas.List.{append-nil, map_push, length_push}
 use Rattle.std.proofs.lemmas.List.Elements.{All-cons, All-tail}
 use Rattle.std.proofs.lemmas.Bool.{false≢true}
+use Rattle.std.proofs.lemmas.Option.{slice_get-get_or}
+use Rattle.sequence.proofs.ForCallers.{slice_get-append_left, slice_get-push_last}
 use Rattle.word_automata.specs.Path.{Node, edges_of, is_accepting, IsPath, spelled, spelled_one}
 use Rattle.word_automata.specs.Nondeterministic.{NondeterministicAutomaton, IsInRange, AddsMove, with_nondeterministic_state}
 use Rattle.word_automata.proofs.ForCallers.{move_within, Contains-cases, Contains-here, Contains-there, Contains-none, Contains-map}
@@ -195,26 +197,36 @@ module _ (old new : NondeterministicAutomaton) (extends : Extends old new) (rang
         λ b. subst (AcceptsFrom new state) (sym b.joined) (loops_out b.front b.rest b.are_letters b.accepted),
       ))
 
--- the states before a state that is added at the end, and that state
-edges_of-push : (states : List (Node (Option ℕ))) (node : Node (Option ℕ)) (q : ℕ) → q < length states
-    → edges_of (states ++ node ∷ []) q ≡ edges_of states q
-edges_of-push [] node q h = absurd (omega arith)
-edges_of-push (s ∷ states) node zero h = refl
-edges_of-push (s ∷ states) node (suc q) h = edges_of-push states node q (omega arith)
+-- a state that is added at the end, and the states before it
+place_before : {X : Type 0} (xs : List X) (x : X) (k : ℕ) → k < length xs → slice_get (xs ++ x ∷ []) k ≡ slice_get xs k
+place_before xs x k h =
+    let there = slice_get-get_or xs k x h in slice_get-append_left xs (x ∷ []) k (get_or xs k x) there ∙ sym there
 
-edges_of-last : (states : List (Node (Option ℕ))) (node : Node (Option ℕ)) → edges_of (states ++ node ∷ []) (length states) ≡ node.edges
-edges_of-last [] node = refl
-edges_of-last (s ∷ states) node = edges_of-last states node
+-- new is old with one state more, which has no edges
+record Grows (old new : NondeterministicAutomaton) (state : ℕ) (accepting : Bool) : Type 0 where
+  extends : Extends old new
+  size : length new.states ≡ length old.states + 1
+  accepts : is_accepting new.states state ≡ accepting
+  no_edges : edges_of new.states state ≡ []
 
-is_accepting-push : (states : List (Node (Option ℕ))) (node : Node (Option ℕ)) (q : ℕ) → q < length states
-    → is_accepting (states ++ node ∷ []) q ≡ is_accepting states q
-is_accepting-push [] node q h = absurd (omega arith)
-is_accepting-push (s ∷ states) node zero h = refl
-is_accepting-push (s ∷ states) node (suc q) h = is_accepting-push states node q (omega arith)
-
-is_accepting-last : (states : List (Node (Option ℕ))) (node : Node (Option ℕ)) → is_accepting (states ++ node ∷ []) (length states) ≡ node.accepting
-is_accepting-last [] node = refl
-is_accepting-last (s ∷ states) node = is_accepting-last states node
+grows : (old new : NondeterministicAutomaton) (state : ℕ) (accepting : Bool) → state ≡ length old.states
+    → new ≡ with_nondeterministic_state old accepting → Grows old new state accepting
+grows old new state accepting is grown =
+    let bare : Node (Option ℕ) = record { accepting = accepting; edges = [] } in
+    let last = slice_get-push_last old.states bare in
+    subst (λ n. Grows old n state accepting) (sym grown)
+    (subst (λ q. Grows old (with_nondeterministic_state old accepting) q accepting) (sym is) (record {
+      extends = record {
+        same_letters = refl;
+        same_starts = refl;
+        more = omega (arith, length_push old.states bare);
+        same_acceptance = λ q h. ap (λ o. elim o as (λ v. Bool) [ None ↦ false | Some node ↦ node.accepting ]) (place_before old.states bare q h);
+        same_edges = λ q h. ap (λ o. elim o as (λ v. List (Option ℕ × ℕ)) [ None ↦ [] | Some node ↦ node.edges ]) (place_before old.states bare q h);
+      };
+      size = length_push old.states bare;
+      accepts = ap (λ o. elim o as (λ v. Bool) [ None ↦ false | Some node ↦ node.accepting ]) last;
+      no_edges = ap (λ o. elim o as (λ v. List (Option ℕ × ℕ)) [ None ↦ [] | Some node ↦ node.edges ]) last;
+    }))
 
 module _ (old mid new : NondeterministicAutomaton) (state next : ℕ) (letters : List ℕ) (range : IsInRange old) (within : next < length old.states)
     (is : state ≡ length old.states) (grown : mid ≡ with_nondeterministic_state old false) where
@@ -224,104 +236,69 @@ module _ (old mid new : NondeterministicAutomaton) (state next : ℕ) (letters :
   here : (state == state) ≡ true
   here = eq-eqb state state refl
 
-  mid_size : length mid.states ≡ length old.states + 1
-  mid_size = ap (λ n. length n.states) grown ∙ length_push old.states (record { accepting = false; edges = [] })
-
-  mid_edges : (q : ℕ) → q < length old.states → edges_of mid.states q ≡ edges_of old.states q
-  mid_edges q h = ap (λ n. edges_of n.states q) grown ∙ edges_of-push old.states (record { accepting = false; edges = [] }) q h
-
-  mid_accepting : (q : ℕ) → q < length old.states → is_accepting mid.states q ≡ is_accepting old.states q
-  mid_accepting q h = ap (λ n. is_accepting n.states q) grown ∙ is_accepting-push old.states (record { accepting = false; edges = [] }) q h
-
-  mid_last_edges : edges_of mid.states state ≡ []
-  mid_last_edges = ap (λ n. edges_of n.states state) grown
-      ∙ ap (λ q. edges_of (old.states ++ record { accepting = false; edges = [] } ∷ []) q) is
-      ∙ edges_of-last old.states (record { accepting = false; edges = [] })
-
-  mid_last_accepting : is_accepting mid.states state ≡ false
-  mid_last_accepting = ap (λ n. is_accepting n.states state) grown
-      ∙ ap (λ q. is_accepting (old.states ++ record { accepting = false; edges = [] } ∷ []) q) is
-      ∙ is_accepting-last old.states (record { accepting = false; edges = [] })
+  first : Grows old mid state false
+  first = grows old mid state false is grown
 
   -- a new state with an edge on each of the letters
   pub step_after : AddsLetterEdges mid new state letters next → IsAdded old new state (BeginsWithLetter letters (AcceptsFrom old next))
   step_after adds =
       let extends : Extends old new = record {
-        same_letters = adds.same_letters ∙ ap (λ n. n.letters) grown;
-        same_starts = adds.same_starts ∙ ap (λ n. n.starts) grown;
-        more = omega (arith, adds.same_size, mid_size);
-        same_acceptance = λ q h. adds.same_acceptance q ∙ mid_accepting q h;
+        same_letters = adds.same_letters ∙ first.extends.same_letters;
+        same_starts = adds.same_starts ∙ first.extends.same_starts;
+        more = omega (arith, adds.same_size, first.size);
+        same_acceptance = λ q h. adds.same_acceptance q ∙ first.extends.same_acceptance q h;
         same_edges = λ q h. adds.edges q
-            ∙ ap (λ b. if b then edges_of mid.states q ++ map (λ a. (Some a, next)) letters else edges_of mid.states q) (other q h) ∙ mid_edges q h;
+            ∙ ap (λ b. if b then edges_of mid.states q ++ map (λ a. (Some a, next)) letters else edges_of mid.states q) (other q h) ∙ first.extends.same_edges q h;
       } in
       let edges : edges_of new.states state ≡ map (λ a. (Some a, next)) letters =
       adds.edges state
       ∙ ap (λ b. if b then edges_of mid.states state ++ map (λ a. (Some a, next)) letters else edges_of mid.states state) here
-      ∙ ap (λ edges. edges ++ map (λ a. (Some a, next)) letters) mid_last_edges in
-      step_added old new extends range state next letters within (omega (arith, adds.same_size, mid_size))
-      (adds.same_acceptance state ∙ mid_last_accepting) edges
+      ∙ ap (λ edges. edges ++ map (λ a. (Some a, next)) letters) first.no_edges in
+      step_added old new extends range state next letters within (omega (arith, adds.same_size, first.size))
+      (adds.same_acceptance state ∙ first.accepts) edges
 
   -- a new state with an edge to the next one and, on each of the letters, to itself
   pub loop_after : (late : NondeterministicAutomaton) → AddsMove mid late state None next → AddsLetterEdges late new state letters state
       → IsAdded old new state (BeginsWithLetters letters (AcceptsFrom old next))
   loop_after late moves adds =
       let extends : Extends old new = record {
-        same_letters = adds.same_letters ∙ moves.same_letters ∙ ap (λ n. n.letters) grown;
-        same_starts = adds.same_starts ∙ moves.same_starts ∙ ap (λ n. n.starts) grown;
-        more = omega (arith, adds.same_size, moves.same_size, mid_size);
-        same_acceptance = λ q h. adds.same_acceptance q ∙ moves.same_acceptance q ∙ mid_accepting q h;
+        same_letters = adds.same_letters ∙ moves.same_letters ∙ first.extends.same_letters;
+        same_starts = adds.same_starts ∙ moves.same_starts ∙ first.extends.same_starts;
+        more = omega (arith, adds.same_size, moves.same_size, first.size);
+        same_acceptance = λ q h. adds.same_acceptance q ∙ moves.same_acceptance q ∙ first.extends.same_acceptance q h;
         same_edges = λ q h. adds.edges q
             ∙ ap (λ b. if b then edges_of late.states q ++ map (λ a. (Some a, state)) letters else edges_of late.states q) (other q h)
             ∙ moves.edges q
             ∙ ap (λ b. if b then edges_of mid.states q ++ (None, next) ∷ [] else edges_of mid.states q) (other q h)
-            ∙ mid_edges q h;
+            ∙ first.extends.same_edges q h;
       } in
       let edges : edges_of new.states state ≡ (None, next) ∷ map (λ a. (Some a, state)) letters =
       adds.edges state
       ∙ ap (λ b. if b then edges_of late.states state ++ map (λ a. (Some a, state)) letters else edges_of late.states state) here
       ∙ ap (λ edges. edges ++ map (λ a. (Some a, state)) letters)
       (moves.edges state ∙ ap (λ b. if b then edges_of mid.states state ++ (None, next) ∷ [] else edges_of mid.states state) here
-      ∙ ap (λ edges. edges ++ (None, next) ∷ []) mid_last_edges) in
-      loop_added old new extends range state next letters within (omega (arith, adds.same_size, moves.same_size, mid_size))
-      (adds.same_acceptance state ∙ moves.same_acceptance state ∙ mid_last_accepting) edges
+      ∙ ap (λ edges. edges ++ (None, next) ∷ []) first.no_edges) in
+      loop_added old new extends range state next letters within (omega (arith, adds.same_size, moves.same_size, first.size))
+      (adds.same_acceptance state ∙ moves.same_acceptance state ∙ first.accepts) edges
 
 -- a new state that accepts, without an edge
 pub end_after : (old new : NondeterministicAutomaton) (state : ℕ) → IsInRange old → state ≡ length old.states
     → new ≡ with_nondeterministic_state old true → IsAdded old new state (λ w. w ≡ [])
 end_after old new state range is grown = record {
-  same_letters = extends.same_letters;
-  same_starts = extends.same_starts;
-  more = extends.more;
-  is_state = omega (arith, size);
-  kept = same_accepted old new extends range;
+  same_letters = last.extends.same_letters;
+  same_starts = last.extends.same_starts;
+  more = last.extends.more;
+  is_state = omega (arith, last.size);
+  kept = same_accepted old new last.extends range;
   accepts = λ w. (
     λ r. sym (by r.moves r.end r.path ∙ r.spells),
-    λ e. record { moves = []; end = state; path = refl; accepting = accepts; spells = sym e },
+    λ e. record { moves = []; end = state; path = refl; accepting = last.accepts; spells = sym e },
   );
 }
   where
-    size : length new.states ≡ length old.states + 1
-    size = ap (λ n. length n.states) grown ∙ length_push old.states (record { accepting = true; edges = [] })
-
-    extends : Extends old new
-    extends = record {
-      same_letters = ap (λ n. n.letters) grown;
-      same_starts = ap (λ n. n.starts) grown;
-      more = omega (arith, size);
-      same_acceptance = λ q h. ap (λ n. is_accepting n.states q) grown ∙ is_accepting-push old.states (record { accepting = true; edges = [] }) q h;
-      same_edges = λ q h. ap (λ n. edges_of n.states q) grown ∙ edges_of-push old.states (record { accepting = true; edges = [] }) q h;
-    }
-
-    no_edges : edges_of new.states state ≡ []
-    no_edges = ap (λ n. edges_of n.states state) grown
-        ∙ ap (λ q. edges_of (old.states ++ record { accepting = true; edges = [] } ∷ []) q) is
-        ∙ edges_of-last old.states (record { accepting = true; edges = [] })
-
-    accepts : is_accepting new.states state ≡ true
-    accepts = ap (λ n. is_accepting n.states state) grown
-        ∙ ap (λ q. is_accepting (old.states ++ record { accepting = true; edges = [] } ∷ []) q) is
-        ∙ is_accepting-last old.states (record { accepting = true; edges = [] })
+    last : Grows old new state true
+    last = grows old new state true is grown
 
     by : (moves : List (Option ℕ × ℕ)) (end : ℕ) → IsPath new.states state moves end → [] ≡ spelled (λ l. l) moves
     by [] end path = refl
-    by (move ∷ moves) end path = absurd (Contains-none move (subst (λ edges. Contains edges move) no_edges path.0))
+    by (move ∷ moves) end path = absurd (Contains-none move (subst (λ edges. Contains edges move) last.no_edges path.0))

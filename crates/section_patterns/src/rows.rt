@@ -32,12 +32,12 @@ pub(crate) fn words_of_rows(
         return no_words(alloc, system);
     }
     if rows.len() == 1 {
-        return Ok(words_of_row(alloc, system, &rows[0])?);
+        return words_of_row(alloc, system, &rows[0]);
     }
     let (first, second) = rows.split_at(rows.len() / 2);
     let a = words_of_rows(alloc, system, first)?;
     let b = words_of_rows(alloc, system, second)?;
-    Ok(united(alloc, &a, &b)?)
+    united(alloc, &a, &b)
 }
 
 /// The canonical automaton of no word.
