@@ -150,7 +150,8 @@ fn copying_states(
     parts: &[(usize, bool, &[(Label, usize)])],
 ) -> Result<Vec<State>, AllocError>
     requires { alphabet.offset + alphabet.count < 2 ^ 32 }
-    ensures { IfOk result (λ states. states.items ≡ map (λ part. copying_state alphabet.offset alphabet.count part.0 part.1 part.2.now) parts.now) }
+    ensures { IfOk result (λ states. states.items
+        ≡ map (λ part. copying_state alphabet.offset alphabet.count part.0 part.1 part.2.now) parts.now) }
 {
     let mut states = Vec::with_capacity(alloc, parts.len())?;
     'parts: for part in parts {
