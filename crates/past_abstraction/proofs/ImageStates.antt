@@ -171,36 +171,34 @@ images_of_state a valid set lists more i within before puts letter q = (
     last : List (ℕ × ℕ)
     last = edges_of a.states (get_or set i 0)
 
--- lists of which those of letters before a place have no state any more
-pub record AreImagesFrom {A : Type 0} (a : Automaton) (set : List ℕ) (at : ℕ) (lists : List (Vec ℕ A)) : Type 0 where
-  pub count : length lists ≡ a.letters
+-- lists that have, for each letter, the states with a property, but those of letters before a place have no state any more
+pub record AreListsFrom {A : Type 0} (HasState : ℕ → ℕ → Type 0) (letters at : ℕ) (lists : List (Vec ℕ A)) : Type 0 where
+  pub count : length lists ≡ letters
   pub earlier : (letter q : ℕ) → letter < at → IsListed lists letter q → ⊥
-  pub later : (letter q : ℕ) → at ≤ letter → IsListed lists letter q ↔ LeadsFrom a set letter q
+  pub later : (letter q : ℕ) → at ≤ letter → IsListed lists letter q ↔ HasState letter q
 
-pub first_images : {A : Type 0} (a : Automaton) (set : List ℕ) (lists : List (Vec ℕ A)) → length lists ≡ a.letters → AreImages a set lists → AreImagesFrom a set 0 lists
-first_images a set lists count images = record { count = count; earlier = λ letter q less. absurd (omega arith); later = λ letter q from. images letter q }
+pub first_lists : {A : Type 0} (HasState : ℕ → ℕ → Type 0) (letters : ℕ) (lists : List (Vec ℕ A)) → length lists ≡ letters
+    → ((letter q : ℕ) → IsListed lists letter q ↔ HasState letter q) → AreListsFrom HasState letters 0 lists
+first_lists HasState letters lists count are = record { count = count; earlier = λ letter q less. absurd (omega arith); later = λ letter q from. are letter q }
 
-pub no_images : {A : Type 0} (a : Automaton) (set : List ℕ) (at : ℕ) (lists : List (Vec ℕ A)) → length lists ≤ at → AreImagesFrom a set at lists → HasEmptyLists a.letters lists
-no_images a set at lists all from = record {
+pub no_lists : {A : Type 0} (HasState : ℕ → ℕ → Type 0) (letters at : ℕ) (lists : List (Vec ℕ A)) → letters ≤ at → AreListsFrom HasState letters at lists → HasEmptyLists letters lists
+no_lists HasState letters at lists all from = record {
   count = from.count;
-  empty = λ letter q there. from.earlier letter q (let within = slice_get_within lists letter there.0 there.1 in omega arith) there;
+  empty = λ letter q there. from.earlier letter q (let within = slice_get_within lists letter there.0 there.1 in let n = from.count in omega arith) there;
 }
 
-module _ {A : Type 0} (a : Automaton) (states : List ℕ) (at : ℕ) (lists : List (Vec ℕ A)) (list : Vec ℕ A)
-    (within : at < length lists) (list_is : list ≡ get_or lists at list) (from : AreImagesFrom a states at lists) where
-  -- the list at the place is an image
-  pub is_image : (q : ℕ) → Contains list.items q ↔ LeadsFrom a states at q
-  is_image q = (
+module _ {A : Type 0} (HasState : ℕ → ℕ → Type 0) (letters at : ℕ) (lists : List (Vec ℕ A)) (list : Vec ℕ A)
+    (within : at < length lists) (list_is : list ≡ get_or lists at list) (from : AreListsFrom HasState letters at lists) where
+  -- the list at the place has the states with the property
+  pub is_list_of : (q : ℕ) → Contains list.items q ↔ HasState at q
+  is_list_of q = (
     λ there. (from.later at q (omega arith)).0 (old_here lists at list list within list_is q there),
-    λ leads. here_old lists at list list within list_is q ((from.later at q (omega arith)).1 leads),
+    λ has. here_old lists at list list within list_is q ((from.later at q (omega arith)).1 has),
   )
 
-  pub image_of_states : IsValid a → All (λ p. p < length a.states) list.items
-  image_of_states valid = All-from_contains (λ p. p < length a.states) list.items (λ q there. let step = (is_image q).0 there in target_within a valid step.0 at q step.2)
-
   -- and is cleared
-  pub images_from_next : (less : Vec ℕ A) → less.items ≡ [] → AreImagesFrom a states (at + 1) (set lists at less)
-  images_from_next less none = record {
+  pub lists_from_next : (less : Vec ℕ A) → less.items ≡ [] → AreListsFrom HasState letters (at + 1) (set lists at less)
+  lists_from_next less none = record {
     count = length-set lists at less ∙ from.count;
     earlier = λ letter q before there. elim (cases_eq letter at) [
       | inl e ↦ Contains-none q (subst (λ xs. Contains xs q) none (new_here lists at list less within list_is q (subst (λ x. IsListed (set lists at less) x q) e there)))
@@ -209,8 +207,12 @@ module _ {A : Type 0} (a : Automaton) (states : List ℕ) (at : ℕ) (lists : Li
     later = λ letter q next.
         let ne : letter ≡ at → ⊥ = (λ e. omega (arith, e, next)) in
         let same = from.later letter q (omega arith) in
-        (λ there. same.0 (other_old lists at list less within list_is letter q ne there), λ leads. other_kept lists at list less within list_is letter q ne (same.1 leads));
+        (λ there. same.0 (other_old lists at list less within list_is letter q ne there), λ has. other_kept lists at list less within list_is letter q ne (same.1 has));
   }
+
+-- images are of states
+pub image_of_states : (a : Automaton) → IsValid a → (states image : List ℕ) (letter : ℕ) → ((q : ℕ) → Contains image q ↔ LeadsFrom a states letter q) → All (λ p. p < length a.states) image
+image_of_states a valid states image letter is = All-from_contains (λ p. p < length a.states) image (λ q there. let step = (is q).0 there in target_within a valid step.0 letter q step.2)
 
 -- the states of a list, sorted, each once
 pub same_taken : (states sorted once others : List ℕ) → IsPermutation states sorted → IsFiltered (DiffersFromLast eqb) [] sorted once → others ≡ once → HaveSameStates states others

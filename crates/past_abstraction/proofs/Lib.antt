@@ -1,4 +1,8 @@
 pub mod Adding
-pub mod Classes
+pub mod Expanding
 pub mod ImageStates
+pub mod PastClasses
+pub mod PreimageStates
+pub mod Reversed
 pub mod Rounds
+pub mod WordClasses

@@ -18,11 +18,11 @@ last_letter (first ∷ w) = elim (last_letter w) [
 ]
 
 -- a path along a word and one more letter
-last_step : (a : Automaton) (w : List ℕ) (p letter q : ℕ) → LeadsTo a p (w ++ letter ∷ []) q → (r : ℕ) × LeadsTo a p w r × (target a r letter ≡ Some q)
+pub last_step : (a : Automaton) (w : List ℕ) (p letter q : ℕ) → LeadsTo a p (w ++ letter ∷ []) q → (r : ℕ) × LeadsTo a p w r × (target a r letter ≡ Some q)
 last_step a [] p letter q (r, leads, here) = (p, refl, leads ∙ ap Some here)
 last_step a (first ∷ w) p letter q (r, leads, rest) = let last = last_step a w r letter q rest in (last.0, (r, leads, last.1), last.2)
 
-step_more : (a : Automaton) (w : List ℕ) (p letter q r : ℕ) → LeadsTo a p w r → target a r letter ≡ Some q → LeadsTo a p (w ++ letter ∷ []) q
+pub step_more : (a : Automaton) (w : List ℕ) (p letter q r : ℕ) → LeadsTo a p w r → target a r letter ≡ Some q → LeadsTo a p (w ++ letter ∷ []) q
 step_more a [] p letter q r here leads = (q, subst (λ s. target a s letter ≡ Some q) (sym here) leads, refl)
 step_more a (first ∷ w) p letter q r (s, to, rest) leads = (s, to, step_more a w s letter q r rest leads)
 

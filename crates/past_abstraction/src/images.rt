@@ -46,8 +46,8 @@ pub fn put_images(a: &Dfa, set: &[usize], lists: &mut Vec<Vec<usize>>) -> Result
     Ok(())
 }
 
-/// Puts the targets of the edges into the lists of their letters.
-fn put_edges(edges: &[(u32, usize)], lists: &mut Vec<Vec<usize>>) -> Result<(), AllocError>
+/// Puts the states of the edges, each a letter and a state, into the lists of their letters.
+pub fn put_edges(edges: &[(u32, usize)], lists: &mut Vec<Vec<usize>>) -> Result<(), AllocError>
     requires { All (λ edge. edge.0 < length lists.old.items) edges.now }
     ensures { OnOk result (PutsEdges edges.now lists.old.items lists.new.items) }
 {
@@ -85,6 +85,14 @@ pub fn take_states(
     if is_long(a, list) {
         return take_marked(alloc, a, list, marks);
     }
+    take_sorted(alloc, list)
+}
+
+/// The states of the list in their order, each once, by sorting, and the list without them.
+pub fn take_sorted(alloc: Global, list: &mut Vec<usize>) -> Result<StateSet, AllocError>
+    ensures same { IfOk result (HaveSameStates list.old.items) }
+    ensures cleared { OnOk result (list.new.items ≡ []) }
+{
     list.sort_unstable();
     list.dedup();
     Ok(take_all(alloc, list)?)

@@ -2,8 +2,12 @@
 //! set makes the bound one more.
 #![tactic(auto)]
 
+mod classes;
+mod construction;
 mod images;
+mod past_automaton;
 mod pasts;
+mod preimages;
 mod word_sets;
 
 pub use pasts::Pasts;

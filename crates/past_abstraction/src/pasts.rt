@@ -1,6 +1,6 @@
 //! The abstraction by words of bounded length that lead into states. The sets of states into which words lead come from those of words
 //! that are one letter shorter, as in the subset construction (M. O. Rabin and D. Scott, 1959) from all states at once, and split the
-//! classes one after the other.
+//! classes one after the other. Where they are many, so are sets of the reversed automaton found from each single state.
 
 ghost use Rattle.std.specs.Prelude.{◌≡◌, IsOk};
 ghost use Rattle.abstraction.specs.Bounds.{up_to, next_bound, next_key};
@@ -8,7 +8,7 @@ ghost use Rattle.abstraction.specs.BoundLaws.{next_key-over};
 ghost use Rattle.past_abstraction.specs.Pasts.{is_related};
 ghost use Rattle.past_abstraction.specs.PastLaws.{related-equivalence, related-finer};
 
-use crate::word_sets::classes_by_words;
+use crate::classes::classes_by_words;
 use abstraction::{Abstraction, Refinable};
 use minimise::Canon;
 use std::alloc::{AllocError, Global};

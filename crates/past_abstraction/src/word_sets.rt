@@ -1,9 +1,9 @@
 //! Classes of states by the sets of states into which words lead. A round adds the images of the sets that the round before it added, and
 //! splits the classes by those that are new. The rounds end where one adds no set, or where one with many sets finds each state alone in
-//! its class. Each set is expanded once, in the time of the edges out of it and the letters up to sorting short lists, and looked up by
-//! its hash.
+//! its class, and are given up where the sets are too large together. Each set is expanded once, in the time of the edges out of it
+//! and the letters up to sorting short lists, and looked up by its hash.
 
-ghost use Rattle.std.specs.Prelude.{◌≡◌, ◌<◌, ◌≤◌, ◌+◌, ℕ, All, IsTrue, IfOk, OnOk, length, slice_index, slice_index_or, []};
+ghost use Rattle.std.specs.Prelude.{◌≡◌, ◌<◌, ◌≤◌, ◌+◌, ℕ, All, IsTrue, IfOk, IfSome, OnOk, length, slice_index, slice_index_or, []};
 ghost use Rattle.abstraction.specs.Merging.{AreClasses};
 ghost use Rattle.abstraction.specs.Bounds.{up_to};
 ghost use Rattle.past_abstraction.specs.Pasts.{is_related};
@@ -20,9 +20,18 @@ use word_automata::Dfa;
 /// A round looks whether each state is alone where it has at least this part of as many sets as there are states.
 const SINGLE_PART: usize = 4;
 
-/// The classes of states into which the same words of at most so many letters lead.
-pub fn classes_by_words(alloc: Global, a: &Dfa, bound: u64) -> Result<Vec<usize>, AllocError>
-    ensures { IfOk result (λ classes. AreClasses (is_related (up_to bound) a.now) (length a.now.states) classes.items) }
+/// The rounds are given up where the sets that were gone on from have together so many states for each state.
+const LOOKED_PER_STATE: usize = 1024;
+
+/// The classes of states into which the same words of at most so many letters lead, or `None` where the sets of words are too many, which
+/// promises nothing.
+pub fn classes_by_word_sets(
+    alloc: Global,
+    a: &Dfa,
+    bound: u64,
+) -> Result<Option<Vec<usize>>, AllocError>
+    ensures { IfOk result (λ found. IfSome found (λ classes. AreClasses (is_related (up_to bound) a.now) (length a.now.states)
+        classes.items)) }
 {
     let mut blocks = one_block(alloc, a)?;
     let mut sets = IndexSet::new(alloc);
@@ -37,10 +46,11 @@ fn classes_from(
     bound: u64,
     sets: &mut IndexSet<StateSet>,
     blocks: &mut Partition,
-) -> Result<Vec<usize>, AllocError>
+) -> Result<Option<Vec<usize>>, AllocError>
     requires before { AreBlocksOf a.now sets.old.keys blocks.old }
     requires words { AreWordSets a.now 0 0 sets.old.keys }
-    ensures { IfOk result (λ classes. AreClasses (is_related (up_to bound) a.now) (length a.now.states) classes.items) }
+    ensures { IfOk result (λ found. IfSome found (λ classes. AreClasses (is_related (up_to bound) a.now) (length a.now.states)
+        classes.items)) }
 {
     let mut lists = empty_lists(alloc, a.letters())?;
     let mut marks = no_marks(alloc, a)?;
@@ -56,29 +66,36 @@ fn classes_by_rounds(
     marks: &mut BitSet,
     sets: &mut IndexSet<StateSet>,
     blocks: &mut Partition,
-) -> Result<Vec<usize>, AllocError>
+) -> Result<Option<Vec<usize>>, AllocError>
     requires lists { HasEmptyLists a.now.letters lists.old.items }
     requires marks { HasNoMarks (length a.now.states) marks.old }
     requires before { AreBlocksOf a.now sets.old.keys blocks.old }
     requires words { AreWordSets a.now 0 0 sets.old.keys }
-    ensures { IfOk result (λ classes. AreClasses (is_related (up_to bound) a.now) (length a.now.states) classes.items) }
+    ensures { IfOk result (λ found. IfSome found (λ classes. AreClasses (is_related (up_to bound) a.now) (length a.now.states)
+        classes.items)) }
 {
     let mut first = 0;
+    let mut looked = 0;
     'rounds: for _ in 0..bound {
         let end = sets.len();
         if first == end {
-            return blocks.classes(alloc);
+            let stable = blocks.classes(alloc)?;
+            return Ok(Some(stable));
         }
         if are_many(a, first, end) {
             let classes = blocks.classes(alloc)?;
             if are_single(&classes) {
-                return Ok(classes);
+                return Ok(Some(classes));
             }
         }
-        add_images_from(alloc, a, lists, marks, sets, blocks, first)?;
+        let whole = add_images_from(alloc, a, lists, marks, sets, blocks, first, &mut looked)?;
+        if !whole {
+            return Ok(None);
+        }
         first = end;
     }
-    blocks.classes(alloc)
+    let last = blocks.classes(alloc)?;
+    Ok(Some(last))
 }
 
 /// One block of all states.
@@ -96,8 +113,21 @@ fn are_many(a: &Dfa, first: usize, end: usize) -> bool {
     end.saturating_sub(first) >= a.states() / SINGLE_PART
 }
 
-/// Adds the images of the sets from the first one on. The lists, one for each letter, are empty before and after, and
-/// there is no mark.
+/// Whether so many states of sets are too many. Nothing but time depends on it.
+fn are_too_many(a: &Dfa, looked: usize) -> bool {
+    looked / LOOKED_PER_STATE > a.states()
+}
+
+/// How many states the set with this number has, which nothing is promised of.
+fn size_of(sets: &IndexSet<StateSet>, number: usize) -> usize {
+    match sets.as_slice().get(number) {
+        Some(set) => set.as_slice().len(),
+        None => 0,
+    }
+}
+
+/// Adds the images of the sets from the first one on, and tells whether all were added before too many states of sets were looked at. The
+/// lists, one for each letter, are empty before and after, and there is no mark.
 fn add_images_from(
     alloc: Global,
     a: &Dfa,
@@ -106,19 +136,24 @@ fn add_images_from(
     sets: &mut IndexSet<StateSet>,
     blocks: &mut Partition,
     first: usize,
-) -> Result<(), AllocError>
+    looked: &mut usize,
+) -> Result<bool, AllocError>
     requires lists { HasEmptyLists a.now.letters lists.old.items }
     requires marks { HasNoMarks (length a.now.states) marks.old }
     requires before { AreBlocksOf a.now sets.old.keys blocks.old }
     ensures lists { OnOk result (HasEmptyLists a.now.letters lists.new.items) }
     ensures marks { OnOk result (HasNoMarks (length a.now.states) marks.new) }
     ensures blocks { OnOk result (AreBlocksOf a.now sets.new.keys blocks.new) }
-    ensures images { OnOk result (AddsImagesOf a.now first (length sets.old.keys) sets.old.keys sets.new.keys) }
+    ensures images { IfOk result (λ whole. IsTrue whole → AddsImagesOf a.now first (length sets.old.keys) sets.old.keys sets.new.keys) }
 {
     'sets: for number in first..sets.len() {
+        *looked = looked.saturating_add(size_of(sets, number));
+        if are_too_many(a, *looked) {
+            return Ok(false);
+        }
         add_images(alloc, a, lists, marks, sets, blocks, number)?;
     }
-    Ok(())
+    Ok(true)
 }
 
 /// Adds the images of the set with this number. The lists, one for each letter, are empty before and after, and

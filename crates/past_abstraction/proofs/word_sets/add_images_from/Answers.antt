@@ -15,6 +15,6 @@ sets-preserved c =
     }
 
 pub returns-clause-images : goal.returns-clause-images
-returns-clause-images c =
+returns-clause-images c whole =
     images_of_all c.args.a.now c.args.first c.sets.number c.args.sets.now.keys c.sets.sets.keys (let e = c.len-number-end.ensures.len in let past = c.sets-test.false in omega arith)
     c.sets.invariant.images

@@ -1,11 +1,6 @@
 use Rattle.std.proofs.Common.{◌≡◌, ◌<◌, ◌+◌, ℕ, length, slice_index, sym, subst, arith}
-use Rattle.std.proofs.lemmas.Result.{IfOk-weaker}
-use Rattle.abstraction.specs.Bounds.{up_to}
-use Rattle.abstraction.specs.Merging.{AreClasses}
-use Rattle.abstraction.specs.Partitions.{IsNumbering}
-use Rattle.past_abstraction.specs.Pasts.{is_related}
 use Rattle.past_abstraction.specs.private.WordSets.{AreWordSets}
-use Rattle.past_abstraction.proofs.Classes.{classes_by_sets, classes_alone}
+use Rattle.past_abstraction.proofs.WordClasses.{classes_by_sets, classes_alone}
 use Rattle.past_abstraction.proofs.Rounds.{next_sets, all_sets}
 use Rattle.past_abstraction.proofs.word_sets.classes_by_rounds.Goals as goal
 
@@ -21,8 +16,7 @@ returns-then-first-end c =
     let before = c.rounds.invariant in
     let none_new : c.rounds.first ≡ length sets = (let l = c.len-end.ensures.len in let e = c.if-first-end.true in omega arith) in
     let all = all_sets a c.rounds.counter sets (subst (λ f. AreWordSets a c.rounds.counter f sets) none_new before.words) bound (omega arith) in
-    IfOk-weaker c.classes.result (λ classes. IsNumbering blocks classes.items) (λ classes. AreClasses (is_related (up_to bound) a) (length a.states) classes.items)
-    (λ classes numbering. classes_by_sets a sets blocks classes.items bound bound (length sets) before.blocks numbering all (omega arith) (omega arith)) c.classes.ensures
+    classes_by_sets a sets blocks c.in_ok-stable.stable.items bound bound (length sets) before.blocks c.in_ok-stable.ensures all (omega arith) (omega arith)
 
 pub returns-then-are_single : goal.returns-then-are_single
 returns-then-are_single c =
@@ -38,11 +32,11 @@ rounds-preserved c =
     let new = c.add_images_from.new.sets.keys in
     let before = c.rounds.invariant in
     record {
-      lists = c.in_ok-add_images_from.ensures.lists;
-      marks = c.in_ok-add_images_from.ensures.marks;
-      blocks = c.in_ok-add_images_from.ensures.blocks;
+      lists = c.in_ok-whole.ensures.lists;
+      marks = c.in_ok-whole.ensures.marks;
+      blocks = c.in_ok-whole.ensures.blocks;
       words = subst (λ n. AreWordSets a (c.rounds.counter + 1) n new) (sym c.len-end.ensures.len)
-          (next_sets a c.rounds.counter c.rounds.first old new c.in_ok-add_images_from.ensures.images before.words);
+          (next_sets a c.rounds.counter c.rounds.first old new (c.in_ok-whole.ensures.images c.if-not-whole.false) before.words);
     }
 
 pub returns : goal.returns
@@ -53,7 +47,5 @@ returns c =
     let bound = c.args.bound in
     let before = c.rounds.invariant in
     let end : c.rounds.counter ≡ bound = omega arith in
-    IfOk-weaker c.classes-2.result (λ classes. IsNumbering blocks classes.items) (λ classes. AreClasses (is_related (up_to bound) a) (length a.states) classes.items)
-    (λ classes numbering. classes_by_sets a sets blocks classes.items bound bound c.rounds.first before.blocks numbering
-    (subst (λ k. AreWordSets a k c.rounds.first sets) end before.words) (omega arith) (omega arith))
-    c.classes-2.ensures
+    classes_by_sets a sets blocks c.in_ok-last.last.items bound bound c.rounds.first before.blocks c.in_ok-last.ensures
+    (subst (λ k. AreWordSets a k c.rounds.first sets) end before.words) (omega arith) (omega arith)

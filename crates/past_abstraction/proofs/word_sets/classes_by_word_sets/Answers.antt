@@ -2,7 +2,7 @@ use Rattle.std.proofs.Common.{◌<◌, ◌↔◌, ℕ, Contains, length, subst}
 use Rattle.word_automata.proofs.ForCallers.{All-from_contains}
 use Rattle.past_abstraction.specs.private.WordSets.{AddsSet}
 use Rattle.past_abstraction.proofs.Rounds.{first_sets}
-use Rattle.past_abstraction.proofs.word_sets.classes_by_words.Goals as goal
+use Rattle.past_abstraction.proofs.word_sets.classes_by_word_sets.Goals as goal
 
 pub add_set-requires-clause-states : goal.add_set-requires-clause-states
 add_set-requires-clause-states c =
