@@ -1,7 +1,7 @@
 -- The texts of automata and runs, piece by piece.
-use Rattle.std.proofs.Common.{◌≡◌, ℕ, Bool, true, false, List, [], ◌∷◌, ◌++◌, ◌+◌, cond, filter, length, map, flat_map, codes, refl, sym, ap, ◌∙◌}
+use Rattle.std.proofs.Common.{◌≡◌, ℕ, ◌<◌, ◌≤◌, Bool, true, false, List, [], ◌∷◌, ◌++◌, ◌+◌, cond, filter, length, map, flat_map, get_or, take, codes, refl, sym, ap, subst, ◌∙◌}
 use Rattle.std.specs.List.{range_with_len}
-use Rattle.std.proofs.lemmas.List.{append_assoc, append-nil}
+use Rattle.std.proofs.lemmas.List.{append_assoc, append-nil, flat_map_more, take_all, take_more}
 use Rattle.std.proofs.lemmas.List.Concat.{flat_map-append}
 use Rattle.std.proofs.lemmas.List.Folds.{flat_map-map}
 use Rattle.word_automata.specs.Path.{edges_of}
@@ -14,6 +14,19 @@ use Rattle.certificate.specs.SafeText.{Line, Final, letter_line, letters_text, l
 use Rattle.certificate_writing.specs.Writing.{automaton_text, edge_lines, final_states, lines_from}
 use Rattle.certificate_writing.specs.private.WritingParts.{final_text, named_text_from, opening_text}
 use Rattle.certificate_writing.proofs.Ranges.{filter_range_more, flat_map_nested}
+
+-- loops that append what each item gives
+module _ {X : Type 0} (text : X → List ℕ) (xs : List X) (i : ℕ) (old now : List ℕ) (before : now ≡ old ++ flat_map text (take i xs)) where
+  pub appended_more : (d : X) (new : List ℕ) → i < length xs → new ≡ now ++ text (get_or xs i d) → new ≡ old ++ flat_map text (take (i + 1) xs)
+  appended_more d new within added =
+      let x = get_or xs i d in
+      added
+      ∙ ap (λ (t : List ℕ). t ++ text x) before
+      ∙ flat_map_more text old (take i xs) x
+      ∙ ap (λ (ys : List X). old ++ flat_map text ys) (sym (take_more xs i d within))
+
+  pub appended_all : length xs ≤ i → now ≡ old ++ flat_map text xs
+  appended_all end = subst (λ (ys : List X). now ≡ old ++ flat_map text ys) (take_all i xs end) before
 
 -- each line of a text with a line feed
 abbrev ended : List (List ℕ) → List ℕ

@@ -10,8 +10,9 @@ ghost use Rattle.certificate_writing.specs.private.IndexedWritingParts.{AreByTar
 ghost use Rattle.certificate_writing.specs.private.IndexedWritingParts.{text_from};
 
 use crate::letter_table::{indices_of, used_letters};
-use crate::writing::{opening, push_number};
+use crate::writing::{opening, push_words};
 use certificate::Alphabet;
+use itoa::Buffer;
 use protocol_model::System;
 use std::alloc::{AllocError, Global};
 use word_automata::Dfa;
@@ -127,10 +128,10 @@ fn push_sorted(
         push_index(text, from, line, edge.1, indices[edge.0 as usize])?;
         line = Some(edge.1);
     }
-    if line.is_some() {
-        text.push(b'\n')?;
+    if line.is_none() {
+        return Ok(());
     }
-    Ok(())
+    push_words(text, &[b"\n"])
 }
 
 /// Adds the index of an edge, to the last line if it is that of edges to the same state, and else to a line that is begun.
@@ -144,9 +145,8 @@ fn push_index(
     ensures { OnOk result (text.new.items ≡ text.old.items ++ (before_index from line to ++ codes " " ++ decimal index)) }
 {
     begin_line(text, from, line, to)?;
-    text.push(b' ')?;
-    push_number(text, index)?;
-    Ok(())
+    let mut buffer = Buffer::new();
+    push_words(text, &[b" ", buffer.format(index).as_bytes()])
 }
 
 /// Begins the line of the edges from one state to another, unless the last line is that one.
@@ -164,8 +164,7 @@ fn begin_line(
                 return Ok(());
             }
             text.push(b'\n')?;
-            push_line_start(text, from, to)?;
-            Ok(())
+            push_line_start(text, from, to)
         }
         None => push_line_start(text, from, to),
     }
@@ -175,9 +174,9 @@ fn begin_line(
 fn push_line_start(text: &mut Vec<u8>, from: usize, to: usize) -> Result<(), AllocError>
     ensures { OnOk result (text.new.items ≡ text.old.items ++ line_start from to) }
 {
-    text.extend_from_slice(b"edge ")?;
-    push_number(text, from)?;
-    text.push(b' ')?;
-    push_number(text, to)?;
-    Ok(())
+    let mut source = Buffer::new();
+    let mut target = Buffer::new();
+    let from = source.format(from).as_bytes();
+    let to = target.format(to).as_bytes();
+    push_words(text, &[b"edge ", from, b" ", to])
 }

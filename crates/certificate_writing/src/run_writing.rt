@@ -6,6 +6,7 @@ ghost use Rattle.protocol_model.specs.Patterns.{fits};
 ghost use Rattle.configuration_words.specs.Texts.{configuration_text};
 ghost use Rattle.certificate.specs.RunText.{rule_name, step_line, IsRunOf, IsStepOf, MeansRun, run_text, steps_text, unsafe_text};
 
+use crate::writing::push_words;
 use configuration_words::configuration_text;
 use protocol_model::{Configuration, Run, System};
 use std::alloc::{AllocError, Global};
@@ -69,19 +70,19 @@ fn push_step(
     requires fits { IsTrue (fits system.now configuration.now) }
     ensures { OnOk result (text.new.items ≡ text.old.items ++ (step_line system.now (rule, configuration.now) ++ 10 ∷ [])) }
 {
-    text.extend_from_slice(b"step ")?;
-    push_rule(text, system, rule)?;
-    text.push(b' ')?;
+    push_words(text, &[b"step ", name_of(system, rule), b" "])?;
     push_configuration(alloc, text, system, configuration)
 }
 
-/// Adds the name of the rule of this number.
-fn push_rule(text: &mut Vec<u8>, system: &System, rule: u32) -> Result<(), AllocError>
+/// The name of the rule of this number.
+fn name_of(system: &System, rule: u32) -> &[u8]
     requires { rule < length system.now.rules }
-    ensures { OnOk result (text.new.items ≡ text.old.items ++ rule_name system.now rule) }
+    ensures { result.now ≡ rule_name system.now rule }
 {
-    let name = system.rules.as_slice()[rule as usize].name.as_str();
-    text.extend_from_slice(name.as_bytes())
+    system.rules.as_slice()[rule as usize]
+        .name
+        .as_str()
+        .as_bytes()
 }
 
 /// Adds the text of the configuration and a line feed.
@@ -95,7 +96,5 @@ fn push_configuration(
     ensures { OnOk result (text.new.items ≡ text.old.items ++ (configuration_text system.now configuration.now ++ 10 ∷ [])) }
 {
     let printed = configuration_text(alloc, system, configuration)?;
-    text.extend_from_slice(printed.as_slice())?;
-    text.push(b'\n')?;
-    Ok(())
+    push_words(text, &[printed.as_slice(), b"\n"])
 }

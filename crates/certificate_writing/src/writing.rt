@@ -104,20 +104,15 @@ fn push_letter(text: &mut Vec<u8>, alphabet: &Alphabet, letter: u32) -> Result<(
     requires { letter < automata_letters alphabet.now }
     ensures { OnOk result (text.new.items ≡ text.old.items ++ (letter_line alphabet.now letter ++ 10 ∷ [])) }
 {
-    text.extend_from_slice(b"letter ")?;
-    text.extend_from_slice(alphabet.text(letter))?;
-    text.push(b'\n')?;
-    Ok(())
+    push_words(text, &[b"letter ", alphabet.text(letter), b"\n"])
 }
 
 /// Adds the line on states.
 fn push_states_line(text: &mut Vec<u8>, count: usize) -> Result<(), AllocError>
     ensures { OnOk result (text.new.items ≡ text.old.items ++ (states_line count ++ 10 ∷ [])) }
 {
-    text.extend_from_slice(b"states ")?;
-    push_number(text, count)?;
-    text.push(b'\n')?;
-    Ok(())
+    let mut buffer = Buffer::new();
+    push_words(text, &[b"states ", buffer.format(count).as_bytes(), b"\n"])
 }
 
 /// Adds the lines of all accepting states.
@@ -135,12 +130,11 @@ fn push_if_final(text: &mut Vec<u8>, proof: &Dfa, state: usize) -> Result<(), Al
     requires { state < length proof.now.states }
     ensures { OnOk result (text.new.items ≡ text.old.items ++ (if is_accepting proof.now.states state then final_text state else [])) }
 {
-    if proof.accepting(state) {
-        text.extend_from_slice(b"final ")?;
-        push_number(text, state)?;
-        text.push(b'\n')?;
+    if !proof.accepting(state) {
+        return Ok(());
     }
-    Ok(())
+    let mut buffer = Buffer::new();
+    push_words(text, &[b"final ", buffer.format(state).as_bytes(), b"\n"])
 }
 
 /// Adds the lines of all edges.
@@ -182,21 +176,20 @@ fn push_edge(
     requires { letter < automata_letters alphabet.now }
     ensures { OnOk result (text.new.items ≡ text.old.items ++ (line_text alphabet.now (Edge from letter to) ++ 10 ∷ [])) }
 {
-    text.extend_from_slice(b"edge ")?;
-    push_number(text, from)?;
-    text.push(b' ')?;
-    text.extend_from_slice(alphabet.text(letter))?;
-    text.push(b' ')?;
-    push_number(text, to)?;
-    text.push(b'\n')?;
-    Ok(())
+    let mut source = Buffer::new();
+    let mut target = Buffer::new();
+    let from = source.format(from).as_bytes();
+    let to = target.format(to).as_bytes();
+    let name = alphabet.text(letter);
+    push_words(text, &[b"edge ", from, b" ", name, b" ", to, b"\n"])
 }
 
-/// Adds a number in decimal.
-pub fn push_number(text: &mut Vec<u8>, number: usize) -> Result<(), AllocError>
-    ensures { OnOk result (text.new.items ≡ text.old.items ++ decimal number) }
+/// Adds these words, one after the other.
+pub fn push_words(text: &mut Vec<u8>, words: &[&[u8]]) -> Result<(), AllocError>
+    ensures { OnOk result (text.new.items ≡ text.old.items ++ flat_map (λ word. word.now) words.now) }
 {
-    let mut buffer = Buffer::new();
-    text.extend_from_slice(buffer.format(number).as_bytes())?;
+    'words: for word in words {
+        text.extend_from_slice(word)?;
+    }
     Ok(())
 }
