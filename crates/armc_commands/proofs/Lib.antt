@@ -3,6 +3,7 @@ pub mod Answered
 pub mod Replies
 pub mod QuietReads
 pub mod CommandsOnce
+pub mod ByCommand
 pub mod OneReplyLemmas
 pub mod SearchLemmas
 pub mod BackLemmas

@@ -12,7 +12,7 @@ use Rattle.armc_commands.specs.declared.search_reply.Telling.{Telling}
 use Rattle.armc_commands.specs.declared.search_reply.Telling.TheVariants.{Certificate}
 use Rattle.armc_commands.specs.SearchReply.{Part, IsSearchReply}
 use Rattle.armc_commands.specs.SearchPromise.{SearchPromise}
-use Rattle.armc_commands.specs.Commands.Queries.{QueryReply, QueryPromise, check_telling, reported_method}
+use Rattle.armc_commands.specs.Commands.Queries.{QueryReply, QueryPromise, check_telling}
 use Rattle.armc_commands.specs.Commands.Searches.{search_for}
 use Rattle.armc_commands.specs.ReplyLaws.{SameAnswer}
 use Rattle.armc_commands.proofs.SearchLemmas.{part-of, certificate-promised, reply-stays}
@@ -23,7 +23,7 @@ use Rattle.armc_commands.proofs.DeadlockLemmas.{deadlock-promised}
 pub query-promised : ((told : Telling) (parts : List Part) (reply : Reply) → IsSearchReply told parts reply → SearchPromise told parts reply)
     → (query : Query) (budget : ℕ) (s : SystemData) (reply : Reply) → QueryReply query budget s reply → QueryPromise query budget s reply
 query-promised keep (ByCheck settings) budget s reply h =
-    certificate-promised keep s (search_for (ByCheck settings) budget) (if settings.report then Some (reported_method settings.method) else None)
+    certificate-promised keep s (search_for (ByCheck settings) budget) (if settings.report then Some settings.method else None)
     (λ v text shows. shows) (λ log. refl) reply h
 query-promised keep ByBack budget s reply h = back-promised keep s budget reply h
 query-promised keep ByDeadlock budget s reply h = deadlock-promised keep s budget reply h

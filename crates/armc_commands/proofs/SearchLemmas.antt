@@ -22,7 +22,7 @@ use Rattle.protocol_search.specs.Verdicts.{IsVerdictOf, end_of}
 use Rattle.protocol_search.specs.declared.search.Search.{Search}
 use Rattle.protocol_search.specs.declared.search.Analysis.{Analysis}
 use Rattle.protocol_search.specs.declared.search.Analysis.TheVariants.{Forward, Backward, Stuck}
-use Rattle.search_report.specs.declared.methods.Method.{Method}
+use Rattle.command_words.specs.declared.Method.{Method}
 use Rattle.command_replies.specs.declared.status.Status.{Status}
 use Rattle.command_replies.specs.declared.status.Status.TheVariants as status
 use Rattle.command_replies.specs.declared.reply.Reply.{Reply}
@@ -69,18 +69,15 @@ module _ (verdict-once : VerdictIsDetermined) (text-once : TextIsDetermined) whe
 -- the status of a verdict says how its history ends
 done-closed : (v : Verdict) → (status_of (v ∷ []) ≡ status.Done) ↔ (end_of v ≡ Closed)
 done-closed (Safe proof log) = (λ e. refl, λ e. refl)
-done-closed (Unsafe words log) = (λ e. absurd (cc e), λ e. absurd (cc e))
-done-closed (Unknown log) = (λ e. absurd (cc e), λ e. absurd (cc e))
+done-closed _ = (λ e. absurd (cc e), λ e. absurd (cc e))
 
 unsafe-real : (v : Verdict) → (status_of (v ∷ []) ≡ status.Unsafe) ↔ (end_of v ≡ Real)
-unsafe-real (Safe proof log) = (λ e. absurd (cc e), λ e. absurd (cc e))
 unsafe-real (Unsafe words log) = (λ e. refl, λ e. refl)
-unsafe-real (Unknown log) = (λ e. absurd (cc e), λ e. absurd (cc e))
+unsafe-real _ = (λ e. absurd (cc e), λ e. absurd (cc e))
 
 unknown-spent : (v : Verdict) → (status_of (v ∷ []) ≡ status.Unknown) ↔ (end_of v ≡ Spent)
-unknown-spent (Safe proof log) = (λ e. absurd (cc e), λ e. absurd (cc e))
-unknown-spent (Unsafe words log) = (λ e. absurd (cc e), λ e. absurd (cc e))
 unknown-spent (Unknown log) = (λ e. refl, λ e. refl)
+unknown-spent _ = (λ e. absurd (cc e), λ e. absurd (cc e))
 
 -- the text of an unknown verdict
 spent-by : (report : Option Method) (analysis : Analysis) (s : SystemData) (log : Log) (text : List ℕ) → IsVerdictText analysis s (Unknown log) text
@@ -280,14 +277,15 @@ module _ (keeps : LargerBudgetKeepsVerdict) (keeps-text : LargerBudgetKeepsText)
         out = b.out_is ∙ ap (titled part.title) same.text ∙ sym a.out_is;
       }
 
--- ---- the usage is no reply to a search
+-- ---- the status of a reply to a search is one of three
 
-no-usage : (unsafe unknown : Bool) → (if unsafe then status.Unsafe else (if unknown then status.Unknown else status.Done)) ≡ status.Usage → ⊥
-no-usage true unknown e = cc e
-no-usage false true e = cc e
-no-usage false false e = cc e
-
-pub search-not-usage : (told : Telling) (parts : List Part) (reply : Reply) → IsSearchReply told parts reply → reply.status ≡ status.Usage → ⊥
-search-not-usage told parts reply h e =
+pub not-of-search : (other : Status) → (status.Unsafe ≡ other → ⊥) → (status.Unknown ≡ other → ⊥) → (status.Done ≡ other → ⊥)
+    → (told : Telling) (parts : List Part) (reply : Reply) → IsSearchReply told parts reply → reply.status ≡ other → ⊥
+not-of-search other unsafe unknown done told parts reply h e =
     let verdicts = map (λ (a : PartAnswer). a.verdict) h.answers in
-    no-usage (list_any is_unsafe verdicts) (list_any is_unknown verdicts) (sym (ap (λ (r : Reply). r.status) h.reply_is) ∙ e)
+    go (list_any is_unsafe verdicts) (list_any is_unknown verdicts) (sym (ap (λ (r : Reply). r.status) h.reply_is) ∙ e)
+  where
+    go : (a b : Bool) → (if a then status.Unsafe else (if b then status.Unknown else status.Done)) ≡ other → ⊥
+    go true b f = unsafe f
+    go false true f = unknown f
+    go false false f = done f

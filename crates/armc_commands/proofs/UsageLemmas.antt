@@ -4,7 +4,7 @@ use Rattle.armc_io.specs.Library.{LibraryState}
 use Rattle.armc_io.specs.Sink.{SinkState}
 use Rattle.protocol_syntax.specs.declared.protocol.Protocol.{Protocol}
 use Rattle.certificate_checker.specs.declared.answer.Answer.{Answer}
-use Rattle.certificate_checker.specs.declared.answer.Answer.TheVariants.{Valid, InitialMissing, BadHeld, Leaves, NotInitial, NotStep, NotBad}
+use Rattle.certificate_checker.specs.declared.answer.Answer.TheVariants.{Valid}
 use Rattle.protocol_model.specs.Numbering.{system_of}
 use Rattle.command_words.specs.Words.{Command, verify, migrate, steps, show, searching, checking_all, generate, command_of}
 use Rattle.command_replies.specs.declared.status.Status.{Status}
@@ -12,8 +12,9 @@ use Rattle.command_replies.specs.declared.status.Status.TheVariants as status
 use Rattle.command_replies.specs.declared.reply.Reply.{Reply}
 use Rattle.command_replies.specs.declared.failure.Failure.{Failure}
 use Rattle.command_replies.specs.declared.failure.Failure.TheVariants.{ReadFault, TooLong, Memory}
+use Rattle.armc_commands.specs.declared.search_reply.Telling.{Telling}
 use Rattle.armc_commands.specs.declared.search_reply.Telling.TheVariants.{Certificate, Summary}
-use Rattle.armc_commands.specs.SearchReply.{only_part}
+use Rattle.armc_commands.specs.SearchReply.{IsSearchReply, Part, only_part}
 use Rattle.armc_commands.specs.Commands.{CommandReply}
 use Rattle.armc_commands.specs.Commands.CheckAll.{property_parts}
 use Rattle.armc_commands.specs.Commands.Generate.{default_search}
@@ -23,20 +24,18 @@ use Rattle.armc_commands.specs.Commands.Verify.{answer_status}
 use Rattle.armc_commands.specs.Outcome.{IsOutcome, IsReply}
 use Rattle.command_replies.specs.Reply.{reply_of}
 use Rattle.armc_commands.specs.Answer.{Answers}
-use Rattle.armc_commands.proofs.SearchLemmas.{search-not-usage}
+use Rattle.armc_commands.proofs.SearchLemmas.{not-of-search}
 
 not_of_answer : (a : Answer) → answer_status a ≡ status.Usage → ⊥
 not_of_answer Valid e = cc e
-not_of_answer (InitialMissing c) e = cc e
-not_of_answer (BadHeld c) e = cc e
-not_of_answer (Leaves r c d) e = cc e
-not_of_answer NotInitial e = cc e
-not_of_answer (NotStep k) e = cc e
-not_of_answer NotBad e = cc e
+not_of_answer _ e = cc e
 
 -- the status of a reply that is this one
 status_in : (reply other : Reply) → reply ≡ other → reply.status ≡ status.Usage → other.status ≡ status.Usage
 status_in reply other same e = sym (ap (λ (r : Reply). r.status) same) ∙ e
+
+of_search : (told : Telling) (parts : List Part) (reply : Reply) → IsSearchReply told parts reply → reply.status ≡ status.Usage → ⊥
+of_search = not-of-search status.Usage (λ e. cc e) (λ e. cc e) (λ e. cc e)
 
 not_of_command : (command : Command) (p : Protocol) (text : List ℕ) (reply : Reply) → CommandReply command p text reply → reply.status ≡ status.Usage → ⊥
 not_of_command (verify file certificate) p text reply h e = elim h [
@@ -53,12 +52,12 @@ not_of_command (steps file configuration) p text reply h e = elim h [
 ]
 not_of_command (show file) p text reply h e = let f = status_in reply _ h e in cc f
 not_of_command (searching file query limits) p text reply h e =
-    search-not-usage (telling_of query) (only_part (system_of p) (search_for query limits.budget)) reply h e
+    of_search (telling_of query) (only_part (system_of p) (search_for query limits.budget)) reply h e
 not_of_command (checking_all file properties limits) p text reply h e = elim h [
   | inl refuses ↦ let f = status_in reply _ refuses.reply_is e in cc f
-  | inr checks ↦ search-not-usage (Certificate None) (property_parts limits.budget checks.said) reply checks.replies e
+  | inr checks ↦ of_search (Certificate None) (property_parts limits.budget checks.said) reply checks.replies e
 ]
-not_of_command (generate number workers) p text reply h e = search-not-usage (Summary number) (only_part (system_of p) default_search) reply h e
+not_of_command (generate number workers) p text reply h e = of_search (Summary number) (only_part (system_of p) default_search) reply h e
 
 module _ (words : List (List ℕ)) (l l' : LibraryState) (o o' e e' : SinkState) (result : Status) where
   none_asked : (reply : Reply) → IsReply words l.told reply → reply.status ≡ status.Usage → command_of words ≡ None

@@ -12,6 +12,7 @@ ghost use Rattle.armc_commands.specs.SearchPromise.{SearchPromise};
 use crate::summary::summary;
 use armc_io::Gate;
 use command_replies::{Reply, Status};
+use command_words::Method;
 use protocol_model::System;
 use protocol_search::{
     Search, keys_bound_rounds, no_language_is_refuted_twice, runs_bound_rounds, search_system,
@@ -19,7 +20,7 @@ use protocol_search::{
 };
 use refinement::Verdict;
 use search_history::Log;
-use search_report::{Method, report};
+use search_report::report;
 use sequence::Sequence;
 use std::alloc::{AllocError, Global};
 use std::thread::Threads;

@@ -1,10 +1,6 @@
 -- How the verdict on each query is told, its reply, and what the reply promises.
 use Rattle.std.specs.Prelude.{ℕ, None, Some, if◌then◌else◌}
 use Rattle.protocol_model.specs.System.{SystemData}
-use Rattle.search_report.specs.declared.methods.Method.{Method as Reported}
-use Rattle.search_report.specs.declared.methods.Method.TheVariants as reported
-use Rattle.command_words.specs.declared.Method.{Method}
-use Rattle.command_words.specs.declared.Method.TheVariants.{Predicates, Length}
 use Rattle.command_words.specs.declared.Query.{Query}
 use Rattle.command_words.specs.declared.Query.TheVariants.{Check, Back, Deadlock, Past}
 use Rattle.command_words.specs.declared.Settings.{Settings}
@@ -17,14 +13,9 @@ use Rattle.armc_commands.specs.Commands.Back.{BackPromise}
 use Rattle.armc_commands.specs.Commands.Deadlock.{DeadlockPromise}
 use Rattle.armc_commands.specs.Commands.Searches.{search_for}
 
--- the method that the report names
-abbrev pub reported_method : Method → Reported
-reported_method Predicates = reported.Predicates
-reported_method Length = reported.Length
-
 -- `check` is told by its certificate, with the report where it is asked for
 abbrev pub check_telling : Settings → Telling
-check_telling settings = Certificate (if settings.report then Some (reported_method settings.method) else None)
+check_telling settings = Certificate (if settings.report then Some settings.method else None)
 
 -- how the verdict is told
 abbrev pub telling_of : Query → Telling

@@ -8,7 +8,7 @@ ghost use Rattle.command_words.specs.declared.Query.{Query as QueryData};
 ghost use Rattle.protocol_model.specs.System.{SystemData};
 ghost use Rattle.command_replies.specs.declared.reply.Reply.{Reply as ReplyData};
 ghost use Rattle.armc_commands.specs.Commands.Searches.{first_abstraction as first_abstraction_of, search_for as search_for_query};
-ghost use Rattle.armc_commands.specs.Commands.Queries.{reported_method as reported_method_of, check_telling, telling_of as telling_of_query};
+ghost use Rattle.armc_commands.specs.Commands.Queries.{check_telling, telling_of as telling_of_query};
 ghost use Rattle.armc_commands.specs.Commands.Queries.{QueryReply, QueryPromise};
 
 use crate::search_reply::{Telling, keep_search_promises, search_reply};
@@ -17,7 +17,6 @@ use command_replies::Reply;
 use command_words::{Limits, Method, Query, Settings, Start};
 use protocol_model::System;
 use protocol_search::{Analysis, FirstAbstraction, Search};
-use search_report::Method as ReportedMethod;
 use std::alloc::{AllocError, Global};
 use std::thread::Threads;
 
@@ -65,22 +64,12 @@ fn search_for(query: Query, budget: u64) -> Search
     }
 }
 
-// The method that the report names.
-fn reported_method(method: Method) -> ReportedMethod
-    ensures { result ≡ reported_method_of method }
-{
-    match method {
-        Method::Predicates => ReportedMethod::Predicates,
-        Method::Length => ReportedMethod::Length,
-    }
-}
-
 // How `check` is told: with the report where it is asked for.
 fn telling_by(settings: Settings) -> Telling
     ensures { result ≡ check_telling settings }
 {
     if settings.report {
-        Telling::Certificate(Some(reported_method(settings.method)))
+        Telling::Certificate(Some(settings.method))
     } else {
         Telling::Certificate(None)
     }
