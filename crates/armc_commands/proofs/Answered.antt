@@ -1,5 +1,5 @@
 -- From what a call comes to and its delivery to what the whole call answers.
-use Rattle.std.proofs.Common.{◌≡◌, ◌<◌, ◌≤◌, ◌⊎◌, arith, inl, inr, ℕ, List, false, None, Some, Result, Ok, Err, IsTrue, refl, sym, ap, subst, ◌∙◌, true≢false}
+use Rattle.std.proofs.Common.{◌≡◌, ◌<◌, ◌≤◌, ◌⊎◌, arith, inl, inr, ℕ, List, false, Some, Result, Ok, Err, IsTrue, refl, sym, ap, ◌∙◌, true≢false}
 use Rattle.armc_io.specs.Faults.{Rose, last_count}
 use Rattle.armc_io.specs.Library.{LibraryState}
 use Rattle.armc_io.specs.Sink.{SinkState}
@@ -13,7 +13,8 @@ use Rattle.command_replies.specs.declared.failure.Failure.TheVariants.{ReadFault
 use Rattle.command_replies.specs.Reading.{IsFaultless}
 use Rattle.command_replies.specs.Reply.{reply_of}
 use Rattle.armc_commands.specs.Commands.{CommandReply, Promise}
-use Rattle.armc_commands.specs.Outcome.{IsReliableFor, IsOutcome, IsDecidedBy, IsReply, CarriesOut}
+use Rattle.armc_commands.specs.Outcome.{IsReliableFor, IsOutcome, IsDecidedBy, IsReply}
+use Rattle.armc_commands.proofs.ByCommand.{by_command}
 use Rattle.armc_commands.specs.Answer.{Answers, DeliversCounted, AreQuietEnds, KeepsCounts, IsWholeReply, KeepsPromise, IsSound, IsQuiet, IsDecided, is_own}
 
 pub Answers-made : (words : List (List ℕ)) (l l' : LibraryState) (o o' e e' : SinkState) (result : Status) (outcome : Result Reply Failure)
@@ -33,30 +34,18 @@ module _ (keep : (command : Command) (source : List ℕ) (p : Protocol) (text : 
   not_own : (other : Status) → is_own other ≡ false → result ≡ other → ⊥
   not_own other none same = true≢false (sym own ∙ ap is_own same ∙ none)
 
-  carried_out : (other : Command) (reply : Reply) → other ≡ command → CarriesOut l.told other reply → IsWholeReply reply o o' e e' result
-      → KeepsPromise l.told command o o' e e' result
-  carried_out other reply same out whole =
-      let P : Command → Type 0 = λ x. KeepsPromise l.told x o o' e e' result in
-      subst P same (record {
-        protocol = out.protocol;
-        text = out.text;
-        reply = reply;
-        has_protocol = out.has_protocol;
-        is_text = out.is_text;
-        promised = keep other out.has_protocol.text out.protocol out.text reply out.has_protocol.says out.replies;
-        whole = whole;
-      })
-
-  same_command : (other : Command) → command_of words ≡ Some other → other ≡ command
-  same_command other asked_too = let h : Some other ≡ Some command = sym asked_too ∙ asked in cc h
-
   replied : (reply : Reply) → IsReply words l.told reply → IsWholeReply reply o o' e e' result → KeepsPromise l.told command o o' e e' result
-  replied reply is whole = elim is [
-    | inl none ↦ absurd (let h : None ≡ Some command = sym none.0 ∙ asked in cc h)
-    | inr to_command ↦ elim to_command.replies [
-      | inl refused ↦ absurd (not_own status.ProtocolRefused refl (whole.status_is ∙ ap (λ (r : Reply). r.status) refused.reply_is))
-      | inr out ↦ carried_out to_command.command reply (same_command to_command.command to_command.asked) out whole
-    ]
+  replied reply is whole = elim (by_command words l.told command asked reply is) [
+    | inl refused ↦ absurd (not_own status.ProtocolRefused refl (whole.status_is ∙ ap (λ (r : Reply). r.status) refused.reply_is))
+    | inr out ↦ record {
+      protocol = out.protocol;
+      text = out.text;
+      reply = reply;
+      has_protocol = out.has_protocol;
+      is_text = out.is_text;
+      promised = keep command out.has_protocol.text out.protocol out.text reply out.has_protocol.says out.replies;
+      whole = whole;
+    }
   ]
 
   whole_outcome : (outcome : Result Reply Failure) → IsOutcome words l l' outcome → IsWholeReply (reply_of outcome) o o' e e' result

@@ -1,11 +1,11 @@
 -- An answer to a search that decides stays for every larger budget.
-use Rattle.std.proofs.Common.{◌≡◌, ◌≢◌, ◌⊎◌, ◌∙◌, ℕ, List, None, Some, IfSome, Result, Ok, Err, inl, inr, refl, sym, ap, subst}
+use Rattle.std.proofs.Common.{◌≡◌, ◌≢◌, ◌⊎◌, ◌∙◌, ℕ, List, Result, Ok, Err, inl, inr, refl, sym, ap, subst}
 use Rattle.protocol_syntax.specs.declared.protocol.Protocol.{Protocol}
 use Rattle.protocol_syntax.specs.OneReading.{ProtocolIsDetermined, FaultIsDetermined, FaultExcludesProtocol}
 use Rattle.protocol_syntax.specs.OneReading.{PropertiesAreDetermined, PropertiesFaultIsDetermined, FaultExcludesProperties}
 use Rattle.protocol_model.specs.Numbering.{system_of}
 use Rattle.protocol_search.specs.SearchLaws.{LargerBudgetKeepsVerdict, LargerBudgetKeepsText}
-use Rattle.command_words.specs.Words.{Command, searching, checking_all, command_of}
+use Rattle.command_words.specs.Words.{Command, searching, checking_all}
 use Rattle.command_replies.specs.declared.status.Status.{Status}
 use Rattle.command_replies.specs.declared.status.Status.TheVariants as status
 use Rattle.command_replies.specs.declared.reply.Reply.{Reply}
@@ -16,29 +16,14 @@ use Rattle.armc_commands.specs.Origin.{Told}
 use Rattle.armc_commands.specs.Commands.{second_origin}
 use Rattle.armc_commands.specs.Commands.CheckAll.{IsCheckAllReply}
 use Rattle.armc_commands.specs.Commands.Queries.{QueryReply}
-use Rattle.armc_commands.specs.Outcome.{RefusesProtocol, CarriesOut, RepliesToCommand, IsReply, IsRead, TellsTexts, IsToldTooLong, IsDecidedBy}
+use Rattle.armc_commands.specs.Outcome.{RefusesProtocol, CarriesOut, TellsTexts, IsToldTooLong, IsDecidedBy}
 use Rattle.armc_commands.specs.ReplyLaws.{limited_to, AskForLargerBudget, AskForAllWithLargerBudget, SameAnswer, KeepsParts, LargerBudgetKeepsReply}
 use Rattle.armc_commands.specs.ReplyLaws.{LargerBudgetKeepsParts}
+use Rattle.armc_commands.proofs.ByCommand.{by_command, read_by}
 use Rattle.armc_commands.proofs.CheckAllLemmas.{check-all-kept}
 use Rattle.armc_commands.proofs.OneReplyLemmas.{not_both, refused_once, protocols_once, none_too_long, origin_once, protocol_moved, refusal_moved, read_moved}
 use Rattle.armc_commands.proofs.QueryLemmas.{query-stays}
 use Rattle.armc_commands.proofs.QuietReads.{second_told}
-
--- what the reply to words does that are this command
-module _ (words : List (List ℕ)) (told : Told) (command : Command) (asked : command_of words ≡ Some command) where
-  same_asked : (other : Command) → command_of words ≡ Some other → other ≡ command
-  same_asked other h = let same : Some other ≡ Some command = sym h ∙ asked in cc same
-
-  by_command : (reply : Reply) → IsReply words told reply → RefusesProtocol told command reply ⊎ CarriesOut told command reply
-  by_command reply h = elim h [
-    | inl none ↦ absurd (let e : None ≡ Some command = sym none.0 ∙ asked in cc e)
-    | inr to_command ↦
-        let P : Command → Type 0 = λ c. RefusesProtocol told c reply ⊎ CarriesOut told c reply in
-        subst P (same_asked to_command.command to_command.asked) to_command.replies
-  ]
-
-  read_by : (name : List ℕ) (limit : ℕ) → IsToldTooLong words told name limit → IsRead told command name limit
-  read_by name limit h = subst (λ c. IsRead told c name limit) (same_asked h.reads.command h.reads.asked) h.reads.is_read
 
 -- a status that decides is none of a refused protocol, a failed read or want of memory
 decides-otherwise : (result other : Status) → result ≡ other → (other ≡ status.Done → ⊥) → (other ≡ status.Unsafe → ⊥)

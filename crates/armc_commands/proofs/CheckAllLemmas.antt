@@ -29,6 +29,7 @@ use Rattle.armc_commands.specs.SearchPromise.{SearchPromise}
 use Rattle.armc_commands.specs.Commands.CheckAll.{SaysProperties, RefusesProperties, ChecksAll, IsCheckAllReply, CheckAllPromise, property_part, property_parts}
 use Rattle.armc_commands.specs.ReplyLaws.{AreKept, KeepsParts}
 use Rattle.armc_commands.specs.private.PartTexts.{IsToldPart, AreTold}
+use Rattle.armc_commands.proofs.CommandsOnce.{either-once}
 use Rattle.armc_commands.proofs.SearchLemmas.{part-stays}
 use Rattle.command_replies.proofs.ForCallers.{refusal_once, refused_or_faultless}
 
@@ -161,31 +162,19 @@ module _ (once : PropertiesAreDetermined) (fault_once : PropertiesFaultIsDetermi
       (subst (λ said. IsSearchReply told (property_parts budget said) r) (says-once once s text h.said k.said h.says k.says) h.replies) k.replies
 
   pub check-all-once : (r q : Reply) → IsCheckAllReply s budget text r → IsCheckAllReply s budget text q → r ≡ q
-  check-all-once r q h k = elim h [
-    | inl refuses ↦ elim k [
-      | inl refuses_too ↦ refuses-once once fault_once either s text r q refuses refuses_too
-      | inr checks ↦ absurd (not-both once fault_once either s text budget r q refuses checks)
-    ]
-    | inr checks ↦ elim k [
-      | inl refuses ↦ absurd (not-both once fault_once either s text budget q r refuses checks)
-      | inr checks_too ↦ checks-once r q checks checks_too
-    ]
-  ]
+  check-all-once r q =
+      either-once (RefusesProperties s text) (ChecksAll s budget text) r q (refuses-once once fault_once either s text r q) (checks-once r q)
+      (not-both once fault_once either s text budget)
 
 -- ---- a larger budget
 
 -- whether one verdict is unsafe, and whether one is unknown, where each verdict that is not unknown has the same status among others
 unsafe-step : (v w : Verdict) (rest more : Bool) → (status_of (v ∷ []) ≢ status.Unknown → status_of (w ∷ []) ≡ status_of (v ∷ []))
     → (rest ≡ true → more ≡ true) → is_unsafe v || rest ≡ true → is_unsafe w || more ≡ true
-unsafe-step (Safe proof log) (Safe proof' log') rest more kept later h = later h
-unsafe-step (Safe proof log) (Unsafe words log') rest more kept later h = refl
-unsafe-step (Safe proof log) (Unknown log') rest more kept later h = later h
-unsafe-step (Unsafe words log) (Safe proof log') rest more kept later h = absurd (let e = kept (λ u. cc u) in cc e)
 unsafe-step (Unsafe words log) (Unsafe words' log') rest more kept later h = refl
-unsafe-step (Unsafe words log) (Unknown log') rest more kept later h = absurd (let e = kept (λ u. cc u) in cc e)
-unsafe-step (Unknown log) (Safe proof log') rest more kept later h = later h
-unsafe-step (Unknown log) (Unsafe words log') rest more kept later h = refl
-unsafe-step (Unknown log) (Unknown log') rest more kept later h = later h
+unsafe-step (Unsafe words log) _ rest more kept later h = absurd (let e = kept (λ u. cc u) in cc e)
+unsafe-step _ (Unsafe words log) rest more kept later h = refl
+unsafe-step _ _ rest more kept later h = later h
 
 -- neither test holds
 abbrev AreBothFalse : Bool → Bool → Type 0

@@ -1,5 +1,5 @@
 -- Each command has one reply for what it read.
-use Rattle.std.proofs.Common.{◌≡◌, inl, inr, ℕ, List, None, sym, ap, subst, ◌∙◌}
+use Rattle.std.proofs.Common.{◌≡◌, ◌⊎◌, inl, inr, ℕ, List, None, sym, ap, subst, ◌∙◌}
 use Rattle.protocol_syntax.specs.declared.protocol.Protocol.{Protocol}
 use Rattle.protocol_syntax.specs.Grammar.{IsProtocol}
 use Rattle.protocol_model.specs.System.{SystemData, IsValid}
@@ -31,6 +31,14 @@ use Rattle.armc_commands.specs.Commands.Searches.{search_for}
 use Rattle.armc_commands.specs.Commands.Steps.{IsStepsReply, ListsSuccessors, RefusesConfiguration, successors_text}
 use Rattle.armc_commands.specs.Commands.Verify.{IsVerifyReply, Judges, answer_status, answer_text}
 
+-- of two kinds of reply that exclude each other there is one, where there is one of each kind
+pub either-once : (A B : Reply → Type 0) (r q : Reply) → (A r → A q → r ≡ q) → (B r → B q → r ≡ q) → ((x y : Reply) → A x → B y → ⊥)
+    → A r ⊎ B r → A q ⊎ B q → r ≡ q
+either-once A B r q one other apart h k = elim h [
+  | inl a ↦ elim k [ inl a' ↦ one a a' | inr b ↦ absurd (apart r q a b) ]
+  | inr b ↦ elim k [ inl a ↦ absurd (apart q r a b) | inr b' ↦ other b b' ]
+]
+
 -- `steps`
 module _ (configuration_once : configuration.ConfigurationIsDetermined) (fault_once : configuration.FaultIsDetermined)
     (either : configuration.FaultExcludesConfiguration) (successors_once : SuccessorsAreDetermined) (s : SystemData) (valid : IsValid s) (text : List ℕ) where
@@ -47,16 +55,9 @@ module _ (configuration_once : configuration.ConfigurationIsDetermined) (fault_o
       ∙ sym k.reply_is
 
   pub steps_once : (r q : Reply) → IsStepsReply s text r → IsStepsReply s text q → r ≡ q
-  steps_once r q h k = elim h [
-    | inl lists ↦ elim k [
-      | inl lists_too ↦ lists_once r q lists lists_too
-      | inr refuses ↦ absurd (either s text refuses.fault lists.configuration refuses.is_first lists.means)
-    ]
-    | inr refuses ↦ elim k [
-      | inl lists ↦ absurd (either s text refuses.fault lists.configuration refuses.is_first lists.means)
-      | inr refuses_too ↦ refuses_configuration_once r q refuses refuses_too
-    ]
-  ]
+  steps_once r q =
+      either-once (ListsSuccessors s text) (RefusesConfiguration s text) r q (lists_once r q) (refuses_configuration_once r q)
+      (λ x y lists refuses. either s text refuses.fault lists.configuration refuses.is_first lists.means)
 
 -- `verify` and `migrate`
 module _ (meaning : certificate.MeaningIsDetermined) (fault_once : certificate.FaultIsDetermined) (either : certificate.FaultExcludesMeaning)
@@ -74,16 +75,9 @@ module _ (meaning : certificate.MeaningIsDetermined) (fault_once : certificate.F
       ∙ sym k.reply_is
 
   pub verify_once : AnswerIsDetermined → (r q : Reply) → IsVerifyReply s text r → IsVerifyReply s text q → r ≡ q
-  verify_once answer_once r q h k = elim h [
-    | inl refuses ↦ elim k [
-      | inl refuses_too ↦ refuses_certificate_once r q refuses refuses_too
-      | inr judges ↦ absurd (either s valid text refuses.fault judges.certificate refuses.is_first judges.means)
-    ]
-    | inr judges ↦ elim k [
-      | inl refuses ↦ absurd (either s valid text refuses.fault judges.certificate refuses.is_first judges.means)
-      | inr judges_too ↦ judges_once answer_once r q judges judges_too
-    ]
-  ]
+  verify_once answer_once r q =
+      either-once (RefusesCertificate s text) (Judges s text) r q (refuses_certificate_once r q) (judges_once answer_once r q)
+      (λ x y refuses judges. either s valid text refuses.fault judges.certificate refuses.is_first judges.means)
 
   migrates_once : (r q : Reply) → Migrates s text r → Migrates s text q → r ≡ q
   migrates_once r q h k =
@@ -91,16 +85,9 @@ module _ (meaning : certificate.MeaningIsDetermined) (fault_once : certificate.F
       h.reply_is ∙ ap (λ c. on_out status.Done (migrated_text s c)) same ∙ sym k.reply_is
 
   pub migrate_once : (r q : Reply) → IsMigrateReply s text r → IsMigrateReply s text q → r ≡ q
-  migrate_once r q h k = elim h [
-    | inl refuses ↦ elim k [
-      | inl refuses_too ↦ refuses_certificate_once r q refuses refuses_too
-      | inr migrates ↦ absurd (either s valid text refuses.fault migrates.same.certificate refuses.is_first migrates.same.means)
-    ]
-    | inr migrates ↦ elim k [
-      | inl refuses ↦ absurd (either s valid text refuses.fault migrates.same.certificate refuses.is_first migrates.same.means)
-      | inr migrates_too ↦ migrates_once r q migrates migrates_too
-    ]
-  ]
+  migrate_once r q =
+      either-once (RefusesCertificate s text) (Migrates s text) r q (refuses_certificate_once r q) (migrates_once r q)
+      (λ x y refuses migrates. either s valid text refuses.fault migrates.same.certificate refuses.is_first migrates.same.means)
 
 -- each command
 module _ (allowed : (text : List ℕ) (p : Protocol) → IsProtocol text p → IsAllowed p)

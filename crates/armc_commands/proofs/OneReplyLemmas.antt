@@ -13,12 +13,14 @@ use Rattle.command_replies.specs.declared.failure.Failure.TheVariants.{ReadFault
 use Rattle.armc_commands.specs.Origin.{Told, Origin, named, given, generated, IsTextFrom}
 use Rattle.armc_commands.specs.private.LibraryReads.{IsToldOrigin}
 use Rattle.command_replies.specs.Reading.{IsFaultless}
+use Rattle.armc_commands.proofs.ByCommand.{by_command, read_by}
+use Rattle.armc_commands.proofs.CommandsOnce.{either-once}
 use Rattle.armc_commands.proofs.QuietReads.{first_told, second_told}
 use Rattle.command_replies.proofs.ForCallers.{refusal_once, refused_or_faultless}
 use Rattle.command_replies.specs.Refusal.{IsRefusalOf}
 use Rattle.command_replies.specs.Reply.{refusal_reply}
 use Rattle.armc_commands.specs.Commands.{protocol_origin, second_origin, CommandReply}
-use Rattle.armc_commands.specs.Outcome.{HasProtocol, RefusesProtocol, CarriesOut, RepliesToCommand, IsReply, IsRead, TellsTexts, IsToldTooLong, IsDecidedBy}
+use Rattle.armc_commands.specs.Outcome.{HasProtocol, RefusesProtocol, CarriesOut, IsReply, IsRead, TellsTexts, IsToldTooLong, IsDecidedBy}
 
 one_text : (o : Option (List ℕ)) (a b : List ℕ) → IsSome o → IfSome o (λ x. a ≡ x) → IfSome o (λ x. b ≡ x) → a ≡ b
 one_text None a b some h k = absurd (cc some)
@@ -119,23 +121,16 @@ module _ (protocol_once : ProtocolIsDetermined) (fault_once : FaultIsDetermined)
       ]
     ]
 
-  pub same_command : (one other : Command) → command_of words ≡ Some one → command_of words ≡ Some other → other ≡ one
-  same_command one other h k = let same : Some other ≡ Some one = sym k ∙ h in cc same
-
   reply_or_too_long : (r : Reply) (name : List ℕ) (limit : ℕ) → IsReply words told r → IsToldTooLong words told name limit → ⊥
-  reply_or_too_long r name limit h k = elim h [
-    | inl none ↦ let e : None ≡ Some k.reads.command = sym none.0 ∙ k.reads.asked in cc e
-    | inr to_command ↦
-        let same = same_command to_command.command k.reads.command to_command.asked k.reads.asked in
-        let P : Command → Type 0 = λ command. IsRead told command name limit in
-        none_too_long to_command.command to_command.asked r name limit to_command.replies (subst P same k.reads.is_read) k.longer
-  ]
+  reply_or_too_long r name limit h k =
+      let asked = k.reads.asked in
+      none_too_long k.reads.command asked r name limit (by_command words told k.reads.command asked r h) k.reads.is_read k.longer
 
   names_once : (name other : List ℕ) (limit bound : ℕ) → IsToldTooLong words told name limit → IsToldTooLong words told other bound → name ≡ other
   names_once name other limit bound h k =
-      let same = same_command h.reads.command k.reads.command h.reads.asked k.reads.asked in
-      let P : Command → Type 0 = λ command. IsRead told command other bound in
-      too_long_once h.reads.command h.reads.asked name other limit bound h.reads.is_read (subst P same k.reads.is_read) h.longer k.longer
+      let asked = h.reads.asked in
+      let other_read = read_by words told h.reads.command asked other bound k in
+      too_long_once h.reads.command asked name other limit bound h.reads.is_read other_read h.longer k.longer
 
   module _ (command_once : (command : Command) (source : List ℕ) (p : Protocol) (text : List ℕ) (r q : Reply) → IsFaultless source p
       → CommandReply command p text r → CommandReply command p text q → r ≡ q) where
@@ -150,21 +145,9 @@ module _ (protocol_once : ProtocolIsDetermined) (fault_once : FaultIsDetermined)
 
       replies_once : (r q : Reply) → RefusesProtocol told command r ⊎ CarriesOut told command r → RefusesProtocol told command q ⊎ CarriesOut told command q
           → r ≡ q
-      replies_once r q h k = elim h [
-        | inl refuses ↦ elim k [
-          | inl refuses_too ↦ refused_once command asked r q refuses refuses_too
-          | inr carries ↦ absurd (not_both command asked carries.protocol r refuses carries.has_protocol)
-        ]
-        | inr carries ↦ elim k [
-          | inl refuses ↦ absurd (not_both command asked carries.protocol q refuses carries.has_protocol)
-          | inr carries_too ↦ carried_once r q carries carries_too
-        ]
-      ]
-
-    to_commands_once : (r q : Reply) → RepliesToCommand words told r → RepliesToCommand words told q → r ≡ q
-    to_commands_once r q h k =
-        let P : Command → Type 0 = λ command. RefusesProtocol told command q ⊎ CarriesOut told command q in
-        replies_once h.command h.asked r q h.replies (subst P (same_command h.command k.command h.asked k.asked) k.replies)
+      replies_once r q =
+          either-once (RefusesProtocol told command) (CarriesOut told command) r q (refused_once command asked r q) (carried_once r q)
+          (λ x y refuses carries. not_both command asked carries.protocol x refuses carries.has_protocol)
 
     reply_once : (r q : Reply) → IsReply words told r → IsReply words told q → r ≡ q
     reply_once r q h k = elim h [
@@ -172,10 +155,9 @@ module _ (protocol_once : ProtocolIsDetermined) (fault_once : FaultIsDetermined)
         | inl none_too ↦ none.1 ∙ sym none_too.1
         | inr to_command ↦ absurd (let e : None ≡ Some to_command.command = sym none.0 ∙ to_command.asked in cc e)
       ]
-      | inr to_command ↦ elim k [
-        | inl none ↦ absurd (let e : None ≡ Some to_command.command = sym none.0 ∙ to_command.asked in cc e)
-        | inr to_command_too ↦ to_commands_once r q to_command to_command_too
-      ]
+      | inr to_command ↦
+          let asked = to_command.asked in
+          replies_once to_command.command asked r q to_command.replies (by_command words told to_command.command asked q k)
     ]
 
     pub outcome_once : (one other : Result Reply Failure) → IsDecidedBy words told one → IsDecidedBy words told other → one ≢ Err Memory → other ≢ Err Memory

@@ -1,46 +1,36 @@
 -- A reply to a command tells the first fault of its protocol, or keeps what the command promises.
-use Rattle.std.proofs.Common.{◌≡◌, ◌⊎◌, ◌∙◌, ℕ, List, None, Some, sym, subst, inl, inr}
+use Rattle.std.proofs.Common.{◌≡◌, ℕ, List, None, inl, inr}
 use Rattle.protocol_syntax.specs.declared.protocol.Protocol.{Protocol}
 use Rattle.protocol_syntax.specs.Grammar.{IsProtocol}
 use Rattle.protocol_model.specs.Allowed.{IsAllowed}
 use Rattle.protocol_model.specs.Faults.{first_fault}
 use Rattle.protocol_model.specs.System.{SystemData, IsValid}
 use Rattle.protocol_model.specs.Numbering.{system_of}
-use Rattle.command_words.specs.Words.{Command, verify, migrate, steps, show, searching, checking_all, generate, command_of}
+use Rattle.command_words.specs.Words.{Command, verify, migrate, steps, show, searching, checking_all, generate}
 use Rattle.command_words.specs.declared.Query.{Query}
 use Rattle.command_replies.specs.declared.reply.Reply.{Reply}
 use Rattle.command_replies.specs.Reading.{IsFaultless}
-use Rattle.armc_commands.specs.Origin.{Told}
 use Rattle.armc_commands.specs.Commands.{CommandReply, Promise}
 use Rattle.armc_commands.specs.Commands.CheckAll.{IsCheckAllReply, CheckAllPromise}
 use Rattle.armc_commands.specs.Commands.Generate.{IsGenerateReply, GeneratePromise}
 use Rattle.armc_commands.specs.Commands.Migrate.{IsMigrateReply, MigratePromise}
 use Rattle.armc_commands.specs.Commands.Queries.{QueryReply, QueryPromise}
 use Rattle.armc_commands.specs.Commands.Verify.{IsVerifyReply, VerifyPromise}
-use Rattle.armc_commands.specs.Outcome.{RefusesProtocol, RepliesToCommand, IsReply}
-use Rattle.armc_commands.specs.ReplyLaws.{KeepsItsPromise, RepliesKeepPromises}
+use Rattle.armc_commands.specs.ReplyLaws.{RepliesKeepPromises}
+use Rattle.armc_commands.proofs.ByCommand.{by_command}
 
 pub promised : ((command : Command) (source : List ℕ) (p : Protocol) (text : List ℕ) (reply : Reply) → IsFaultless source p → CommandReply command p text reply
     → Promise command p text reply) → RepliesKeepPromises
-promised keep words told command reply asked is = elim is [
-  | inl none ↦ absurd (let h : None ≡ Some command = sym none.0 ∙ asked in cc h)
-  | inr to_command ↦ subst (λ (x : Command). RefusesProtocol told x reply ⊎ KeepsItsPromise told x reply) (same to_command) (carried to_command)
+promised keep words told command reply asked is = elim (by_command words told command asked reply is) [
+  | inl refuses ↦ inl refuses
+  | inr out ↦ inr (record {
+    protocol = out.protocol;
+    text = out.text;
+    has_protocol = out.has_protocol;
+    is_text = out.is_text;
+    promised = keep command out.has_protocol.text out.protocol out.text reply out.has_protocol.says out.replies;
+  })
 ]
-  where
-    same : (h : RepliesToCommand words told reply) → h.command ≡ command
-    same h = let e : Some h.command ≡ Some command = sym h.asked ∙ asked in cc e
-
-    carried : (h : RepliesToCommand words told reply) → RefusesProtocol told h.command reply ⊎ KeepsItsPromise told h.command reply
-    carried h = elim h.replies [
-      | inl refuses ↦ inl refuses
-      | inr out ↦ inr (record {
-        protocol = out.protocol;
-        text = out.text;
-        has_protocol = out.has_protocol;
-        is_text = out.is_text;
-        promised = keep h.command out.has_protocol.text out.protocol out.text reply out.has_protocol.says out.replies;
-      })
-    ]
 
 -- each reply keeps what its command promises
 module _ (allowed : (text : List ℕ) (p : Protocol) → IsProtocol text p → IsAllowed p)

@@ -28,20 +28,16 @@ first_true false b h = absurd (cc h)
 
 -- the configurations that an answer shows fit
 pub IsAnswer-fits : (s : SystemData) (c : Certificate) (answer : Answer) → IsAnswer s c answer → ShowsFitting s answer
-IsAnswer-fits s (certificate.Automaton m) Valid is = tt
 IsAnswer-fits s (certificate.Automaton m) (InitialMissing d) is = first_true (fits s d) _ is.0.0
 IsAnswer-fits s (certificate.Automaton m) (BadHeld d) is = first_true (fits s d) _ is.1.0.0
 IsAnswer-fits s (certificate.Automaton m) (Leaves r d e) is = (is.2.before.0.1.fits_before, is.2.before.0.1.fits_after)
-IsAnswer-fits s (certificate.Automaton m) NotInitial is = absurd is
-IsAnswer-fits s (certificate.Automaton m) (NotStep k) is = absurd is
-IsAnswer-fits s (certificate.Automaton m) NotBad is = absurd is
-IsAnswer-fits s (certificate.BadRun run) Valid is = tt
 IsAnswer-fits s (certificate.BadRun run) (InitialMissing d) is = absurd is
 IsAnswer-fits s (certificate.BadRun run) (BadHeld d) is = absurd is
 IsAnswer-fits s (certificate.BadRun run) (Leaves r d e) is = absurd is
-IsAnswer-fits s (certificate.BadRun run) NotInitial is = tt
-IsAnswer-fits s (certificate.BadRun run) (NotStep k) is = tt
-IsAnswer-fits s (certificate.BadRun run) NotBad is = tt
+IsAnswer-fits s c Valid is = tt
+IsAnswer-fits s c NotInitial is = tt
+IsAnswer-fits s c (NotStep k) is = tt
+IsAnswer-fits s c NotBad is = tt
 
 -- what a text means has the letters of the system
 pub HasLetters-meant : (s : SystemData) (text : List ℕ) (c : Certificate) → IsCertificateOf s text c → HasLetters s c

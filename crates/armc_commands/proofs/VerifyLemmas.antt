@@ -9,7 +9,7 @@ use Rattle.certificate_checker.specs.Answers.{IsAnswer}
 use Rattle.certificate_checker.specs.OneAnswer.{AnswerIsDetermined}
 use Rattle.certificate_checker.specs.Proof.{Proves, IsSafe}
 use Rattle.certificate_checker.specs.declared.answer.Answer.{Answer}
-use Rattle.certificate_checker.specs.declared.answer.Answer.TheVariants.{Valid, InitialMissing, BadHeld, Leaves, NotInitial, NotStep, NotBad}
+use Rattle.certificate_checker.specs.declared.answer.Answer.TheVariants.{Valid}
 use Rattle.command_replies.specs.declared.status.Status.TheVariants as status
 use Rattle.command_replies.specs.declared.reply.Reply.{Reply}
 use Rattle.armc_commands.specs.Commands.Verify.{IsProofOf, Judges, IsVerifyReply, ShowsProof, VerifyPromise, answer_status}
@@ -25,12 +25,7 @@ proof-valid s (certificate.BadRun run) h = h
 
 done-valid : (a : Answer) → answer_status a ≡ status.Done → a ≡ Valid
 done-valid Valid e = refl
-done-valid (InitialMissing c) e = absurd (cc e)
-done-valid (BadHeld c) e = absurd (cc e)
-done-valid (Leaves r c d) e = absurd (cc e)
-done-valid NotInitial e = absurd (cc e)
-done-valid (NotStep k) e = absurd (cc e)
-done-valid NotBad e = absurd (cc e)
+done-valid _ e = absurd (cc e)
 
 module _ (sound : (s : SystemData) (m : Automaton) → Proves s m → IsSafe s) (meaning : MeaningIsDetermined) (either : FaultExcludesMeaning)
     (answer-once : AnswerIsDetermined) (s : SystemData) (valid : IsValid s) (text : List ℕ) (reply : Reply) where

@@ -23,24 +23,21 @@ use Rattle.armc_commands.specs.Commands.Show.{IsShowReply}
 use Rattle.armc_commands.specs.Commands.Steps.{IsStepsReply}
 use Rattle.armc_commands.specs.Commands.Verify.{IsVerifyReply, VerifyPromise}
 
--- the most bytes that a protocol, a text of properties and a certificate may have
-abbrev pub protocol_limit : ℕ
-protocol_limit = 1048576
-
-abbrev pub properties_limit : ℕ
-properties_limit = 1048576
+-- the most bytes that a text of a protocol or of properties may have, and that of a certificate
+abbrev pub text_limit : ℕ
+text_limit = 1048576
 
 abbrev pub certificate_limit : ℕ
 certificate_limit = 67108864
 
 -- where the text of the command's protocol comes from
 abbrev pub protocol_origin : Command → Origin
-protocol_origin (verify file certificate) = named file protocol_limit
-protocol_origin (migrate file certificate) = named file protocol_limit
-protocol_origin (steps file configuration) = named file protocol_limit
-protocol_origin (show file) = named file protocol_limit
-protocol_origin (searching file query limits) = named file protocol_limit
-protocol_origin (checking_all file properties limits) = named file protocol_limit
+protocol_origin (verify file certificate) = named file text_limit
+protocol_origin (migrate file certificate) = named file text_limit
+protocol_origin (steps file configuration) = named file text_limit
+protocol_origin (show file) = named file text_limit
+protocol_origin (searching file query limits) = named file text_limit
+protocol_origin (checking_all file properties limits) = named file text_limit
 protocol_origin (generate number workers) = generated number
 
 -- where the command's second text comes from: the certificate, the configuration, the properties, or no text
@@ -50,7 +47,7 @@ second_origin (migrate file certificate) = named certificate certificate_limit
 second_origin (steps file configuration) = given configuration
 second_origin (show file) = given []
 second_origin (searching file query limits) = given []
-second_origin (checking_all file properties limits) = named properties properties_limit
+second_origin (checking_all file properties limits) = named properties text_limit
 second_origin (generate number workers) = given []
 
 -- the reply of the command for this protocol, which has no fault, and this second text

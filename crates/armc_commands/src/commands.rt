@@ -35,11 +35,8 @@ use std::thread::Threads;
 use steps::steps_reply;
 use verify::{keeps_verify_promise, verify_reply};
 
-/// The most bytes of a protocol text.
-const PROTOCOL_LIMIT: u64 = 1_048_576;
-
-/// The most bytes of a text of properties.
-const PROPERTIES_LIMIT: u64 = 1_048_576;
+/// The most bytes of a text of a protocol or of properties.
+const TEXT_LIMIT: u64 = 1_048_576;
 
 /// The most bytes of a certificate text.
 const CERTIFICATE_LIMIT: u64 = 67_108_864;
@@ -50,7 +47,7 @@ pub fn protocol_origin(command: Command<'_>) -> Origin<'_>
     ensures origin { origin_of result ≡ protocol_origin_of (said command.entry) }
     ensures readable { IsReadable (origin_of result) }
 {
-    let limit = PROTOCOL_LIMIT;
+    let limit = TEXT_LIMIT;
     match command {
         Command::Verify { file, .. } => Origin::Named { name: file, limit },
         Command::Migrate { file, .. } => Origin::Named { name: file, limit },
@@ -83,7 +80,7 @@ pub fn second_origin(command: Command<'_>) -> Origin<'_>
         Command::Search { .. } => Origin::Given { text: "" },
         Command::CheckAll { properties, .. } => Origin::Named {
             name: properties,
-            limit: PROPERTIES_LIMIT,
+            limit: TEXT_LIMIT,
         },
         Command::Generate { .. } => Origin::Given { text: "" },
     }
