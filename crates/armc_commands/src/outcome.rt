@@ -5,7 +5,9 @@ ghost use Rattle.std.specs.Prelude.{◌≡◌, ◌≤◌, ℕ, List, None, Some,
 ghost use Rattle.armc_io.specs.Library.{LibraryState};
 ghost use Rattle.protocol_model.specs.Numbering.{system_of};
 ghost use Rattle.command_words.specs.Words.{command_of as command_of_words, IsInRange, said};
-ghost use Rattle.armc_commands.specs.Commands.{second_origin as second_origin_of};
+ghost use Rattle.command_replies.specs.Reading.{IsReadingOf};
+ghost use Rattle.armc_commands.specs.Origin.{IsTextFrom};
+ghost use Rattle.armc_commands.specs.Commands.{protocol_origin as protocol_origin_of, second_origin as second_origin_of};
 ghost use Rattle.armc_commands.specs.private.LibraryReads.{IsEarlier, IsToldOrigin};
 ghost use Rattle.armc_commands.specs.Outcome.{HasProtocol, IsOutcome, IsReliableFor};
 
@@ -54,6 +56,39 @@ fn carry_out<L: Library, G: Gate, R: Threads + Sync>(
     )?)
 }
 
+// Carries out the command for what the text of its protocol says, or tells the first fault of that text.
+fn reply_to_reading<L: Library, G: Gate, R: Threads + Sync>(
+    alloc: Global,
+    runtime: &R,
+    gate: &G,
+    command: Command,
+    reading: &Reading,
+    library: &mut L,
+) -> Result<Reply, Failure>
+    requires reading { (text : List ℕ) × IsReadingOf text reading.now }
+    requires in_range { IsInRange (said command) }
+    ensures outcome { (words : List (List ℕ)) (before : LibraryState) (text : List ℕ) → IsEarlier before (L.state library.old)
+        → command_of_words words ≡ Some (said command.entry) → IsTextFrom before.told (protocol_origin_of (said command.entry)) text
+        → IsReadingOf text reading.now → IsOutcome words before (L.state library.new) result }
+    ensures no_fall { (L.state library.old).faults ≤ (L.state library.new).faults }
+    ensures quiet { (words : List (List ℕ)) (text : List ℕ) → IsReliableFor words (L.state library.old)
+        → command_of_words words ≡ Some (said command.entry)
+        → IsTextFrom (L.state library.old).told (protocol_origin_of (said command.entry)) text → IsReadingOf text reading.now
+        → (L.state library.new).faults ≡ (L.state library.old).faults }
+{
+    match reading {
+        Reading::Refused(refusal) => Ok(refusal_reply(
+            alloc,
+            "protocol",
+            Status::ProtocolRefused,
+            refusal,
+        )?),
+        Reading::Protocol(protocol, system) => {
+            carry_out(alloc, runtime, gate, command, protocol, system, library)
+        }
+    }
+}
+
 // Reads the protocol of the command, and carries it out where the protocol has no fault.
 fn reply_to_command<L: Library, G: Gate, R: Threads + Sync>(
     alloc: Global,
@@ -73,17 +108,8 @@ fn reply_to_command<L: Library, G: Gate, R: Threads + Sync>(
         Ok(text) => text,
         Err(failure) => return Err(failure),
     };
-    match read_protocol(alloc, text.as_slice())? {
-        Reading::Refused(refusal) => Ok(refusal_reply(
-            alloc,
-            "protocol",
-            Status::ProtocolRefused,
-            &refusal,
-        )?),
-        Reading::Protocol(protocol, system) => {
-            carry_out(alloc, runtime, gate, command, &protocol, &system, library)
-        }
-    }
+    let reading = read_protocol(alloc, text.as_slice())?;
+    reply_to_reading(alloc, runtime, gate, command, &reading, library)
 }
 
 /// Reads the texts that the words name in their order, and makes the reply.

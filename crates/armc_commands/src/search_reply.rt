@@ -4,6 +4,7 @@
 ghost use Rattle.std.specs.Prelude.{◌≡◌, ◌<◌, ◌≤◌, [], ◌∷◌, List, None, IfOk};
 ghost use Rattle.refinement.specs.Verdicts.{IsSound, log_in};
 ghost use Rattle.protocol_search.specs.Analyses.{proof_limit, task_for};
+ghost use Rattle.protocol_search.specs.Verdicts.{IsVerdictOf};
 ghost use Rattle.command_words.specs.Words.{IsWorkers, most_budget};
 ghost use Rattle.command_replies.specs.declared.reply.Reply.{Reply as ReplyData};
 ghost use Rattle.armc_commands.specs.SearchReply.{Part, only_part, IsSearchReply, IsTold, report_of as report_of_telling, status_of};
@@ -85,6 +86,27 @@ fn report_of(alloc: Global, telling: Telling, log: &Log) -> Result<Vec<u8>, Allo
     }
 }
 
+// The reply that tells the verdict of this search for the system.
+fn reply_to_verdict(
+    alloc: Global,
+    system: &System,
+    search: Search,
+    telling: Telling,
+    verdict: &Verdict,
+) -> Result<Reply, AllocError>
+    requires most { search.budget ≤ most_budget }
+    requires sound { IsSound (task_for search.analysis system.now) (proof_limit search.analysis search.budget) verdict.now }
+    ensures { IsVerdictOf system.now search verdict.now → IfOk result (IsSearchReply telling (only_part system.now search)) }
+{
+    let out = told_text(alloc, system, search, telling, verdict)?;
+    let err = report_of(alloc, telling, log_of(verdict))?;
+    Ok(Reply {
+        status: verdict_status(verdict),
+        out: Sequence::from_vec(out),
+        err: Sequence::from_vec(err),
+    })
+}
+
 /// The reply of one search for the system, in 1 to 16 threads, whose verdict is told so. The only error is that memory ran out.
 pub fn search_reply<G: Gate, R: Threads + Sync>(
     alloc: Global,
@@ -101,13 +123,7 @@ pub fn search_reply<G: Gate, R: Threads + Sync>(
     ensures { IfOk result (IsSearchReply telling (only_part system.now search)) }
 {
     let verdict = search_system(alloc, runtime, gate, system, search, workers)?;
-    let out = told_text(alloc, system, search, telling, &verdict)?;
-    let err = report_of(alloc, telling, log_of(&verdict))?;
-    Ok(Reply {
-        status: verdict_status(&verdict),
-        out: Sequence::from_vec(out),
-        err: Sequence::from_vec(err),
-    })
+    reply_to_verdict(alloc, system, search, telling, &verdict)
 }
 
 /// The law of replies to searches: each keeps what it promises. The function does nothing.

@@ -5,6 +5,8 @@
 ghost use Rattle.std.specs.Prelude.{◌≡◌, ◌≤◌, ℕ, List, IfOk, None, Some, codes};
 ghost use Rattle.std.specs.List.{list_any};
 ghost use Rattle.command_words.specs.Words.{IsLimits, most_budget};
+ghost use Rattle.protocol_syntax.specs.Properties.{AreProperties};
+ghost use Rattle.protocol_properties.specs.Properties.{AreAllowedBlocks};
 ghost use Rattle.protocol_model.specs.System.{SystemData};
 ghost use Rattle.property_batch.specs.PropertyVerdicts.{AreVerdicts, IsPropertyVerdict};
 ghost use Rattle.command_replies.specs.declared.reply.Reply.{Reply as ReplyData};
@@ -24,7 +26,7 @@ use property_batch::{property_verdicts_show, search_all};
 use protocol_model::System;
 use protocol_properties::{Property, resolve_properties, texts_say_allowed_properties};
 use protocol_search::{Analysis, FirstAbstraction, Search, verdict_text};
-use protocol_syntax::parse_properties;
+use protocol_syntax::{Name, RowText, parse_properties};
 use refinement::Verdict;
 use std::alloc::{AllocError, Global};
 use std::thread::Threads;
@@ -145,6 +147,25 @@ fn search_properties<G: Gate, R: Threads + Sync>(
     Ok(on_out(alloc, worst_status(verdicts.as_slice()), text))
 }
 
+// The reply to the properties that some text says, or the line of the first fault of their names.
+fn reply_to_blocks<G: Gate, R: Threads + Sync>(
+    alloc: Global,
+    runtime: &R,
+    gate: &G,
+    system: &System,
+    blocks: &[(Name, RowText)],
+    limits: Limits,
+) -> Result<Reply, AllocError>
+    requires blocks { AreAllowedBlocks blocks.now }
+    requires limits { IsLimits limits }
+    ensures { (text : List ℕ) → AreProperties text blocks.now → IfOk result (IsCheckAllReply system.now limits.budget text) }
+{
+    match resolve_properties(alloc, system, blocks) {
+        Ok(properties) => { search_properties(alloc, runtime, gate, properties.as_slice(), limits) }
+        Err(fault) => refused(alloc, &refused_by_names(fault)?),
+    }
+}
+
 /// The verdicts on the properties that the text says of the system, each told as `check` tells it, or the line of the text's first fault.
 /// The only error is that memory ran out.
 pub fn check_all_reply<G: Gate, R: Threads + Sync>(
@@ -158,16 +179,11 @@ pub fn check_all_reply<G: Gate, R: Threads + Sync>(
     requires { IsLimits limits }
     ensures { IfOk result (IsCheckAllReply system.now limits.budget text.now) }
 {
-    let blocks = match parse_properties(alloc, text) {
-        Ok(blocks) => blocks,
-        Err(fault) => return refused(alloc, &refused_by_grammar(fault)?),
-    };
     texts_say_allowed_properties();
-    let properties = match resolve_properties(alloc, system, blocks.as_slice()) {
-        Ok(properties) => properties,
-        Err(fault) => return refused(alloc, &refused_by_names(fault)?),
-    };
-    search_properties(alloc, runtime, gate, properties.as_slice(), limits)
+    match parse_properties(alloc, text) {
+        Ok(blocks) => reply_to_blocks(alloc, runtime, gate, system, blocks.as_slice(), limits),
+        Err(fault) => refused(alloc, &refused_by_grammar(fault)?),
+    }
 }
 
 /// What `checkall` promises: each part of the reply comes from the one history of its own property's search, and what it tells is true. The

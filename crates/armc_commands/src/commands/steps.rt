@@ -29,8 +29,7 @@ fn push_successor(
     text.extend_from_slice(b" -> ")?;
     let words = configuration_text(alloc, system, &pair.1)?;
     text.extend_from_slice(words.as_slice())?;
-    text.push(b'\n')?;
-    Ok(())
+    text.push(b'\n')
 }
 
 // The lines of the successors, each with the name of its rule.

@@ -1,16 +1,18 @@
 //! The command that judges a certificate: its text is read, the judgement is made, and its answer is told in a line.
 //! It costs what the judgement costs.
 
-ghost use Rattle.std.specs.Prelude.{◌≡◌, ◌≢◌, ◌↔◌, ◌++◌, ℕ, List, IsTrue, IfOk, OnOk, MatchOption, codes, decimal};
+ghost use Rattle.std.specs.Prelude.{◌≡◌, ◌++◌, ℕ, List, IsTrue, IfOk, codes, decimal};
 ghost use Rattle.protocol_model.specs.Patterns.{fits};
 ghost use Rattle.configuration_words.specs.Texts.{configuration_text as text_of};
 ghost use Rattle.protocol_model.specs.System.{SystemData, IsValid};
 ghost use Rattle.command_replies.specs.declared.reply.Reply.{Reply as ReplyData};
+ghost use Rattle.certificate.specs.Meaning.{IsCertificateOf};
+ghost use Rattle.certificate_checker.specs.Answers.{HasLetters};
 ghost use Rattle.command_replies.specs.Line.{line};
 ghost use Rattle.command_replies.specs.Reply.{on_out as on_out_of};
-ghost use Rattle.armc_commands.specs.Commands.Verify.{ShowsFitting, IsVerifyReply, VerifyPromise, answer_text, answer_status as answer_status_of};
+ghost use Rattle.armc_commands.specs.Commands.Verify.{Judges, ShowsFitting, IsVerifyReply, VerifyPromise, answer_text, answer_status as answer_status_of};
 
-use certificate::{one_reading, read};
+use certificate::{Certificate, one_reading, read};
 use certificate_checker::{Answer, check_certificate, one_answer, proofs_are_sound};
 use command_replies::{Reply, Status, certificate_refusal, line_of, on_out, rule_name};
 use configuration_words::configuration_text;
@@ -102,18 +104,33 @@ fn answer_status(answer: &Answer) -> Status
     }
 }
 
+// The reply that tells an answer.
+fn reply_to_answer(alloc: Global, system: &System, answer: &Answer) -> Result<Reply, AllocError>
+    requires { ShowsFitting system.now answer.now }
+    ensures { IfOk result (λ reply. reply ≡ on_out_of (answer_status_of answer.now) (line (answer_text system.now answer.now))) }
+{
+    let line = answer_line(alloc, system, answer)?;
+    Ok(on_out(alloc, answer_status(answer), line))
+}
+
+// The reply that tells the judgement of a certificate.
+fn judgement(alloc: Global, system: &System, certificate: &Certificate) -> Result<Reply, AllocError>
+    requires { HasLetters system.now certificate.now }
+    ensures { (text : List ℕ) → IsCertificateOf system.now text certificate.now → IfOk result (Judges system.now text) }
+{
+    let answer = check_certificate(alloc, system, certificate)?;
+    reply_to_answer(alloc, system, &answer)
+}
+
 /// The line that tells the judgement of the certificate that the text means, or that of its first fault. The only error is that
 /// memory ran out.
 pub fn verify_reply(alloc: Global, system: &System, text: &[u8]) -> Result<Reply, AllocError>
     ensures { IfOk result (IsVerifyReply system.now text.now) }
 {
-    let certificate = match read(alloc, text, system) {
-        Ok(certificate) => certificate,
-        Err(fault) => return certificate_refusal(alloc, &fault),
-    };
-    let answer = check_certificate(alloc, system, &certificate)?;
-    let line = answer_line(alloc, system, &answer)?;
-    Ok(on_out(alloc, answer_status(&answer), line))
+    match read(alloc, text, system) {
+        Ok(certificate) => judgement(alloc, system, &certificate),
+        Err(fault) => certificate_refusal(alloc, &fault),
+    }
 }
 
 /// What `verify` promises: the status is 0 exactly where the text shows a proof. The function does nothing.
