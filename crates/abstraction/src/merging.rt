@@ -82,7 +82,8 @@ fn classes_after<A: Refinable>(
 ) -> Result<Vec<usize>, AllocError>
     requires letters { IsOver a.now.letters (A.Abstraction.key abstraction.now) }
     requires before { AreClassesBefore A.Abstraction.related A.next (A.Abstraction.key abstraction.now) a.now before.now }
-    ensures { IfOk result (λ classes. AreClasses (A.Abstraction.related (A.Abstraction.key abstraction.now) a.now) (length a.now.states) classes.items) }
+    ensures { IfOk result (λ classes. AreClasses (A.Abstraction.related (A.Abstraction.key abstraction.now) a.now)
+        (length a.now.states) classes.items) }
 {
     if are_single(before) {
         return Vec::from_slice(alloc, before);
