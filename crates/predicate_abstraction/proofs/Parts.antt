@@ -1,18 +1,20 @@
 -- Classes that are split, by the rows of a set of pairs and by one predicate automaton after another.
-use Rattle.std.proofs.Common.{◌≡◌, ◌<◌, ◌≤◌, ◌+◌, ◌↔◌, ℕ, Some, List, [], ◌∷◌, ◌++◌, Contains, length, get_or, take, drop, refl, sym, ap, subst, ◌∙◌, inl, inr, arith}
+use Rattle.std.proofs.Common.{◌≡◌, ◌<◌, ◌≤◌, ◌+◌, ◌↔◌, ℕ, Some, List, [], ◌∷◌, ◌++◌, Contains, length, get_or, take, drop, refl, sym, ap, subst, ◌∙◌, inl, inr, arith, length-append}
 use Rattle.std.specs.Prelude.{replicate}
 use Rattle.std.proofs.lemmas.Bool.{cases_lt}
 use Rattle.std.proofs.lemmas.Option.{slice_get-get_or, same_Some}
-use Rattle.std.proofs.lemmas.List.{length-replicate, get_or-replicate, take_more, take-append-drop}
-use Rattle.std.proofs.lemmas.List.Elements.{Contains-append_left, Contains-push}
+use Rattle.std.proofs.lemmas.List.{length-replicate, get_or-replicate, get_or_push, take_more, take-append-drop}
+use Rattle.std.proofs.lemmas.List.Elements.{Contains-append_left, Contains-push, Contains-push_cases}
 use Rattle.word_automata.specs.Automaton.{Automaton}
-use Rattle.abstraction.specs.Merging.{AreClasses}
-use Rattle.predicate_abstraction.specs.Predicates.{SharesWord, MeetSame}
+use Rattle.abstraction.specs.Merging.{Key, AreClasses}
+use Rattle.abstraction.specs.KnownClasses.{AreClassesBefore}
+use Rattle.predicate_abstraction.specs.Predicates.{SharesWord, MeetSame, RefinedKey, predicates, key_of, is_related, next_key}
 use Rattle.predicate_abstraction.specs.private.Pairs.{Pairs}
 use Rattle.predicate_abstraction.specs.private.SharedWords.{AreShared}
 use Rattle.abstraction.specs.Partitions.{AreNumbers}
-use Rattle.abstraction.proofs.ForCallers.{take_cases}
-use Rattle.predicate_abstraction.specs.private.Splitting.{AreClassesBy, HaveSame, HaveSameRows, IsSplit, IsSplitByRows}
+use Rattle.abstraction.specs.FirstStates.{AreFirsts}
+use Rattle.abstraction.proofs.ForCallers.{first_same, first_within, take_cases}
+use Rattle.predicate_abstraction.specs.private.Splitting.{AreClassesBy, AreClassesOfAllButLast, HaveSame, HaveSameRows, IsSplit, IsSplitByRows}
 
 -- no row
 pub rows_none : (set : Pairs) (classes split : List ℕ) → split ≡ classes → AreNumbers set.columns classes → IsSplitByRows set 0 0 classes split
@@ -159,6 +161,49 @@ classes_by_more a predicates i b classes finer within read split before = record
     more : take (i + 1) predicates ≡ take i predicates ++ get_or predicates i b ∷ []
     more = take_more predicates i b within
 
+-- first states of classes
+pub classes_by_firsts : (a : Automaton) (predicates : List Automaton) (classes firsts : List ℕ) → AreClasses (MeetSame predicates a) (length a.states) classes
+    → AreFirsts classes firsts → AreClassesBy predicates a firsts
+classes_by_firsts a predicates classes firsts by are = record {
+  numbers = record {
+    count = are.count ∙ by.count;
+    below = λ p there. let count = by.count in subst (λ n. get_or firsts p 0 < n) count (first_within classes firsts are p (omega arith));
+  };
+  apart = λ p q lp lq.
+      let count = by.count in
+      let same = first_same classes firsts are p q (omega arith) (omega arith) in
+      let meet = by.related p q lp lq in
+      (λ e. meet.0 (same.0 e), λ m. same.1 (meet.1 m));
+}
+
+-- one predicate automaton behind all others
+pub classes_by_last : (a : Automaton) (others : List Automaton) (b last : Automaton) (predicates : List Automaton) (classes finer : List ℕ)
+    → others ++ last ∷ [] ≡ predicates → b ≡ last → IsSplit a b classes finer → AreClassesBy others a classes → AreClassesBy predicates a finer
+classes_by_last a others b last predicates classes finer are same split before = record {
+  numbers = split.numbers;
+  apart = λ p q lp lq.
+      let now = split.apart p q lp lq in
+      let earlier = before.apart p q lp lq in (
+        λ e c there s below. elim (Contains-push_cases others last c (subst (λ ps. Contains ps c) (sym are) there)) [
+          | inl old ↦ earlier.0 (now.0 e).0 c old s below
+          | inr here ↦
+              subst (λ (m : Automaton). (t : ℕ) → t < length m.states → SharesWord a p m t ↔ SharesWord a q m t) (same ∙ here) (now.0 e).1 s below
+        ],
+        λ meet. now.1 (
+          earlier.1 (λ c there s below. meet c (subst (λ ps. Contains ps c) are (Contains-append_left others (last ∷ []) c there)) s below),
+          meet b (subst (λ ps. Contains ps b) are (subst (Contains (others ++ last ∷ [])) (sym same) (Contains-push others last))),
+        ),
+      );
+}
+
+-- the last of some automata
+pub last_is : (others : List Automaton) (last b : Automaton) (predicates : List Automaton) (i : ℕ) → others ++ last ∷ [] ≡ predicates → length predicates ≡ i + 1
+    → b ≡ get_or predicates i b → b ≡ last
+last_is others last b predicates i are count at =
+    let more = length-append others (last ∷ []) in
+    let long = ap length are in
+    at ∙ sym (ap (λ ps. get_or ps i b) are) ∙ get_or_push others last b i (omega (arith, more, long, count))
+
 -- where each state is alone, no further predicate automaton splits
 pub classes_by_alone : (a : Automaton) (predicates : List Automaton) (i : ℕ) (classes : List ℕ) → ((p : ℕ) → p < length classes → get_or classes p 0 ≡ p)
     → AreClassesBy (take i predicates) a classes → AreClassesBy predicates a classes
@@ -184,4 +229,18 @@ classes_by_all predicates a classes has = record {
         λ e. same.0 (same_Some (get_or classes p 0) (get_or classes q 0) (sym at_p ∙ e ∙ at_q)),
         λ r. at_p ∙ ap (λ (c : ℕ). Some c) (same.1 r) ∙ sym at_q,
       );
+}
+
+-- the automata of the key are those that are kept
+pub key_automata : (automata : List Automaton) (started : ℕ) (k : RefinedKey)
+    → (let kept : RefinedKey = record { first = predicates (take started automata); refuted = drop started automata } in kept) ≡ k → automata ≡ (key_of k).automata
+key_automata automata started k is = sym (take-append-drop started automata) ∙ ap (λ (x : RefinedKey). (key_of x).automata) is
+
+-- classes under the key before are those by all predicate automata but the last one
+pub all_but_last : (key : Key) (a : Automaton) (classes : List ℕ) → AreClassesBefore is_related next_key key a classes → AreClassesOfAllButLast key.automata a classes
+all_but_last key a classes before = record {
+  others = before.before.automata;
+  last = before.refuted;
+  are = ap (λ (k : Key). k.automata) before.leads;
+  classes_are = before.are;
 }

@@ -7,7 +7,7 @@ ghost use Rattle.predicate_abstraction.specs.PredicateLaws.{related-equivalence,
 ghost use Rattle.predicate_abstraction.specs.PredicateLaws.{refined-key, first-stays, refuted-added, related-excludes};
 
 use crate::predicate::Predicate;
-use crate::shares::classes_in_threads;
+use crate::shares::{classes_in_threads, split_by_last};
 use abstraction::{Abstraction, Excluding, Refinable};
 use minimise::Canon;
 use std::alloc::{AllocError, Global};
@@ -92,6 +92,16 @@ impl<'a, R: Threads + Sync> Refinable for Predicates<'a, R> {
         let predicate = Predicate::new(alloc, refuted)?;
         self.automata.push(predicate)?;
         Ok(())
+    }
+
+    /// It splits the classes by the last predicate automaton alone.
+    fn classes_after(
+        &self,
+        alloc: Global,
+        a: &Canon,
+        before: &[usize],
+    ) -> Result<Vec<usize>, AllocError> {
+        split_by_last(alloc, &self.automata, a, before)
     }
 
     ghost finer = { related-finer };

@@ -2,13 +2,13 @@
 //! the automata of its share alone, and the classes of all shares are put together.
 
 ghost use Rattle.std.specs.Prelude.{◌≡◌, All, IfOk};
-ghost use Rattle.predicate_abstraction.specs.private.Splitting.{AreClassesBy};
+ghost use Rattle.predicate_abstraction.specs.private.Splitting.{AreClassesBy, AreClassesOfAllButLast};
 
 use crate::common_classes::common_classes;
 use crate::predicate::Predicate;
 use crate::sources::sources_by_letter;
 use crate::splitting::split_by_predicate;
-use abstraction::are_single;
+use abstraction::{are_single, first_states};
 use minimise::Canon;
 use std::alloc::{AllocError, Global};
 use std::thread::{Threads, join};
@@ -90,4 +90,24 @@ fn classes_in_turn(
         classes = split_by_predicate(alloc, &classes, automaton, &into, predicate)?;
     }
     Ok(classes)
+}
+
+/// The classes of states that share words with the same states of the predicate automata, where those by all but the last one are known.
+pub fn split_by_last(
+    alloc: Global,
+    predicates: &[Predicate],
+    a: &Canon,
+    before: &[usize],
+) -> Result<Vec<usize>, AllocError>
+    requires letters { All (λ m. m.letters ≡ a.now.letters) predicates.now }
+    requires before { AreClassesOfAllButLast predicates.now a.now before.now }
+    ensures { IfOk result (λ classes. AreClassesBy predicates.now a.now classes.items) }
+{
+    let classes = first_states(alloc, before)?;
+    let Some(last) = predicates.len().checked_sub(1) else {
+        return Ok(classes);
+    };
+    let automaton = a.as_dfa();
+    let into = sources_by_letter(alloc, automaton)?;
+    split_by_predicate(alloc, &classes, automaton, &into, &predicates[last])
 }

@@ -1,6 +1,7 @@
 -- Blocks and classes of states that are split.
-use Rattle.std.specs.Prelude.{◌≡◌, ◌↔◌, ◌<◌, ◌≤◌, ℕ, List, Contains, length, slice_index}
+use Rattle.std.specs.Prelude.{◌≡◌, ◌↔◌, ◌<◌, ◌≤◌, ℕ, List, [], ◌∷◌, ◌++◌, Contains, length, slice_index}
 use Rattle.word_automata.specs.Automaton.{Automaton}
+use Rattle.abstraction.specs.Merging.{AreClasses}
 use Rattle.abstraction.specs.Partitions.{AreNumbers}
 use Rattle.predicate_abstraction.specs.Predicates.{SharesWord, MeetSame}
 use Rattle.predicate_abstraction.specs.private.Pairs.{Pairs}
@@ -31,6 +32,13 @@ pub record IsSplitByRows (set : Pairs) (first end : ℕ) (classes finer : List �
 pub record AreClassesBy (predicates : List Automaton) (a : Automaton) (classes : List ℕ) : Type 0 where
   pub numbers : AreNumbers (length a.states) classes
   pub apart : (p q : ℕ) → p < length a.states → q < length a.states → (slice_index classes p ≡ slice_index classes q) ↔ MeetSame predicates a p q
+
+-- classes by some automata, whatever numbers they have, to which one more leads
+pub record AreClassesOfAllButLast (predicates : List Automaton) (a : Automaton) (classes : List ℕ) : Type 0 where
+  pub others : List Automaton
+  pub last : Automaton
+  pub are : others ++ last ∷ [] ≡ predicates
+  pub classes_are : AreClasses (MeetSame others a) (length a.states) classes
 
 -- states are in one class of both lists exactly where they are in one class of each
 pub record AreCommon (a b both : List ℕ) : Type 0 where

@@ -1,17 +1,11 @@
-use Rattle.std.proofs.Common.{◌≡◌, ◌++◌, ℕ, List, All, length, take, drop, sym, ap, subst, ◌∙◌}
-use Rattle.std.proofs.lemmas.List.{take-append-drop}
+use Rattle.std.proofs.Common.{◌≡◌, All, length, sym, subst, ◌∙◌}
 use Rattle.std.proofs.lemmas.Result.{IfOk-weaker}
 use Rattle.word_automata.specs.Automaton.{Automaton}
 use Rattle.abstraction.specs.Merging.{AreClasses}
-use Rattle.predicate_abstraction.specs.Predicates.{RefinedKey, MeetSame, predicates, key_of}
+use Rattle.predicate_abstraction.specs.Predicates.{MeetSame, key_of}
 use Rattle.predicate_abstraction.specs.private.Splitting.{AreClassesBy}
-use Rattle.predicate_abstraction.proofs.Parts.{classes_by_all}
+use Rattle.predicate_abstraction.proofs.Parts.{classes_by_all, key_automata}
 use Rattle.predicate_abstraction.proofs.predicates.PredicatesAbstraction.classes.Goals as goal
-
--- the automata of the key are those that are kept
-key_automata : (automata : List Automaton) (started : ℕ) (k : RefinedKey)
-    → (let kept : RefinedKey = record { first = predicates (take started automata); refuted = drop started automata } in kept) ≡ k → automata ≡ (key_of k).automata
-key_automata automata started k is = sym (take-append-drop started automata) ∙ ap (λ (x : RefinedKey). (key_of x).automata) is
 
 pub classes_in_threads-requires : goal.classes_in_threads-requires
 classes_in_threads-requires g c =
