@@ -6,8 +6,8 @@ ghost use Rattle.protocol_syntax.specs.Grammar.{guard, set};
 use crate::limits::MAX_GUARDS;
 use crate::protocol::{GuardText, Region};
 use forms::{
-    AnyName, BRACE_LEFT, BRACE_RIGHT, Form, Keyword, Many, Means, Name, Or, Sign, Source, Symbol,
-    SyntaxFault, Then, UpTo, What,
+    AnyName, BRACE_LEFT, BRACE_RIGHT, Behind, Ended, Form, Keyword, Many, Means, Name, Or, Sign,
+    Source, Symbol, SyntaxFault, Then, UpTo, What,
 };
 use sequence::Sequence;
 
@@ -50,9 +50,7 @@ impl Form for Set {
     }
 
     fn read(&self, source: &Source<'_>, at: &mut usize) -> Result<Sequence<Name>, SyntaxFault> {
-        let parts = Then(Then(BRACE_LEFT, Many(AnyName)), BRACE_RIGHT).read(source, at)?;
-        let ((_, names), _) = parts;
-        Ok(names)
+        Ended(Behind(BRACE_LEFT, Many(AnyName)), BRACE_RIGHT).read(source, at)
     }
 }
 
@@ -71,9 +69,9 @@ impl Form for Guard {
     }
 
     fn read(&self, source: &Source<'_>, at: &mut usize) -> Result<GuardText, SyntaxFault> {
-        let head = Then(Then(WHEN, QUANTIFIER), REGION);
-        let parts = Then(Then(head, IN), Set).read(source, at)?;
-        let ((((_, all), region), _), letters) = parts;
+        let head = Then(Behind(WHEN, QUANTIFIER), REGION);
+        let parts = Then(head, Behind(IN, Set)).read(source, at)?;
+        let ((all, region), letters) = parts;
         Ok(GuardText {
             all,
             region,

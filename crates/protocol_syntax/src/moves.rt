@@ -13,8 +13,8 @@ use crate::limits::MAX_PUSHED;
 use crate::protocol::{MoveBody, MoveText, RuleText};
 use crate::rows::Base;
 use forms::{
-    ARROW, AnyName, BRACE_LEFT, BRACE_RIGHT, COLON, Form, Keyword, Many, Name, Only, OrEmpty,
-    SEMICOLON, Sign, Source, Symbol, SyntaxFault, Then, UpTo, What, with_first,
+    ARROW, AnyName, BRACE_LEFT, BRACE_RIGHT, Behind, COLON, Ended, Form, Keyword, Many, Name, Only,
+    OrEmpty, SEMICOLON, Sign, Source, Symbol, SyntaxFault, Then, UpTo, What, with_first,
 };
 use sequence::Sequence;
 
@@ -61,9 +61,7 @@ impl Form for Entry {
     }
 
     fn read(&self, source: &Source<'_>, at: &mut usize) -> Result<(Name, Name), SyntaxFault> {
-        let parts = Then(Then(Then(AnyName, ARROW), AnyName), SEMICOLON).read(source, at)?;
-        let (((from, _), to), _) = parts;
-        Ok((from, to))
+        Ended(Then(AnyName, Behind(ARROW, AnyName)), SEMICOLON).read(source, at)
     }
 }
 
@@ -86,10 +84,8 @@ impl Form for Table {
         source: &Source<'_>,
         at: &mut usize,
     ) -> Result<Sequence<(Name, Name)>, SyntaxFault> {
-        let body = Then(Then(MAP, BRACE_LEFT), Many(Entry));
-        let parts = Then(body, BRACE_RIGHT).read(source, at)?;
-        let ((_, entries), _) = parts;
-        Ok(entries)
+        let entries = Ended(Behind(BRACE_LEFT, Many(Entry)), BRACE_RIGHT);
+        Behind(MAP, entries).read(source, at)
     }
 }
 
@@ -97,9 +93,9 @@ impl Form for Table {
 fn at_move(source: &Source<'_>, at: &mut usize) -> Result<MoveBody, SyntaxFault>
     ensures { IsRead at_move (source_of source.now.text.now source.now.tokens.now) at.old at.new result }
 {
-    let change = Then(Then(Then(AT, AnyName), ARROW), AnyName);
+    let change = Then(Behind(AT, AnyName), Behind(ARROW, AnyName));
     let parts = Then(Then(change, GUARDS), OrEmpty(Table)).read(source, at)?;
-    let (((((_, from), _), to), guards), map) = parts;
+    let (((from, to), guards), map) = parts;
     Ok(MoveBody::At {
         from,
         to,
@@ -116,9 +112,10 @@ fn four_names(
 ) -> Result<(Name, Name, Name, Name), SyntaxFault>
     ensures { IsRead (four_names word) (source_of source.now.text.now source.now.tokens.now) at.old at.new result }
 {
-    let two = Then(Then(Sign(Symbol::Reserved(word)), AnyName), AnyName);
-    let parts = Then(Then(Then(two, ARROW), AnyName), AnyName).read(source, at)?;
-    let (((((_, a), b), _), c), d) = parts;
+    let two = Then(AnyName, AnyName);
+    let head = Sign(Symbol::Reserved(word));
+    let parts = Then(Behind(head, two), Behind(ARROW, two)).read(source, at)?;
+    let ((a, b), (c, d)) = parts;
     Ok((a, b, c, d))
 }
 
@@ -153,8 +150,8 @@ fn two_move(source: &Source<'_>, at: &mut usize) -> Result<MoveBody, SyntaxFault
 fn set_move(source: &Source<'_>, at: &mut usize) -> Result<MoveBody, SyntaxFault>
     ensures { IsRead set_move (source_of source.now.text.now source.now.tokens.now) at.old at.new result }
 {
-    let parts = Then(Then(Then(SET, AnyName), ARROW), AnyName).read(source, at)?;
-    let (((_, from), _), to) = parts;
+    let parts = Then(Behind(SET, AnyName), Behind(ARROW, AnyName)).read(source, at)?;
+    let (from, to) = parts;
     Ok(MoveBody::Set { from, to })
 }
 
@@ -199,8 +196,8 @@ impl Form for Pushed {
     }
 
     fn read(&self, source: &Source<'_>, at: &mut usize) -> Result<Sequence<Name>, SyntaxFault> {
-        let parts = Then(Then(PUSH, AnyName), MORE_PUSHED).read(source, at)?;
-        let ((_, first), rest) = parts;
+        let parts = Then(Behind(PUSH, AnyName), MORE_PUSHED).read(source, at)?;
+        let (first, rest) = parts;
         with_first(first, rest.into_vec())
     }
 }
@@ -209,8 +206,8 @@ impl Form for Pushed {
 fn pop_move(source: &Source<'_>, at: &mut usize) -> Result<MoveBody, SyntaxFault>
     ensures { IsRead pop_move (source_of source.now.text.now source.now.tokens.now) at.old at.new result }
 {
-    let parts = Then(Then(POP, AnyName), OrEmpty(Pushed)).read(source, at)?;
-    let ((_, letter), push) = parts;
+    let parts = Then(Behind(POP, AnyName), OrEmpty(Pushed)).read(source, at)?;
+    let (letter, push) = parts;
     Ok(MoveBody::Stack {
         pop: Some(letter),
         push,
@@ -382,9 +379,9 @@ impl Form for Rule {
         let steps = Many(Step {
             language: self.language,
         });
-        let head = Then(Then(RULE, AnyName), BRACE_LEFT);
-        let parts = Then(Then(head, steps), BRACE_RIGHT).read(source, at)?;
-        let ((((_, name), _), moves), _) = parts;
+        let body = Ended(Behind(BRACE_LEFT, steps), BRACE_RIGHT);
+        let parts = Then(Behind(RULE, AnyName), body).read(source, at)?;
+        let (name, moves) = parts;
         Ok(RuleText { name, moves })
     }
 }

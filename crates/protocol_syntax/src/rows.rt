@@ -10,8 +10,8 @@ use crate::guards::Set;
 use crate::limits::MAX_ATOMS;
 use crate::protocol::{AtomText, BaseText, Many as Count, PartText, RowText};
 use forms::{
-    AnyName, BRACE_LEFT, BRACE_RIGHT, COLON, Form, Keyword, Many, Means, Optional, Or, SEMICOLON,
-    Sign, Source, Symbol, SyntaxFault, Then, UpTo, What, with_first,
+    AnyName, BRACE_LEFT, BRACE_RIGHT, Behind, COLON, Ended, Form, Keyword, Many, Means, Optional,
+    Or, SEMICOLON, Sign, Source, Symbol, SyntaxFault, Then, UpTo, What, with_first,
 };
 use protocol_lexer::TokenKind;
 use sequence::Sequence;
@@ -129,8 +129,9 @@ impl Form for Part {
     }
 
     fn read(&self, source: &Source<'_>, at: &mut usize) -> Result<PartText, SyntaxFault> {
-        let parts = Then(Then(Then(AnyName, COLON), Pattern), SEMICOLON).read(source, at)?;
-        let (((section, _), atoms), _) = parts;
+        let pattern = Behind(COLON, Ended(Pattern, SEMICOLON));
+        let parts = Then(AnyName, pattern).read(source, at)?;
+        let (section, atoms) = parts;
         Ok(PartText { section, atoms })
     }
 }

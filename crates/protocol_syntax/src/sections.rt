@@ -13,8 +13,8 @@ ghost use Rattle.protocol_syntax.specs.private.Parts.{all_sections, letters_behi
 use crate::limits::{MAX_LETTERS, MAX_SECTIONS};
 use crate::protocol::{Kind, SectionText};
 use forms::{
-    AnyName, BRACE_LEFT, BRACE_RIGHT, Form, Item, Items, Keyword, Means, Name, Only, Or, Sign,
-    Source, Symbol, SyntaxFault, Then, UpTo, What, read_many, with_first,
+    AnyName, BRACE_LEFT, BRACE_RIGHT, Behind, Ended, Form, Item, Items, Keyword, Means, Name, Only,
+    Or, Sign, Source, Symbol, SyntaxFault, Then, UpTo, What, read_many, with_first,
 };
 use sequence::Sequence;
 
@@ -112,10 +112,10 @@ impl Form for Section {
         let kind = SectionKind {
             language: self.language,
         };
-        let head = Then(Then(kind, AnyName), BRACE_LEFT);
         let letters = Letters { used: self.used };
-        let parts = Then(Then(head, letters), BRACE_RIGHT).read(source, at)?;
-        let ((((kind, name), _), letters), _) = parts;
+        let body = Ended(Behind(BRACE_LEFT, letters), BRACE_RIGHT);
+        let parts = Then(Then(kind, AnyName), body).read(source, at)?;
+        let ((kind, name), letters) = parts;
         Ok(SectionText {
             kind,
             name,

@@ -11,7 +11,8 @@ use crate::protocol::Protocol;
 use crate::rows::Row;
 use crate::sections::sections;
 use forms::{
-    AnyName, Form, Keyword, OneOf, Optional, Sign, Source, Symbol, SyntaxFault, Then, UpTo, What,
+    AnyName, Behind, Form, Keyword, OneOf, Optional, Sign, Source, Symbol, SyntaxFault, Then, UpTo,
+    What,
 };
 use sequence::Text;
 use std::alloc::Global;
@@ -73,8 +74,8 @@ impl Form for WholeProtocol {
 
     fn read(&self, source: &Source<'_>, at: &mut usize) -> Result<Protocol, SyntaxFault> {
         let second = Optional(SecondLanguage, 1u32);
-        let head = Then(Then(PROTOCOL, AnyName), second).read(source, at)?;
-        let ((_, name), language) = head;
+        let head = Then(Behind(PROTOCOL, AnyName), second).read(source, at)?;
+        let (name, language) = head;
         let sections = sections(language, source, at)?;
         let rules = UpTo {
             limit: MAX_RULES,

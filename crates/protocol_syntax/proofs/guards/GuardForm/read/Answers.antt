@@ -1,8 +1,5 @@
-use Rattle.std.proofs.lemmas.Result.{err_from_is_err_and}
-use Rattle.forms.specs.Symbol.{source_of}
-use Rattle.forms.proofs.ForCallers.{says_made, fails_too}
 use Rattle.protocol_syntax.specs.Grammar.{quantifier, region}
-use Rattle.protocol_syntax.proofs.Together.{guard_as}
+use Rattle.protocol_syntax.proofs.Together.{guard_as, says_made, fails_too, source_of, err_from_is_err_and}
 use Rattle.protocol_syntax.proofs.guards.GuardForm.read.Goals as goal
 
 pub returns-in_err-parts : goal.returns-in_err-parts

@@ -1,7 +1,4 @@
-use Rattle.std.proofs.lemmas.Result.{err_from_is_err_and}
-use Rattle.forms.specs.Symbol.{source_of}
-use Rattle.forms.proofs.ForCallers.{says_made, fails_too}
-use Rattle.protocol_syntax.proofs.Together.{rule_as}
+use Rattle.protocol_syntax.proofs.Together.{rule_as, says_made, fails_too, source_of, err_from_is_err_and}
 use Rattle.protocol_syntax.proofs.moves.RuleForm.read.Goals as goal
 
 pub returns-in_err-parts : goal.returns-in_err-parts

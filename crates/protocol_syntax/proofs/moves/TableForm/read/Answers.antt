@@ -1,13 +1,5 @@
-use Rattle.std.proofs.lemmas.Result.{err_from_is_err_and}
-use Rattle.forms.specs.Symbol.{source_of}
-use Rattle.forms.proofs.ForCallers.{says_made, fails_too}
-use Rattle.protocol_syntax.proofs.Together.{table_as}
+use Rattle.protocol_syntax.proofs.Together.{table_as, given_alike, source_of}
 use Rattle.protocol_syntax.proofs.moves.TableForm.read.Goals as goal
 
-pub returns-in_err-parts : goal.returns-in_err-parts
-returns-in_err-parts c =
-    let p = err_from_is_err_and c.from_residual.result c.from_residual.ensures.1 in
-    rw (p.1, p.2) (fails_too table_as (source_of c.args.source.now.text.now c.args.source.now.tokens.now) _ _ c.in_err-parts.ensures)
-
 pub returns : goal.returns
-returns c = says_made table_as (source_of c.args.source.now.text.now c.args.source.now.tokens.now) _ _ _ c.in_ok-parts.ensures
+returns c = given_alike table_as (source_of c.args.source.now.text.now c.args.source.now.tokens.now) _ _ _ c.read.ensures

@@ -1,6 +1,4 @@
-use Rattle.std.proofs.lemmas.Result.{err_from_is_err_and}
-use Rattle.forms.specs.Symbol.{source_of}
-use Rattle.protocol_syntax.proofs.Together.{head-fails, sections-fail, tail-fails, all_read}
+use Rattle.protocol_syntax.proofs.Together.{source_of, err_from_is_err_and, head-fails, sections-fail, tail-fails, all_read}
 use Rattle.protocol_syntax.proofs.whole.WholeProtocolForm.read.Goals as goal
 
 pub returns-in_err-head : goal.returns-in_err-head
