@@ -78,9 +78,9 @@ impl Family {
         set.numbers(alloc)
     }
 
-    /// How many edges, holders, and words of sets were looked at.
+    /// How many edges and words of sets were looked at.
     pub fn work(&self) -> usize {
-        self.looked.saturating_add(self.holders.asked())
+        self.looked.saturating_add(self.holders.looked())
     }
 
     /// Adds the set, if it has a number, and takes its numbers out.

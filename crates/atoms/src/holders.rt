@@ -9,11 +9,14 @@ ghost use Rattle.atoms.specs.private.Family.{IsUnion, IsPart};
 use bit_set::BitSet;
 use std::alloc::{AllocError, Global};
 
-/// For each place the numbers of the sets that hold it, and how many of these were asked.
+/// Asking a holder, whose set is read from another place of the memory, counts as looking at so many words.
+const WORDS_PER_HOLDER: usize = 4;
+
+/// For each place the numbers of the sets that hold it, and how many words of these were looked at.
 #[derive(Drop)]
 pub struct Holders {
     lists: Vec<Vec<usize>>,
-    asked: usize,
+    looked: usize,
 }
 
 impl Holders {
@@ -23,7 +26,7 @@ impl Holders {
         'places: for _ in 0..places {
             lists.push(Vec::new(alloc))?;
         }
-        Ok(Holders { lists, asked: 0 })
+        Ok(Holders { lists, looked: 0 })
     }
 
     /// Notes that the set with this number holds the places.
@@ -34,9 +37,9 @@ impl Holders {
         Ok(())
     }
 
-    /// How many holders were asked whether they lie within a set.
-    pub fn asked(&self) -> usize {
-        self.asked
+    /// How many words of holders were looked at.
+    pub fn looked(&self) -> usize {
+        self.looked
     }
 
     /// Whether sets that lie in this one have together all that it has. They are looked for at these places, which are its numbers or none.
@@ -69,21 +72,21 @@ impl Holders {
         if place >= self.lists.len() {
             return None;
         }
-        first_within(&self.lists[place], sets, set, &mut self.asked)
+        first_within(&self.lists[place], sets, set, &mut self.looked)
     }
 }
 
-/// The first of the numbers whose set lies within this one. Counts those that were asked.
+/// The first of the numbers whose set lies within this one. Counts the words that are looked at.
 fn first_within(
     numbers: &[usize],
     sets: &[BitSet],
     set: &BitSet,
-    asked: &mut usize,
+    looked: &mut usize,
 ) -> Option<usize>
     ensures { IfSome result (IsPart sets.now set.now) }
 {
     'numbers: for number in numbers {
-        *asked = asked.saturating_add(1);
+        *looked = looked.saturating_add(WORDS_PER_HOLDER);
         if *number >= sets.len() {
             continue;
         }

@@ -52,12 +52,9 @@ const FIRST_SETS: usize = 16_384;
 /// There are then so many turns, each with twice as many sets and more work for the atoms, before the sets are found to the end.
 const TURNS: usize = 8;
 
-/// So many edges, sets and words are looked at for the atoms for each state of the lists that were found, an eighth of what finding these
-/// has cost,
+/// So many edges and words of sets are looked at for the atoms for each state of the lists that were found, an eighth of what finding these
+/// has cost. For sets of bits it is one for each of their words and each letter.
 const WORK_PER_STATE: usize = 16;
-
-/// and so many for each word of the sets of bits that were found.
-const WORK_PER_WORD: usize = 8;
 
 /// The deterministic automaton of the sets of states that words lead to (M. O. Rabin and D. Scott, 1959), which accepts the same
 /// words. States are numbered breadth first, which is no clause here. States from which no word is accepted stand in no set. Of at most
@@ -336,7 +333,7 @@ fn turn_of_bits<'a>(
 {
     let found = turns.found.states();
     let words = found.len().saturating_mul(automaton.states() / 64 + 1);
-    let work = words.saturating_mul(WORK_PER_WORD);
+    let work = words.saturating_mul(automaton.letters() as usize);
     let sample = sample_of(alloc, found)?;
     turns.next(alloc, work, &sample, sets)
 }
