@@ -169,25 +169,25 @@ module _ (once : PropertiesAreDetermined) (fault_once : PropertiesFaultIsDetermi
 -- ---- a larger budget
 
 -- whether one verdict is unsafe, and whether one is unknown, where each verdict that is not unknown has the same status among others
-unsafe-step : (v w : Verdict) (rest more : Bool) → (status_of (v ∷ []) ≢ status.Unknown → status_of (w ∷ []) ≡ status_of (v ∷ []))
+unsafe_step : (v w : Verdict) (rest more : Bool) → (status_of (v ∷ []) ≢ status.Unknown → status_of (w ∷ []) ≡ status_of (v ∷ []))
     → (rest ≡ true → more ≡ true) → is_unsafe v || rest ≡ true → is_unsafe w || more ≡ true
-unsafe-step (Unsafe words log) (Unsafe words' log') rest more kept later h = refl
-unsafe-step (Unsafe words log) _ rest more kept later h = absurd (let e = kept (λ u. cc u) in cc e)
-unsafe-step _ (Unsafe words log) rest more kept later h = refl
-unsafe-step _ _ rest more kept later h = later h
+unsafe_step (Unsafe words log) (Unsafe words' log') rest more kept later h = refl
+unsafe_step (Unsafe words log) _ rest more kept later h = absurd (let e = kept (λ u. cc u) in cc e)
+unsafe_step _ (Unsafe words log) rest more kept later h = refl
+unsafe_step _ _ rest more kept later h = later h
 
 -- neither test holds
 abbrev AreBothFalse : Bool → Bool → Type 0
 AreBothFalse a b = (a ≡ false) × (b ≡ false)
 
-safe-step : (v w : Verdict) (rest rest' more more' : Bool) → (status_of (v ∷ []) ≢ status.Unknown → status_of (w ∷ []) ≡ status_of (v ∷ []))
+safe_step : (v w : Verdict) (rest rest' more more' : Bool) → (status_of (v ∷ []) ≢ status.Unknown → status_of (w ∷ []) ≡ status_of (v ∷ []))
     → (AreBothFalse rest rest' → AreBothFalse more more') → AreBothFalse (is_unsafe v || rest) (is_unknown v || rest')
     → AreBothFalse (is_unsafe w || more) (is_unknown w || more')
-safe-step (Safe proof log) (Safe proof' log') rest rest' more more' kept later h = later h
-safe-step (Safe proof log) (Unsafe words log') rest rest' more more' kept later h = absurd (let e = kept (λ u. cc u) in cc e)
-safe-step (Safe proof log) (Unknown log') rest rest' more more' kept later h = absurd (let e = kept (λ u. cc u) in cc e)
-safe-step (Unsafe words log) w rest rest' more more' kept later h = absurd (true≢false h.0)
-safe-step (Unknown log) w rest rest' more more' kept later h = absurd (true≢false h.1)
+safe_step (Safe proof log) (Safe proof' log') rest rest' more more' kept later h = later h
+safe_step (Safe proof log) (Unsafe words log') rest rest' more more' kept later h = absurd (let e = kept (λ u. cc u) in cc e)
+safe_step (Safe proof log) (Unknown log') rest rest' more more' kept later h = absurd (let e = kept (λ u. cc u) in cc e)
+safe_step (Unsafe words log) w rest rest' more more' kept later h = absurd (true≢false h.0)
+safe_step (Unknown log) w rest rest' more more' kept later h = absurd (true≢false h.1)
 
 -- whether one answer is unsafe, and whether one is unknown
 abbrev any-unsafe : List PartAnswer → Bool
@@ -196,21 +196,21 @@ any-unsafe answers = list_any is_unsafe (map (λ (a : PartAnswer). a.verdict) an
 abbrev any-unknown : List PartAnswer → Bool
 any-unknown answers = list_any is_unknown (map (λ (a : PartAnswer). a.verdict) answers)
 
-unsafe-kept : (answers more : List PartAnswer) → AreKept answers more → any-unsafe answers ≡ true → any-unsafe more ≡ true
-unsafe-kept [] [] kept h = h
-unsafe-kept [] (b ∷ ys) kept h = absurd kept
-unsafe-kept (a ∷ xs) [] kept h = absurd kept
-unsafe-kept (a ∷ xs) (b ∷ ys) kept h =
-    unsafe-step a.verdict b.verdict (any-unsafe xs) (any-unsafe ys) (λ decided. (kept.0 decided).status) (unsafe-kept xs ys kept.1) h
+unsafe_kept : (answers more : List PartAnswer) → AreKept answers more → any-unsafe answers ≡ true → any-unsafe more ≡ true
+unsafe_kept [] [] kept h = h
+unsafe_kept [] (b ∷ ys) kept h = absurd kept
+unsafe_kept (a ∷ xs) [] kept h = absurd kept
+unsafe_kept (a ∷ xs) (b ∷ ys) kept h =
+    unsafe_step a.verdict b.verdict (any-unsafe xs) (any-unsafe ys) (λ decided. (kept.0 decided).status) (unsafe_kept xs ys kept.1) h
 
-safe-kept : (answers more : List PartAnswer) → AreKept answers more → AreBothFalse (any-unsafe answers) (any-unknown answers)
+safe_kept : (answers more : List PartAnswer) → AreKept answers more → AreBothFalse (any-unsafe answers) (any-unknown answers)
     → AreBothFalse (any-unsafe more) (any-unknown more)
-safe-kept [] [] kept h = h
-safe-kept [] (b ∷ ys) kept h = absurd kept
-safe-kept (a ∷ xs) [] kept h = absurd kept
-safe-kept (a ∷ xs) (b ∷ ys) kept h =
-    safe-step a.verdict b.verdict (any-unsafe xs) (any-unknown xs) (any-unsafe ys) (any-unknown ys) (λ decided. (kept.0 decided).status)
-    (safe-kept xs ys kept.1) h
+safe_kept [] [] kept h = h
+safe_kept [] (b ∷ ys) kept h = absurd kept
+safe_kept (a ∷ xs) [] kept h = absurd kept
+safe_kept (a ∷ xs) (b ∷ ys) kept h =
+    safe_step a.verdict b.verdict (any-unsafe xs) (any-unknown xs) (any-unsafe ys) (any-unknown ys) (λ decided. (kept.0 decided).status)
+    (safe_kept xs ys kept.1) h
 
 -- the status of such tests
 abbrev status-by : Bool → Bool → Status
@@ -285,7 +285,7 @@ module _ (keeps : LargerBudgetKeepsVerdict) (keeps-text : LargerBudgetKeepsText)
         status = λ decided.
             other
             ∙ status-kept (any-unsafe h.answers) (any-unknown h.answers) (any-unsafe k.answers) (any-unknown k.answers)
-            (unsafe-kept h.answers k.answers kept) (safe-kept h.answers k.answers kept) (λ e. decided (one ∙ e))
+            (unsafe_kept h.answers k.answers kept) (safe_kept h.answers k.answers kept) (λ e. decided (one ∙ e))
             ∙ sym one;
         out = λ done.
             ap (λ (x : Reply). x.out) k.reply_is ∙ within ∙ texts-kept parts h.answers k.answers kept (done-tests (any-unsafe h.answers) (any-unknown h.answers) (sym one ∙ done))

@@ -25,9 +25,9 @@ shows-deadlock s (Safe proof log) text h e = absurd (cc e)
 shows-deadlock s (Unsafe words log) text h e = h
 shows-deadlock s (Unknown log) text h e = absurd (cc e)
 
-pub deadlock-promised : ((told : Telling) (parts : List Part) (reply : Reply) → IsSearchReply told parts reply → SearchPromise told parts reply)
+pub deadlock_promised : ((told : Telling) (parts : List Part) (reply : Reply) → IsSearchReply told parts reply → SearchPromise told parts reply)
     → (s : SystemData) (budget : ℕ) (reply : Reply) → IsSearchReply (Certificate None) (only_part s (search_for Deadlock budget)) reply → DeadlockPromise s budget reply
-deadlock-promised keep s budget reply h =
+deadlock_promised keep s budget reply h =
     let told : Telling = Certificate None in
     let search = search_for Deadlock budget in
     let promise = keep told (only_part s search) reply h in

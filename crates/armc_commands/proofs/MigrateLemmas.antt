@@ -24,8 +24,8 @@ run-meant s text c run is h = subst (λ (x : Certificate). IsCertificateOf s tex
 pub few-states : (s : SystemData) (text : List ℕ) (m : Automaton) → MeansAutomaton s text m → length m.states ≤ 1000000
 few-states s text m h = subst (λ n. n ≤ 1000000) (sym h.automaton.states_are) h.limit
 
-pub migrate-promised : (s : SystemData) (text : List ℕ) (reply : Reply) → IsMigrateReply s text reply → MigratePromise s text reply
-migrate-promised s text reply h done = elim h [
+pub migrate_promised : (s : SystemData) (text : List ℕ) (reply : Reply) → IsMigrateReply s text reply → MigratePromise s text reply
+migrate_promised s text reply h done = elim h [
   | inl refuses ↦ absurd (let e = sym done ∙ ap (λ (r : Reply). r.status) refuses.reply_is in cc e)
   | inr migrates ↦ migrates.same
 ]

@@ -4,7 +4,7 @@ use Rattle.std.specs.Prelude.{IfSome}
 use Rattle.chain_protocol.specs.Chain.{chain_text}
 use Rattle.chain_protocol.proofs.ForCallers.{text_says_chain}
 use Rattle.command_words.specs.Words.{Command, IsGenerate, IsInRange, generate}
-use Rattle.command_words.proofs.ForCallers.{commands-in-range}
+use Rattle.command_words.proofs.ForCallers.{commands_in_range}
 use Rattle.protocol_syntax.specs.Grammar.{protocol}
 use Rattle.protocol_syntax.specs.OneReading.{ProtocolIsDetermined, FaultIsDetermined, FaultExcludesProtocol}
 use Rattle.protocol_model.specs.Faults.{first_fault}
@@ -35,7 +35,7 @@ pub never_refused : ProtocolIsDetermined → FaultIsDetermined → FaultExcludes
 never_refused protocol_once fault_once either words told number workers reply asked is refused =
     elim (by_command words told (generate number workers) asked reply is) [
       | inl refuses ↦
-          let within : IsGenerate number workers = subst (λ (o : Option Command). IfSome o IsInRange) asked (commands-in-range words) in
+          let within : IsGenerate number workers = subst (λ (o : Option Command). IfSome o IsInRange) asked (commands_in_range words) in
           not_refused protocol_once fault_once either told number workers reply within refuses
       | inr out ↦
           not-of-search status.ProtocolRefused (λ e. cc e) (λ e. cc e) (λ e. cc e) (Summary number) (only_part (system_of out.protocol) default_search) reply

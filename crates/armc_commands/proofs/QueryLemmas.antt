@@ -17,7 +17,7 @@ use Rattle.armc_commands.specs.Commands.Searches.{search_for}
 use Rattle.armc_commands.specs.ReplyLaws.{SameAnswer}
 use Rattle.armc_commands.proofs.SearchLemmas.{part-of, certificate-promised, reply-stays}
 use Rattle.armc_commands.proofs.BackLemmas.{back-promised}
-use Rattle.armc_commands.proofs.DeadlockLemmas.{deadlock-promised}
+use Rattle.armc_commands.proofs.DeadlockLemmas.{deadlock_promised}
 
 -- each reply keeps what its query promises
 pub query-promised : ((told : Telling) (parts : List Part) (reply : Reply) → IsSearchReply told parts reply → SearchPromise told parts reply)
@@ -26,7 +26,7 @@ query-promised keep (ByCheck settings) budget s reply h =
     certificate-promised keep s (search_for (ByCheck settings) budget) (if settings.report then Some settings.method else None)
     (λ v text shows. shows) (λ log. refl) reply h
 query-promised keep ByBack budget s reply h = back-promised keep s budget reply h
-query-promised keep ByDeadlock budget s reply h = deadlock-promised keep s budget reply h
+query-promised keep ByDeadlock budget s reply h = deadlock_promised keep s budget reply h
 query-promised keep (ByPast bound) budget s reply h =
     certificate-promised keep s (search_for (ByPast bound) budget) None (λ v text shows. shows) (λ log. refl) reply h
 

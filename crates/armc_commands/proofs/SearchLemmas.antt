@@ -71,9 +71,9 @@ done-closed : (v : Verdict) → (status_of (v ∷ []) ≡ status.Done) ↔ (end_
 done-closed (Safe proof log) = (λ e. refl, λ e. refl)
 done-closed _ = (λ e. absurd (cc e), λ e. absurd (cc e))
 
-unsafe-real : (v : Verdict) → (status_of (v ∷ []) ≡ status.Unsafe) ↔ (end_of v ≡ Real)
-unsafe-real (Unsafe words log) = (λ e. refl, λ e. refl)
-unsafe-real _ = (λ e. absurd (cc e), λ e. absurd (cc e))
+unsafe_real : (v : Verdict) → (status_of (v ∷ []) ≡ status.Unsafe) ↔ (end_of v ≡ Real)
+unsafe_real (Unsafe words log) = (λ e. refl, λ e. refl)
+unsafe_real _ = (λ e. absurd (cc e), λ e. absurd (cc e))
 
 unknown-spent : (v : Verdict) → (status_of (v ∷ []) ≡ status.Unknown) ↔ (end_of v ≡ Spent)
 unknown-spent (Unknown log) = (λ e. refl, λ e. refl)
@@ -106,7 +106,7 @@ module _ (histories : VerdictsHaveHistories) (no-others : VerdictsAreOfHistories
   status-by-history : IsStatusOfHistory s search (status_of (v ∷ []))
   status-by-history = record {
     done = exactly-where Closed status.Done (done-closed v);
-    unsafe = exactly-where Real status.Unsafe (unsafe-real v);
+    unsafe = exactly-where Real status.Unsafe (unsafe_real v);
     unknown = exactly-where Spent status.Unknown (unknown-spent v);
   }
 
@@ -207,10 +207,10 @@ certificate-promised keep s search report certifies spells reply h =
       unknown = λ sum spent. one.out_is ∙ one.holds.unknown sum spent ∙ spells (log_of search.budget spent.rounds sum);
     }
 
-safe-shown : (s : SystemData) (v : Verdict) → VerdictShows Forward s v → status_of (v ∷ []) ≡ status.Done → IsSafe s
-safe-shown s (Safe proof log) shows e = shows.1
-safe-shown s (Unsafe words log) shows e = absurd (cc e)
-safe-shown s (Unknown log) shows e = absurd (cc e)
+safe_shown : (s : SystemData) (v : Verdict) → VerdictShows Forward s v → status_of (v ∷ []) ≡ status.Done → IsSafe s
+safe_shown s (Safe proof log) shows e = shows.1
+safe_shown s (Unsafe words log) shows e = absurd (cc e)
+safe_shown s (Unknown log) shows e = absurd (cc e)
 
 run-shown : (s : SystemData) (v : Verdict) → VerdictShows Forward s v → status_of (v ∷ []) ≡ status.Unsafe → (run : Run) × IsBadRun s run
 run-shown s (Safe proof log) shows e = absurd (cc e)
@@ -226,7 +226,7 @@ generate-promised keep s number reply h =
     record {
       searched = promise;
       by_history = subst (IsStatusOfHistory s default_search) (sym one.status_is) one.holds.by_history;
-      safe = λ e. safe-shown s one.answer.verdict one.holds.shows (sym one.status_is ∙ e);
+      safe = λ e. safe_shown s one.answer.verdict one.holds.shows (sym one.status_is ∙ e);
       unsafe = λ e. run-shown s one.answer.verdict one.holds.shows (sym one.status_is ∙ e);
       unknown = λ sum spent. one.out_is ∙ one.holds.unknown sum spent;
     }

@@ -19,9 +19,9 @@ valid-proves : ((s : SystemData) (m : Automaton) → Proves s m → IsSafe s) �
 valid-proves sound s (certificate.Automaton m) h = (h, sound s m h)
 valid-proves sound s (certificate.BadRun run) h = h
 
-proof-valid : (s : SystemData) (c : Certificate) → IsProofOf s c → IsAnswer s c Valid
-proof-valid s (certificate.Automaton m) h = h.0
-proof-valid s (certificate.BadRun run) h = h
+proof_valid : (s : SystemData) (c : Certificate) → IsProofOf s c → IsAnswer s c Valid
+proof_valid s (certificate.Automaton m) h = h.0
+proof_valid s (certificate.BadRun run) h = h
 
 done-valid : (a : Answer) → answer_status a ≡ status.Done → a ≡ Valid
 done-valid Valid e = refl
@@ -41,7 +41,7 @@ module _ (sound : (s : SystemData) (m : Automaton) → Proves s m → IsSafe s) 
   shown-judged : ShowsProof s text → Judges s text reply → reply.status ≡ status.Done
   shown-judged shows h =
       let same = meaning s valid text shows.certificate h.certificate shows.means h.means in
-      let proved = proof-valid s h.certificate (subst (IsProofOf s) same shows.is_proof) in
+      let proved = proof_valid s h.certificate (subst (IsProofOf s) same shows.is_proof) in
       ap (λ (r : Reply). r.status) h.reply_is ∙ ap answer_status (answer-once s h.certificate h.answer Valid h.is_answer proved)
 
   pub verify-promised : IsVerifyReply s text reply → VerifyPromise s text reply

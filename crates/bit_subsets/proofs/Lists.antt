@@ -13,11 +13,11 @@ AreStates-members n xs ys from states =
     All-from_contains (λ q. q < length n.states) ys (λ q there. All-contains (λ s. s < length n.states) xs q states (from q there))
 
 -- one more pair, with a greater letter
-pub increasing-push : {S : Type 0} (pairs : List (ℕ × S)) (pair : ℕ × S) → HasIncreasingLetters pairs → All (λ before. before.0 < pair.0) pairs → HasIncreasingLetters (pairs ++ pair ∷ [])
-increasing-push {S} [] pair h k = (All-nil (λ (later : ℕ × S). pair.0 < later.0), tt)
-increasing-push {S} (x ∷ pairs) pair h k = (
+pub increasing_push : {S : Type 0} (pairs : List (ℕ × S)) (pair : ℕ × S) → HasIncreasingLetters pairs → All (λ before. before.0 < pair.0) pairs → HasIncreasingLetters (pairs ++ pair ∷ [])
+increasing_push {S} [] pair h k = (All-nil (λ (later : ℕ × S). pair.0 < later.0), tt)
+increasing_push {S} (x ∷ pairs) pair h k = (
   All-push (λ (later : ℕ × S). x.0 < later.0) pairs pair h.0 (All-head (λ (before : ℕ × S). before.0 < pair.0) x pairs k),
-  increasing-push pairs pair h.1 (All-tail (λ (before : ℕ × S). before.0 < pair.0) x pairs k),
+  increasing_push pairs pair h.1 (All-tail (λ (before : ℕ × S). before.0 < pair.0) x pairs k),
 )
 
 -- the letter of an edge is one of the automaton's

@@ -16,7 +16,7 @@ use Rattle.reduction.specs.Reduction.{KeepsStarts}
 use Rattle.reduction.proofs.ForCallers.{kept_accept}
 use Rattle.bit_subsets.specs.Subsets.{IsSubset, IsPlain, members}
 use Rattle.bit_subsets.specs.private.Successors.{AreTargets, AreSuccessorsBelow}
-use Rattle.bit_subsets.proofs.Lists.{increasing-push, letter_within}
+use Rattle.bit_subsets.proofs.Lists.{increasing_push, letter_within}
 use Rattle.bit_subsets.proofs.Members.{members_has}
 
 -- for each letter the targets of the edges of the states
@@ -83,7 +83,7 @@ module _ (n : NondeterministicAutomaton) (set targets : List ℕ) (letter : ℕ)
     pub successors_more : AreSuccessorsBelow n set (letter + 1) (pairs ++ (letter, kept) ∷ [])
     successors_more = record {
       subset = so.subset;
-      increasing = increasing-push pairs (letter, kept) so.increasing so.below;
+      increasing = increasing_push pairs (letter, kept) so.increasing so.below;
       below = All-push (λ (pair : ℕ × List ℕ). pair.0 < letter + 1) pairs (letter, kept) (λ k d within. let less = so.below k d within in omega arith) (omega arith);
       subsets = All-push (λ (pair : ℕ × List ℕ). IsSubset n (members pair.1)) pairs (letter, kept) so.subsets
           (record { in_range = so.subset.in_range; states = kept_states; closed = λ p q there edge. absurd (plain p q edge) });

@@ -12,11 +12,11 @@ letters_below zero = []
 letters_below (suc n) = letters_below n ++ n ∷ []
 
 -- one more pair with a greater letter
-pub increasing-push : {S : Type 0} (pairs : List (ℕ × S)) (pair : ℕ × S) → HasIncreasingLetters pairs → All (λ x. x.0 < pair.0) pairs → HasIncreasingLetters (pairs ++ pair ∷ [])
-increasing-push {S} [] pair rise below = (All-nil (λ (later : ℕ × S). pair.0 < later.0), tt)
-increasing-push {S} (x ∷ pairs) pair rise below = (
+pub increasing_push : {S : Type 0} (pairs : List (ℕ × S)) (pair : ℕ × S) → HasIncreasingLetters pairs → All (λ x. x.0 < pair.0) pairs → HasIncreasingLetters (pairs ++ pair ∷ [])
+increasing_push {S} [] pair rise below = (All-nil (λ (later : ℕ × S). pair.0 < later.0), tt)
+increasing_push {S} (x ∷ pairs) pair rise below = (
   All-push (λ (later : ℕ × S). x.0 < later.0) pairs pair rise.0 (below 0 x (omega arith)),
-  increasing-push pairs pair rise.1 (All-tail (λ (y : ℕ × S). y.0 < pair.0) x pairs below),
+  increasing_push pairs pair rise.1 (All-tail (λ (y : ℕ × S). y.0 < pair.0) x pairs below),
 )
 
 module _ {S : Type 0} (h : ℕ → S) where
@@ -36,7 +36,7 @@ module _ {S : Type 0} (h : ℕ → S) where
 
   pub valued-increasing : (n : ℕ) → HasIncreasingLetters (valued n)
   valued-increasing zero = tt
-  valued-increasing (suc n) = subst HasIncreasingLetters (sym (valued-suc n)) (increasing-push (valued n) (n, h n) (valued-increasing n) (valued-below n))
+  valued-increasing (suc n) = subst HasIncreasingLetters (sym (valued-suc n)) (increasing_push (valued n) (n, h n) (valued-increasing n) (valued-below n))
 
   pub look_up-valued : (n a : ℕ) → a < n → look_up (valued n) a ≡ Some (h a)
   look_up-valued zero a below = absurd (omega arith)

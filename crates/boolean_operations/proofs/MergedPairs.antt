@@ -11,7 +11,7 @@ use Rattle.boolean_operations.specs.private.Products.{IsPairOfStates, pair_of, p
 use Rattle.boolean_operations.specs.private.MergedEdges.{IsPassed, IsTaken, IsLeastLetter, IsMerging}
 use Rattle.boolean_operations.specs.declared.products.Operation.{Operation}
 use Rattle.boolean_operations.proofs.OptionalStates.{follow-within, follow-edges, edges_at-letters}
-use Rattle.boolean_operations.proofs.Letters.{increasing-push}
+use Rattle.boolean_operations.proofs.Letters.{increasing_push}
 use Rattle.boolean_operations.proofs.ProductLanguages.{no_pair, pair_states}
 use Rattle.boolean_operations.proofs.EdgeTargets.{no_target, passed_later}
 use Rattle.boolean_operations.proofs.SearchCalls.{contains_at}
@@ -109,7 +109,7 @@ module _ (operation : Operation) (m n : Automaton) (same_letters : m.letters ≡
           left_passed = left.passed;
           right_passed = right.passed;
           merged = record {
-            increasing = increasing-push pairs (letter, pair) e.merged.increasing below_letter;
+            increasing = increasing_push pairs (letter, pair) e.merged.increasing below_letter;
             below = All-push (λ (x : ℕ × (Option ℕ × Option ℕ)). x.0 < letter + 1) pairs (letter, pair)
                 (All-weaker (λ (x : ℕ × (Option ℕ × Option ℕ)). x.0 < letter) (λ (x : ℕ × (Option ℕ × Option ℕ)). x.0 < letter + 1) (λ x l. omega arith) pairs below_letter) (omega arith);
             in_range = All-push (λ (x : ℕ × (Option ℕ × Option ℕ)). x.0 < m.letters) pairs (letter, pair) e.merged.in_range in_alphabet;

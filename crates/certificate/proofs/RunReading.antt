@@ -17,7 +17,7 @@ use Rattle.sequence.proofs.ForCallers.{Lacks-append}
 use Rattle.lines.specs.Bytes.{Lacks}
 use Rattle.lines.specs.Grammar.{Says, numbered}
 use Rattle.lines.specs.Document.{HasAnswer, Leads, means}
-use Rattle.lines.proofs.ForCallers.{cut_says, Lacks-from_test, ended_text-is, means_read}
+use Rattle.lines.proofs.ForCallers.{cut_says, Lacks-from_test, ended_text_is, means_read}
 use Rattle.certificate.specs.declared.said.Kind.TheVariants.{Unsafe}
 use Rattle.certificate.specs.declared.said.Place.TheVariants as At
 use Rattle.certificate.specs.declared.said.Said.TheVariants as S
@@ -98,7 +98,7 @@ module _ (s : SystemData) (valid : IsValid s) where
       let lines : List (List ℕ) = codes "armc 1 unsafe" ∷ (start_line s run.first ∷ map (step_line s) run.steps) in
       record {
         read = at_steps run.first run.steps;
-        is_read = subst (λ bytes. HasAnswer (certificate s) bytes (means (at_steps run.first run.steps))) (sym (ended_text-is lines (codes "end")))
+        is_read = subst (λ bytes. HasAnswer (certificate s) bytes (means (at_steps run.first run.steps))) (sym (ended_text_is lines (codes "end")))
             (means_read (certificate s) lines (at_steps run.first run.steps) (codes "end") S.End (
               S.Title 1 Unsafe,
               record beginning { place = At.Start },

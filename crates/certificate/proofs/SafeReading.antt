@@ -16,7 +16,7 @@ use Rattle.sequence.proofs.ForCallers.{Lacks-append}
 use Rattle.lines.specs.Bytes.{Lacks, BeginsOtherwise}
 use Rattle.lines.specs.Grammar.{Line as Grammar, Says, SaysFields, cut, fields, number}
 use Rattle.lines.specs.Document.{Leads, leads, HasAnswer, means}
-use Rattle.lines.proofs.ForCallers.{Lacks-from_test, Leads-append, cut_says, decimal_lacks, ended_text-is, fields_say, means_read, number_says}
+use Rattle.lines.proofs.ForCallers.{Lacks-from_test, Leads-append, cut_says, decimal_lacks, ended_text_is, fields_say, means_read, number_says}
 use Rattle.certificate.specs.declared.said.Kind.{Kind}
 use Rattle.certificate.specs.declared.said.Kind.TheVariants.{Safe}
 use Rattle.certificate.specs.declared.said.Place.{Place}
@@ -333,7 +333,7 @@ module _ (s : SystemData) (valid : IsValid s) (count : ℕ) (few : count ≤ 100
       let read = at_lines v count (all_said v lines) in
       let rest : List (List ℕ) = states_line count ∷ map (line_text s) lines in
       let whole = ap (λ more. flat_map (λ line. line ++ 10 ∷ []) (title v ∷ more)) (sym (append_assoc (map (letter_line s) (letters_of v)) rest (codes "end" ∷ [])))
-      ∙ ended_text-is (all_lines v lines) (codes "end") in
+      ∙ ended_text_is (all_lines v lines) (codes "end") in
       record {
         read = read;
         is_read = subst (λ text. HasAnswer (certificate s) text (means read)) (sym whole)

@@ -48,13 +48,13 @@ module _ {X : Type 0} (f : ℕ → X) where
       (range_faultless fault (a + 1) n (λ i below. each i (omega (arith, below)))))
 
 -- some items, and more behind them
-faultless-append : {X : Type 0} (fault : List X → X → Option ModelFault) (earlier xs ys : List X) → first_fault_of fault earlier xs ≡ None
+faultless_append : {X : Type 0} (fault : List X → X → Option ModelFault) (earlier xs ys : List X) → first_fault_of fault earlier xs ≡ None
     → first_fault_of fault (earlier ++ xs) ys ≡ None → first_fault_of fault earlier (xs ++ ys) ≡ None
-faultless-append {X} fault earlier [] ys h g = subst (λ (before : List X). first_fault_of fault before ys ≡ None) (append-nil earlier) g
-faultless-append {X} fault earlier (x ∷ xs) ys h g =
+faultless_append {X} fault earlier [] ys h g = subst (λ (before : List X). first_fault_of fault before ys ≡ None) (append-nil earlier) g
+faultless_append {X} fault earlier (x ∷ xs) ys h g =
     let now = earlier ++ x ∷ [] in
     or_none (fault earlier x) (first_fault_of fault now (xs ++ ys)) (none_first (fault earlier x) (first_fault_of fault now xs) h)
-    (faultless-append fault now xs ys (none_second (fault earlier x) (first_fault_of fault now xs) h)
+    (faultless_append fault now xs ys (none_second (fault earlier x) (first_fault_of fault now xs) h)
     (subst (λ (before : List X). first_fault_of fault before ys ≡ None) (sym (append_assoc earlier (x ∷ []) xs)) g))
 
 abbrev named_letter : ℕ → Name
@@ -105,7 +105,7 @@ dead_fresh number =
 section_faultless : (number : ℕ) → number ≤ 255 → section_fault [] (chain_section number) ≡ None
 section_faultless number small =
     let first = map named_letter (range_with_len 0 number) in
-    faultless-append letter_fault [] first (dead ∷ [])
+    faultless_append letter_fault [] first (dead ∷ [])
     (range_faultless named_letter letter_fault 0 number (λ i below. letter_fresh i (omega (arith, below))))
     (or_none (letter_fault first dead) None (dead_fresh number) refl)
 

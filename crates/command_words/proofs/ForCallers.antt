@@ -65,18 +65,18 @@ limits-in b =
 bound-in : (b : List Binding) → IfSome (bound_given b) (IsBetween 0 most_bound)
 bound-in b = given-between 0 0 most_bound (value_of (codes "bound") b) (omega arith, omega arith)
 
-settings-from : (method : Option Method) (start : Option Start) (bound : Option ℕ) (report : Bool) → IfSome bound (IsBetween 0 most_bound)
+settings_from-in_range : (method : Option Method) (start : Option Start) (bound : Option ℕ) (report : Bool) → IfSome bound (IsBetween 0 most_bound)
     → IfSome (settings_from method start bound report) IsSettings
-settings-from (Some method) (Some start) (Some bound) report has = record { bound_high = has.1 }
-settings-from _ _ _ report has = tt
+settings_from-in_range (Some method) (Some start) (Some bound) report has = record { bound_high = has.1 }
+settings_from-in_range _ _ _ report has = tt
 
-settings-in : (b : List Binding) → IfSome (settings_given b) IsSettings
-settings-in b = settings-from (method_given b) (start_given b) (bound_given b) (is_true (value_of (codes "report") b)) (bound-in b)
+settings_given-in_range : (b : List Binding) → IfSome (settings_given b) IsSettings
+settings_given-in_range b = settings_from-in_range (method_given b) (start_given b) (bound_given b) (is_true (value_of (codes "report") b)) (bound-in b)
 
-searching-in : (file : Option (List ℕ)) (query : Option Query) (limits : Option Limits) → IfSome query IsQuery → IfSome limits IsLimits
+searching_in : (file : Option (List ℕ)) (query : Option Query) (limits : Option Limits) → IfSome query IsQuery → IfSome limits IsLimits
     → IfSome (searching_of file query limits) IsInRange
-searching-in (Some file) (Some query) (Some limits) q l = record { query_in = q; limits_in = l }
-searching-in _ _ _ q l = tt
+searching_in (Some file) (Some query) (Some limits) q l = record { query_in = q; limits_in = l }
+searching_in _ _ _ q l = tt
 
 two-in : (command : List ℕ → List ℕ → Command) (x y : Option (List ℕ)) → ((a b : List ℕ) → IsInRange (command a b))
     → IfSome (two_of command x y) IsInRange
@@ -97,31 +97,31 @@ generate-in (Some number) (Some workers) n w = record {
 }
 generate-in _ _ n w = tt
 
-show-in : (file : Option (List ℕ)) → IfSome (option_map show file) IsInRange
-show-in (Some file) = tt
-show-in None = tt
+show_in_range : (file : Option (List ℕ)) → IfSome (option_map show file) IsInRange
+show_in_range (Some file) = tt
+show_in_range None = tt
 
 command-in : (name : Name) (b : List Binding) → IfSome (command_given name b) IsInRange
 command-in names.Check b =
-    searching-in (value_of (codes "FILE") b) _ (limits_given b) (mapped IsSettings IsQuery Check (settings_given b) (λ settings has. has) (settings-in b)) (limits-in b)
-command-in names.Back b = searching-in (value_of (codes "FILE") b) (Some Back) (limits_given b) tt (limits-in b)
-command-in names.Deadlock b = searching-in (value_of (codes "FILE") b) (Some Deadlock) (limits_given b) tt (limits-in b)
+    searching_in (value_of (codes "FILE") b) _ (limits_given b) (mapped IsSettings IsQuery Check (settings_given b) (λ settings has. has) (settings_given-in_range b)) (limits-in b)
+command-in names.Back b = searching_in (value_of (codes "FILE") b) (Some Back) (limits_given b) tt (limits-in b)
+command-in names.Deadlock b = searching_in (value_of (codes "FILE") b) (Some Deadlock) (limits_given b) tt (limits-in b)
 command-in names.Past b =
-    searching-in (value_of (codes "FILE") b) _ (limits_given b) (mapped (IsBetween 0 most_bound) IsQuery Past (bound_given b) (λ bound has. has.1) (bound-in b))
+    searching_in (value_of (codes "FILE") b) _ (limits_given b) (mapped (IsBetween 0 most_bound) IsQuery Past (bound_given b) (λ bound has. has.1) (bound-in b))
     (limits-in b)
 command-in names.CheckAll b = all-in (limits_given b) (value_of (codes "FILE") b) (value_of (codes "PROPS") b) (limits-in b)
 command-in names.Verify b = two-in verify (value_of (codes "FILE") b) (value_of (codes "CERT") b) (λ _ _. tt)
 command-in names.Migrate b = two-in migrate (value_of (codes "FILE") b) (value_of (codes "CERT") b) (λ _ _. tt)
-command-in names.Show b = show-in (value_of (codes "FILE") b)
+command-in names.Show b = show_in_range (value_of (codes "FILE") b)
 command-in names.Steps b = two-in steps (value_of (codes "FILE") b) (value_of (codes "CONFIGURATION") b) (λ _ _. tt)
 command-in names.Generate b =
     generate-in _ (workers_given b) (then-has (IsBetween 1 most_generated) (number_in 1 most_generated) (value_of (codes "N") b) (number-between 1 most_generated))
     (workers-in b)
 
 -- the words as a whole: where they are a command, its numbers are in range
-pub commands-in-range : (words : List (List ℕ)) → IfSome (command_of words) IsInRange
-commands-in-range [] = tt
-commands-in-range (word ∷ words) = go (list_any is_empty (word ∷ words))
+pub commands_in_range : (words : List (List ℕ)) → IfSome (command_of words) IsInRange
+commands_in_range [] = tt
+commands_in_range (word ∷ words) = go (list_any is_empty (word ∷ words))
   where
     go : (test : Bool) → IfSome (cond test None (command_named word words)) IsInRange
     go true = tt

@@ -12,7 +12,7 @@ use Rattle.exploration.specs.DeterministicSystem.{look_up, HasIncreasingLetters}
 use Rattle.exploration.specs.Residuals.{AreResiduals}
 use Rattle.exploration.proofs.ForCallers.{look_up-above, look_up-below, look_up-push_same, look_up-push_other}
 use Rattle.bit_subsets.specs.Subsets.{IsSubset}
-use Rattle.bit_subsets.proofs.ForCallers.{increasing-push, letter_within}
+use Rattle.bit_subsets.proofs.ForCallers.{increasing_push, letter_within}
 use Rattle.determinise.specs.private.Subsets.{IsSubsetFrom, letter_of, AreOrderedMoves, IsRun}
 use Rattle.determinise.proofs.MoveLists.{moves_from-edge, edge-moves_from}
 
@@ -113,7 +113,7 @@ module _ (n : NondeterministicAutomaton) (states : List ℕ) (subset : IsSubset 
         → IsGrouped (pairs ++ (letter_of moves at, r) ∷ []) end
     grouped_more kept r same_words from = record {
       within = run.within;
-      increasing = increasing-push pairs (letter_of moves at, r) g.increasing lower;
+      increasing = increasing_push pairs (letter_of moves at, r) g.increasing lower;
       letters_in_range = All-push (λ (pair : ℕ × List ℕ). pair.0 < n.letters) pairs (letter_of moves at, r) g.letters_in_range (letter_in_range at there);
       subsets = All-push (λ (pair : ℕ × List ℕ). IsSubset n pair.1) pairs (letter_of moves at, r) g.subsets (record { in_range = subset.in_range; states = from.states; closed = from.closure.closed });
       goes_on = goes_on;

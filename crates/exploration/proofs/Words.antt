@@ -6,18 +6,18 @@ use Rattle.std.proofs.lemmas.List.{reverse-reverse, reverse-append, length-rever
 use Rattle.sequence.specs.WordOrder.{is_lexicographically_before, is_before, IsLeastWord}
 
 -- what a comparison of two words says, and what shows it
-lexicographic-cases : (a b : ℕ) (u w : List ℕ) → IsTrue (is_lexicographically_before (a ∷ u) (b ∷ w)) → (a < b) ⊎ ((a ≡ b) × IsTrue (is_lexicographically_before u w))
-lexicographic-cases a b u w h =
+is_lexicographically_before-cases : (a b : ℕ) (u w : List ℕ) → IsTrue (is_lexicographically_before (a ∷ u) (b ∷ w)) → (a < b) ⊎ ((a ≡ b) × IsTrue (is_lexicographically_before u w))
+is_lexicographically_before-cases a b u w h =
     elim (or_cases (nat_lt a b) ((a == b) && is_lexicographically_before u w) h) [
       | inl less ↦ inl (ltb-true a b less)
       | inr more ↦ let parts = and_parts (a == b) (is_lexicographically_before u w) more in inr (eqb-true a b parts.0, parts.1)
     ]
 
-lexicographic-first : (a b : ℕ) (u w : List ℕ) → a < b → IsTrue (is_lexicographically_before (a ∷ u) (b ∷ w))
-lexicographic-first a b u w h = or_left (nat_lt a b) ((a == b) && is_lexicographically_before u w) (lt-ltb a b h)
+lexicographic_first : (a b : ℕ) (u w : List ℕ) → a < b → IsTrue (is_lexicographically_before (a ∷ u) (b ∷ w))
+lexicographic_first a b u w h = or_left (nat_lt a b) ((a == b) && is_lexicographically_before u w) (lt-ltb a b h)
 
-lexicographic-later : (a : ℕ) (u w : List ℕ) → IsTrue (is_lexicographically_before u w) → IsTrue (is_lexicographically_before (a ∷ u) (a ∷ w))
-lexicographic-later a u w h =
+lexicographic_later : (a : ℕ) (u w : List ℕ) → IsTrue (is_lexicographically_before u w) → IsTrue (is_lexicographically_before (a ∷ u) (a ∷ w))
+lexicographic_later a u w h =
     or_right (nat_lt a a) ((a == a) && is_lexicographically_before u w) (and_from (a == a) (is_lexicographically_before u w) (eq-eqb a a refl) h)
 
 before-cases : (u w : List ℕ) → IsTrue (is_before u w) → (length u < length w) ⊎ ((length u ≡ length w) × IsTrue (is_lexicographically_before u w))
@@ -36,27 +36,27 @@ before-lexicographic u w e h =
     or_right (nat_lt (length u) (length w)) ((length u == length w) && is_lexicographically_before u w)
     (and_from (length u == length w) (is_lexicographically_before u w) (eq-eqb (length u) (length w) e) h)
 
-lexicographic-irreflexive : (u : List ℕ) → IsTrue (is_lexicographically_before u u) → ⊥
-lexicographic-irreflexive [] h = true≢false (sym h)
-lexicographic-irreflexive (a ∷ u) h =
-    elim (lexicographic-cases a a u u h) [ inl less ↦ absurd (omega arith) | inr more ↦ lexicographic-irreflexive u more.1 ]
+lexicographic_irreflexive : (u : List ℕ) → IsTrue (is_lexicographically_before u u) → ⊥
+lexicographic_irreflexive [] h = true≢false (sym h)
+lexicographic_irreflexive (a ∷ u) h =
+    elim (is_lexicographically_before-cases a a u u h) [ inl less ↦ absurd (omega arith) | inr more ↦ lexicographic_irreflexive u more.1 ]
 
-lexicographic-asymmetric : (u w : List ℕ) → IsTrue (is_lexicographically_before u w) → IsTrue (is_lexicographically_before w u) → ⊥
-lexicographic-asymmetric [] w h k = true≢false (sym h)
-lexicographic-asymmetric (a ∷ u) [] h k = true≢false (sym h)
-lexicographic-asymmetric (a ∷ u) (b ∷ w) h k =
-    elim (lexicographic-cases a b u w h) [
-      | inl less ↦ elim (lexicographic-cases b a w u k) [ inl other ↦ absurd (omega arith) | inr other ↦ absurd (omega arith) ]
-      | inr more ↦ elim (lexicographic-cases b a w u k) [
+lexicographic_asymmetric : (u w : List ℕ) → IsTrue (is_lexicographically_before u w) → IsTrue (is_lexicographically_before w u) → ⊥
+lexicographic_asymmetric [] w h k = true≢false (sym h)
+lexicographic_asymmetric (a ∷ u) [] h k = true≢false (sym h)
+lexicographic_asymmetric (a ∷ u) (b ∷ w) h k =
+    elim (is_lexicographically_before-cases a b u w h) [
+      | inl less ↦ elim (is_lexicographically_before-cases b a w u k) [ inl other ↦ absurd (omega arith) | inr other ↦ absurd (omega arith) ]
+      | inr more ↦ elim (is_lexicographically_before-cases b a w u k) [
         | inl other ↦ absurd (omega arith)
-        | inr other ↦ lexicographic-asymmetric u w more.1 other.1
+        | inr other ↦ lexicographic_asymmetric u w more.1 other.1
       ]
     ]
 
 -- no word comes before itself
 pub is_before-irreflexive : (u : List ℕ) → IsTrue (is_before u u) → ⊥
 is_before-irreflexive u h =
-    elim (before-cases u u h) [ inl less ↦ absurd (omega arith) | inr more ↦ lexicographic-irreflexive u more.1 ]
+    elim (before-cases u u h) [ inl less ↦ absurd (omega arith) | inr more ↦ lexicographic_irreflexive u more.1 ]
 
 -- of two words at most one comes before the other
 pub is_before-asymmetric : (u w : List ℕ) → IsTrue (is_before u w) → IsTrue (is_before w u) → ⊥
@@ -65,30 +65,30 @@ is_before-asymmetric u w h k =
       | inl less ↦ elim (before-cases w u k) [ inl other ↦ absurd (omega arith) | inr other ↦ absurd (omega arith) ]
       | inr more ↦ elim (before-cases w u k) [
         | inl other ↦ absurd (omega arith)
-        | inr other ↦ lexicographic-asymmetric u w more.1 other.1
+        | inr other ↦ lexicographic_asymmetric u w more.1 other.1
       ]
     ]
 
-lexicographic-grows : (u w x y : List ℕ) → IsTrue (is_lexicographically_before u w) → IsTrue (is_lexicographically_before (u ++ x) (w ++ y))
-lexicographic-grows [] w x y h = absurd (true≢false (sym h))
-lexicographic-grows (a ∷ u) [] x y h = absurd (true≢false (sym h))
-lexicographic-grows (a ∷ u) (b ∷ w) x y h =
-    elim (lexicographic-cases a b u w h) [
-      | inl less ↦ lexicographic-first a b (u ++ x) (w ++ y) less
+lexicographic_grows : (u w x y : List ℕ) → IsTrue (is_lexicographically_before u w) → IsTrue (is_lexicographically_before (u ++ x) (w ++ y))
+lexicographic_grows [] w x y h = absurd (true≢false (sym h))
+lexicographic_grows (a ∷ u) [] x y h = absurd (true≢false (sym h))
+lexicographic_grows (a ∷ u) (b ∷ w) x y h =
+    elim (is_lexicographically_before-cases a b u w h) [
+      | inl less ↦ lexicographic_first a b (u ++ x) (w ++ y) less
       | inr more ↦ subst (λ c. IsTrue (is_lexicographically_before (a ∷ (u ++ x)) (c ∷ (w ++ y)))) more.0
-          (lexicographic-later a (u ++ x) (w ++ y) (lexicographic-grows u w x y more.1))
+          (lexicographic_later a (u ++ x) (w ++ y) (lexicographic_grows u w x y more.1))
     ]
 
-lexicographic-at_end : (u : List ℕ) (a b : ℕ) → a < b → IsTrue (is_lexicographically_before (u ++ a ∷ []) (u ++ b ∷ []))
-lexicographic-at_end [] a b h = lexicographic-first a b [] [] h
-lexicographic-at_end (c ∷ u) a b h = lexicographic-later c (u ++ a ∷ []) (u ++ b ∷ []) (lexicographic-at_end u a b h)
+lexicographic_at_end : (u : List ℕ) (a b : ℕ) → a < b → IsTrue (is_lexicographically_before (u ++ a ∷ []) (u ++ b ∷ []))
+lexicographic_at_end [] a b h = lexicographic_first a b [] [] h
+lexicographic_at_end (c ∷ u) a b h = lexicographic_later c (u ++ a ∷ []) (u ++ b ∷ []) (lexicographic_at_end u a b h)
 
 before-grows : (u w : List ℕ) (a b : ℕ) → IsTrue (is_before u w) → IsTrue (is_before (u ++ a ∷ []) (w ++ b ∷ []))
 before-grows u w a b h =
     elim (before-cases u w h) [
       | inl less ↦ before-shorter (u ++ a ∷ []) (w ++ b ∷ []) (omega (arith, length-append u (a ∷ []), length-append w (b ∷ [])))
       | inr more ↦ before-lexicographic (u ++ a ∷ []) (w ++ b ∷ [])
-          (omega (arith, length-append u (a ∷ []), length-append w (b ∷ []))) (lexicographic-grows u w (a ∷ []) (b ∷ []) more.1)
+          (omega (arith, length-append u (a ∷ []), length-append w (b ∷ []))) (lexicographic_grows u w (a ∷ []) (b ∷ []) more.1)
     ]
 
 -- The same order on words that are written from their ends, by recursion.
@@ -100,17 +100,17 @@ Below (a ∷ u) (b ∷ w) = Below u w ⊎ ((u ≡ w) × (a < b))
 before-at_end : (u w : List ℕ) (a b : ℕ) → u ≡ w → a < b → IsTrue (is_before (u ++ a ∷ []) (w ++ b ∷ []))
 before-at_end u w a b e h =
     subst (λ v. IsTrue (is_before (u ++ a ∷ []) (v ++ b ∷ []))) e
-    (before-lexicographic (u ++ a ∷ []) (u ++ b ∷ []) (omega (arith, length-append u (a ∷ []), length-append u (b ∷ []))) (lexicographic-at_end u a b h))
+    (before-lexicographic (u ++ a ∷ []) (u ++ b ∷ []) (omega (arith, length-append u (a ∷ []), length-append u (b ∷ []))) (lexicographic_at_end u a b h))
 
-reverse-cons : (a : ℕ) (u : List ℕ) → reverse (a ∷ u) ≡ reverse u ++ a ∷ []
-reverse-cons a u = reverse-append (a ∷ []) u
+reverse_cons : (a : ℕ) (u : List ℕ) → reverse (a ∷ u) ≡ reverse u ++ a ∷ []
+reverse_cons a u = reverse-append (a ∷ []) u
 
 pub before_from_Below : (u w : List ℕ) → Below u w → IsTrue (is_before (reverse u) (reverse w))
 before_from_Below u [] h = absurd h
 before_from_Below [] (b ∷ w) h =
     before-shorter [] (reverse (b ∷ w)) (let e : length (reverse (b ∷ w)) ≡ suc (length w) = length-reverse (b ∷ w) in omega arith)
 before_from_Below (a ∷ u) (b ∷ w) h =
-    rw (reverse-cons a u, reverse-cons b w)
+    rw (reverse_cons a u, reverse_cons b w)
     (elim h [
       | inl less ↦ before-grows (reverse u) (reverse w) a b (before_from_Below u w less)
       | inr last ↦ before-at_end (reverse u) (reverse w) a b (ap reverse last.0) last.1

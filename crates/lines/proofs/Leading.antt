@@ -15,12 +15,12 @@ Lacks-from_test byte (b ∷ bytes) h =
     (λ e. absurd (let f : false ≡ true = sym (ap not (eq-eqb b byte e)) ∙ both.0 in cc), Lacks-from_test byte bytes both.1)
 
 -- the text of lines, the last of which is this one
-pub ended_text-is : (lines : List (List ℕ)) (last : List ℕ)
+pub ended_text_is : (lines : List (List ℕ)) (last : List ℕ)
     → flat_map (λ line. line ++ 10 ∷ []) (lines ++ last ∷ []) ≡ text_of lines (last ++ 10 ∷ [])
-ended_text-is [] last = append-nil (last ++ 10 ∷ [])
-ended_text-is (line ∷ lines) last =
+ended_text_is [] last = append-nil (last ++ 10 ∷ [])
+ended_text_is (line ∷ lines) last =
     append_assoc line (10 ∷ []) (flat_map (λ line. line ++ 10 ∷ []) (lines ++ last ∷ []))
-    ∙ ap (λ rest. line ++ 10 ∷ rest) (ended_text-is lines last)
+    ∙ ap (λ rest. line ++ 10 ∷ rest) (ended_text_is lines last)
 
 module _ {S V W : Type 0} (d : Document S V W) where
   pub Leads-append : (s t u : S) (xs ys : List (List ℕ)) → Leads d s xs t → Leads d t ys u → Leads d s (xs ++ ys) u

@@ -51,8 +51,8 @@ edges_differ (e ∷ es) (f ∷ fs) h k = by (cases_order e.0 f.0) (edges_differ 
 pub edges_of-increasing : (m : Automaton) → IsValid m → (q : ℕ) → HasIncreasingLetters (edges_of m.states q)
 edges_of-increasing m valid q = HasIncreasingLetters-edges (edges_of m.states q) (All-edges_of HasIncreasingEdges m.states tt valid.ordered q)
 
-pub live_edges-past : (classes : List ℕ) (states : List (Node ℕ)) (q : ℕ) → length states ≤ q → filter_map (live_edge classes) (edges_of states q) ≡ []
-live_edges-past classes states q l = ap (filter_map (live_edge classes)) (edges_of-past states q l)
+pub live_edges_past : (classes : List ℕ) (states : List (Node ℕ)) (q : ℕ) → length states ≤ q → filter_map (live_edge classes) (edges_of states q) ≡ []
+live_edges_past classes states q l = ap (filter_map (live_edge classes)) (edges_of-past states q l)
 
 module _ (m : Automaton) where
   -- no word is accepted from a number that is no state

@@ -6,7 +6,7 @@ use Rattle.word_automata.specs.Automaton.{Automaton}
 use Rattle.word_automata.proofs.ForCallers.{is_accepting-past}
 use Rattle.minimise.specs.Refinement.{no_word}
 use Rattle.minimise.specs.private.Rounds.{AreToldApart, outgoing, IsLikeLeast, AreAlike}
-use Rattle.minimise.proofs.Edges.{live_edges-past}
+use Rattle.minimise.proofs.Edges.{live_edges_past}
 use Rattle.minimise.proofs.Refining.{index-zeros}
 
 -- at first all states are in class 0
@@ -21,7 +21,7 @@ apart_first m classes e count = record {
 
 -- a number that is no state has the signature of no word
 pub outgoing-past : (m : Automaton) (classes : List ℕ) (q : ℕ) → length m.states ≤ q → outgoing m classes q ≡ no_word
-outgoing-past m classes q past = λ i. record { class = 0; accepting = is_accepting-past m.states q past i; edges = live_edges-past classes m.states q past i }
+outgoing-past m classes q past = λ i. record { class = 0; accepting = is_accepting-past m.states q past i; edges = live_edges_past classes m.states q past i }
 
 -- each state has the signature of the least state of its class, so states of one class have one signature
 pub all_alike : (m : Automaton) (classes : List ℕ) → length classes ≡ length m.states → ((q : ℕ) → q < length m.states → IsLikeLeast m classes q) → AreAlike m classes

@@ -10,7 +10,7 @@ use Rattle.minimise.specs.Signatures.{Signature, same_signature}
 use Rattle.minimise.specs.SignatureLaws.{same_signature-decides}
 use Rattle.minimise.specs.Refinement.{live_class, live_edge, signature_of, no_word, FindsClass, AreGrouped}
 use Rattle.word_automata.proofs.ForCallers.{is_accepting-past}
-use Rattle.minimise.proofs.Edges.{live_edges-past}
+use Rattle.minimise.proofs.Edges.{live_edges_past}
 
 -- an edge of a signature, one after another
 module _ (classes : List ℕ) (edges : List (ℕ × ℕ)) (i : ℕ) (l : i < length edges) (done : List (ℕ × ℕ)) (h : done ≡ filter_map (live_edge classes) (take i edges)) where
@@ -142,5 +142,5 @@ pub signature_of-past : (m : Automaton) (classes : List ℕ) → length classes 
 signature_of-past m classes count q past = λ i. record {
   class = get_or_past classes q 0 (omega arith) i;
   accepting = is_accepting-past m.states q past i;
-  edges = live_edges-past classes m.states q past i;
+  edges = live_edges_past classes m.states q past i;
 }

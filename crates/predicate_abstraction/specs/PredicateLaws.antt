@@ -36,8 +36,8 @@ refined_by-is k (x ∷ xs) =
     refined_by-is (next_key k x) xs
     ∙ ap (λ (automata : List Automaton). let key : Key = record { automata = automata; bound = k.bound } in key) (append_assoc k.automata (x ∷ []) xs)
 
-pub refined-key : (k : RefinedKey) → key_of k ≡ refined_by next_key k.first k.refuted
-refined-key k = sym (refined_by-is k.first k.refuted)
+pub refined_key : (k : RefinedKey) → key_of k ≡ refined_by next_key k.first k.refuted
+refined_key k = sym (refined_by-is k.first k.refuted)
 
 pub first-stays : (k : RefinedKey) (x : Automaton) → (refined_with k x).first ≡ k.first
 first-stays k x = refl

@@ -4,7 +4,7 @@
 ghost use Rattle.std.specs.Prelude.{◌≡◌, ◌≤◌, [], ◌∷◌, IfOk};
 ghost use Rattle.predicate_abstraction.specs.Predicates.{predicates, key_of, refined_with, is_related, next_key};
 ghost use Rattle.predicate_abstraction.specs.PredicateLaws.{related-equivalence, related-finer, next_key-over};
-ghost use Rattle.predicate_abstraction.specs.PredicateLaws.{refined-key, first-stays, refuted-added, related-excludes};
+ghost use Rattle.predicate_abstraction.specs.PredicateLaws.{refined_key, first-stays, refuted-added, related-excludes};
 
 use crate::predicate::Predicate;
 use crate::shares::{classes_in_threads, split_by_last};
@@ -118,7 +118,7 @@ impl<'a, R: Threads + Sync> Excluding for Predicates<'a, R> {
         self.automata.len() - self.started
     }
 
-    ghost refined = { refined-key };
+    ghost refined = { refined_key };
 
     ghost first_stays = { first-stays };
 

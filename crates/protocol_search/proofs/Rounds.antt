@@ -39,7 +39,7 @@ use Rattle.protocol_search.specs.declared.search.Analysis.{Analysis}
 use Rattle.protocol_search.specs.declared.search.Analysis.TheVariants.{Backward}
 use Rattle.protocol_search.specs.declared.first.FirstAbstraction.{FirstAbstraction}
 use Rattle.protocol_search.specs.declared.first.FirstAbstraction.TheVariants.{TargetPredicates, NoPredicates, Lengths, Pasts}
-use Rattle.protocol_search.proofs.ByAnalysis.{by-once, by-rounds, by-sound, shown, text-shows, counterexample-leads}
+use Rattle.protocol_search.proofs.ByAnalysis.{by-once, by-rounds, by-sound, shown, text-shows, counterexample_leads}
 
 -- each state is related to itself
 own-related : (first : FirstAbstraction) (key : Key) (a : Automaton) (p : ℕ) → (search_method first).related key a p p
@@ -55,15 +55,15 @@ history-once s search rounds rounds' sum sum' h k =
     let moved = subst (λ b. History (searched_task search.analysis s) (search_method search.first) search.budget (first_key search.first b) 0 rounds sum) bad h.history in
     history-unique (searched_task search.analysis s) search.budget (search_method search.first) moved k.history
 
-for-once : (analysis : Analysis) (t : Task) (first : FirstAbstraction) (budget : ℕ) (v w : Verdict) → IsVerdictFor analysis t first budget v
+for_once : (analysis : Analysis) (t : Task) (first : FirstAbstraction) (budget : ℕ) (v w : Verdict) → IsVerdictFor analysis t first budget v
     → IsVerdictFor analysis t first budget w → v ≡ w
-for-once analysis t first budget v w h k =
+for_once analysis t first budget v w h k =
     let bad = automaton-unique (searched analysis t).letters (searched analysis t).is_bad h.bad k.bad h.is_bad k.is_bad in
     let moved = subst (λ b. IsVerdictBy analysis t (search_method first) (first_key first b) budget v) bad h.is_verdict in
     by-once analysis t (search_method first) (first_key first k.bad) budget v w moved k.is_verdict
 
 pub verdict-once : VerdictIsDetermined
-verdict-once s search v w h k = for-once search.analysis (task_for search.analysis s) search.first search.budget v w h k
+verdict-once s search v w h k = for_once search.analysis (task_for search.analysis s) search.first search.budget v w h k
 
 -- a verdict
 pub verdict-from : VerdictsHaveHistories
@@ -145,8 +145,8 @@ module _ (t : Task) (budget : ℕ) {key : Key} {s z : ℕ} {rounds : List Search
       (λ k. related_by_lengths k t.letters) budget h
   bounded-by (Pasts bound) h = rounds-grow t by_pasts (own-related (Pasts bound)) budget h
 
-pub refutes-once : SearchRefutesOnce
-refutes-once s search rounds sum by h = refuted-by (searched_task search.analysis s) search.budget search.first by h.history
+pub refutes_once : SearchRefutesOnce
+refutes_once s search rounds sum by h = refuted-by (searched_task search.analysis s) search.budget search.first by h.history
 
 pub bounded-by-keys : SearchIsBoundedByKeys
 bounded-by-keys s search rounds sum h = bounded-by (searched_task search.analysis s) search.budget search.first h.history
@@ -158,7 +158,7 @@ bounded-for t first budget n w begins leads h = history-bounded t (search_method
 
 pub bounded-by-runs : SearchIsBoundedByRuns
 bounded-by-runs s search run counter rounds sum h =
-    let leads = counterexample-leads search.analysis s run counter in
+    let leads = counterexample_leads search.analysis s run counter in
     bounded-for (searched_task search.analysis s) search.first search.budget (length run.steps) leads.0 leads.1 leads.2 h.history
 
 level-within : (n : ℕ) (ns xs : List Automaton) → length ns ≤ n + 1 → last_level ns xs ≤ n

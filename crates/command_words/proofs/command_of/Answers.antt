@@ -3,7 +3,7 @@ use Rattle.std.proofs.lemmas.Result.{IfOk-weaker}
 use Rattle.command_words.specs.Parsing.{Gives}
 use Rattle.command_words.specs.declared.Command.{Command as CommandWords}
 use Rattle.command_words.specs.Words.{Command, IsInRange, command_named, said}
-use Rattle.command_words.proofs.ForCallers.{commands-in-range}
+use Rattle.command_words.proofs.ForCallers.{commands_in_range}
 use Rattle.command_words.proofs.Given.{empty_none, first_named}
 use Rattle.command_words.proofs.command_of.Goals as goal
 
@@ -27,5 +27,5 @@ in_range (Some value) command gives has = subst (λ o. IfSome o IsInRange) gives
 
 pub returns-in-Some-clause-in_range : goal.returns-in-Some-clause-in_range
 returns-in-Some-clause-in_range c =
-    IfOk-weaker c.command_called.result _ _ (λ found gives. in_range found _ gives (commands-in-range (map string_bytes c.args.words.now)))
+    IfOk-weaker c.command_called.result _ _ (λ found gives. in_range found _ gives (commands_in_range (map string_bytes c.args.words.now)))
     (returns-in-Some-clause-command c)
