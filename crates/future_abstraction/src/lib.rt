@@ -7,5 +7,5 @@ mod laws;
 mod rounds;
 mod signature;
 
-pub use futures::Futures;
+pub use futures::{Futures, classes_by_futures};
 pub use laws::related_by_signature;
