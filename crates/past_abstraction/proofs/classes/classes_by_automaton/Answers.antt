@@ -1,8 +1,6 @@
 use Rattle.std.proofs.Common.{length, take, sym, subst}
 use Rattle.abstraction.specs.Bounds.{up_to}
-use Rattle.abstraction.specs.FirstStates.{AreFirsts}
 use Rattle.abstraction.specs.Merging.{AreClasses}
-use Rattle.future_abstraction.proofs.Bounded.{first_classes}
 use Rattle.past_abstraction.specs.Pasts.{is_related}
 use Rattle.past_abstraction.proofs.PastClasses.{past_classes}
 use Rattle.past_abstraction.proofs.classes.classes_by_automaton.Goals as goal
@@ -12,10 +10,6 @@ returns c =
     let a = c.args.a.now in
     let bound = c.args.bound in
     let found = c.in_ok-classes.classes.items in
-    let kept = c.truncate.new.self.items in
-    let firsts = c.in_ok-firsts.firsts.items in
+    let are = AreClasses (is_related (up_to bound) a) (length a.states) in
     let classes = past_classes a c.in_ok-automaton.automaton bound c.in_ok-automaton.ensures found c.in_ok-classes.ensures in
-    first_classes (is_related (up_to bound) a) (length a.states) kept firsts
-    (subst (AreClasses (is_related (up_to bound) a) (length a.states)) (sym c.truncate.ensures.items)
-    (subst (λ n. AreClasses (is_related (up_to bound) a) (length a.states) (take n found)) (sym c.states.ensures.count) classes))
-    (subst (λ xs. AreFirsts xs firsts) c.deref.ensures.value c.in_ok-firsts.ensures)
+    subst are (sym c.truncate.ensures.items) (subst (λ n. are (take n found)) (sym c.states.ensures.count) classes)
