@@ -29,7 +29,8 @@ fn push_successor(
     text.extend_from_slice(b" -> ")?;
     let words = configuration_text(alloc, system, &pair.1)?;
     text.extend_from_slice(words.as_slice())?;
-    text.push(b'\n')
+    text.push(b'\n')?;
+    Ok(())
 }
 
 // The lines of the successors, each with the name of its rule.

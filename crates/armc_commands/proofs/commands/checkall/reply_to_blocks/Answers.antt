@@ -17,9 +17,9 @@ returns-in-Ok g c text says =
     (subst (λ (said : List Property). IfOk c.search_properties.result (IsSearchReply (Certificate None) (property_parts c.args.limits.budget said)))
     c.as_slice.ensures c.search_properties.ensures)
 
-pub returns : goal.returns
-returns g c text says =
+pub returns-in_ok-refused_by_names-in-Err : goal.returns-in_ok-refused_by_names-in-Err
+returns-in_ok-refused_by_names-in-Err g c text says =
     let s = c.args.system.now in
-    let named = c.in_ok-refused_by_names.ensures in
+    let named = c.in_ok-refused_by_names-in-Err.ensures in
     properties-refused s c.args.limits.budget text _ c.refused.result c.refused.ensures
     (by_names properties (first_properties_fault s) text c.args.blocks.now c.in-Err.fault _ named.refused named.fault says c.in-Err.ensures.refused)

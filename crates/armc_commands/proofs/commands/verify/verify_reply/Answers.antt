@@ -13,7 +13,7 @@ returns-in-Ok c =
     IfOk-weaker c.judgement.result _ (IsVerifyReply c.args.system.now c.args.text.now) (λ reply judges. inr judges)
     (c.judgement.ensures c.args.text.now ((c.in-Ok.ensures.found c.in-Ok.certificate).1 refl))
 
-pub returns : goal.returns
-returns c =
+pub returns-in-Err : goal.returns-in-Err
+returns-in-Err c =
     certificate_refused (IsVerifyReply c.args.system.now c.args.text.now) c.args.system.now c.args.text.now (λ reply refuses. inl refuses) c.in-Err.fault
     c.certificate_refusal.result c.certificate_refusal.ensures.reply c.certificate_refusal.ensures.fault (λ other. c.in-Err.ensures.fault other)
