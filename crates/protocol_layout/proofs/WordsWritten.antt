@@ -1,5 +1,5 @@
 -- One more item was written in a loop.
-use Rattle.std.proofs.Common.{◌≡◌, ◌++◌, ◌+◌, ◌<◌, ◌≤◌, ◌∷◌, [], ℕ, List, take, length, map, get_or, ap, sym, ◌∙◌, rules, subst}
+use Rattle.std.proofs.Common.{◌≡◌, ◌++◌, ◌+◌, ◌<◌, ◌≤◌, ◌∷◌, [], ℕ, List, take, length, map, get_or, ap, sym, ◌∙◌, subst}
 use Rattle.std.proofs.lemmas.List.{take_more, take_all, flat_map_more, map_more, append_assoc}
 use Rattle.std.proofs.lemmas.List.Concat.{flat_map-append}
 use Rattle.std.specs.List.{flat_map}

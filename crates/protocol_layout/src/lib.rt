@@ -3,15 +3,14 @@
 //! in time linear in the text.
 #![tactic(auto)]
 
-ghost use Rattle.std.specs.Prelude.{◌≡◌, ◌++◌, ◌∷◌, [], codes, map, IfOk, OnOk, if◌then◌else◌};
+ghost use Rattle.std.specs.Prelude.{◌≡◌, ◌++◌, ◌∷◌, [], List, codes, map, IfOk, OnOk, if◌then◌else◌};
 ghost use Rattle.std.specs.List.{flat_map};
 ghost use Rattle.protocol_layout.specs.Layout.{atom_words, base_words, count_words, entry_words};
 ghost use Rattle.protocol_layout.specs.private.Written.{Adds, AddsLine, AddsLines};
 ghost use Rattle.protocol_layout.specs.Layout.{four_words, guard_words, in_braces, items, kind_rest, kind_word, language_words, layout};
-ghost use Rattle.protocol_syntax.specs.Spacing.{is_attached};
 ghost use Rattle.protocol_layout.specs.Layout.{move_words, names_words, part_words, pattern_words, popped_words};
 ghost use Rattle.protocol_layout.specs.Layout.{pushed_words, region_word, row_words, rule_words, section_words};
-ghost use Rattle.protocol_syntax.specs.Spacing.{spaced};
+ghost use Rattle.protocol_syntax.specs.Spacing.{Word, is_attached, spaced};
 ghost use Rattle.protocol_layout.specs.Layout.{step_words, table_words};
 ghost use Rattle.protocol_layout.specs.Places.{IsReadBack};
 
@@ -44,6 +43,22 @@ fn write_word(out: &mut Vec<u8>, word: &[u8]) -> Result<(), AllocError>
     Ok(())
 }
 
+/// Ends a line.
+fn end_line(out: &mut Vec<u8>) -> Result<(), AllocError>
+    ensures { OnOk result (out.new.items ≡ out.old.items ++ 10 ∷ []) }
+{
+    out.push(b'\n')?;
+    Ok(())
+}
+
+/// Writes `}`, and ends the line.
+fn end_block(out: &mut Vec<u8>) -> Result<(), AllocError>
+    ensures { OnOk result (out.new.items ≡ out.old.items ++ (spaced (codes "}") ++ 10 ∷ [])) }
+{
+    write_word(out, b"}")?;
+    end_line(out)
+}
+
 fn write_name(out: &mut Vec<u8>, name: &Name) -> Result<(), AllocError>
     ensures { OnOk result (out.new.items ≡ out.old.items ++ spaced name.now.text) }
 {
@@ -71,6 +86,26 @@ fn write_names(out: &mut Vec<u8>, names: &[Name]) -> Result<(), AllocError>
 {
     'names: for name in names {
         write_name(out, name)?;
+    }
+    Ok(())
+}
+
+/// What is written as words.
+trait Written {
+    // The words.
+    ghost words: { Self → List Word };
+
+    /// Writes the words behind what is written.
+    fn write(&self, out: &mut Vec<u8>) -> Result<(), AllocError>
+        ensures { OnOk result (Adds out.old.items out.new.items (words self.now)) };
+}
+
+/// Writes the words of the items, one after the other.
+fn write_each<T: Written>(out: &mut Vec<u8>, items: &[T]) -> Result<(), AllocError>
+    ensures { OnOk result (Adds out.old.items out.new.items (flat_map T.words items.now)) }
+{
+    'items: for item in items {
+        item.write(out)?;
     }
     Ok(())
 }
@@ -111,8 +146,7 @@ fn write_section(out: &mut Vec<u8>, section: &SectionText) -> Result<(), AllocEr
     write_kind_rest(out, section.kind)?;
     write_name(out, &section.name)?;
     write_set(out, section.letters.as_slice())?;
-    out.push(b'\n')?;
-    Ok(())
+    end_line(out)
 }
 
 fn write_count(out: &mut Vec<u8>, many: Many) -> Result<(), AllocError>
@@ -135,20 +169,13 @@ fn write_base(out: &mut Vec<u8>, base: &BaseText) -> Result<(), AllocError>
     }
 }
 
-fn write_atom(out: &mut Vec<u8>, atom: &AtomText) -> Result<(), AllocError>
-    ensures { OnOk result (Adds out.old.items out.new.items (atom_words atom.now)) }
-{
-    write_base(out, &atom.base)?;
-    write_count(out, atom.many)
-}
+impl Written for AtomText {
+    ghost words = { atom_words };
 
-fn write_atoms(out: &mut Vec<u8>, atoms: &[AtomText]) -> Result<(), AllocError>
-    ensures { OnOk result (Adds out.old.items out.new.items (flat_map atom_words atoms.now)) }
-{
-    'atoms: for atom in atoms {
-        write_atom(out, atom)?;
+    fn write(&self, out: &mut Vec<u8>) -> Result<(), AllocError> {
+        write_base(out, &self.base)?;
+        write_count(out, self.many)
     }
-    Ok(())
 }
 
 fn write_pattern(out: &mut Vec<u8>, pattern: &[AtomText]) -> Result<(), AllocError>
@@ -156,26 +183,18 @@ fn write_pattern(out: &mut Vec<u8>, pattern: &[AtomText]) -> Result<(), AllocErr
 {
     match pattern {
         [] => write_word(out, b"empty"),
-        [_, ..] => write_atoms(out, pattern),
+        [_, ..] => write_each(out, pattern),
     }
 }
 
-fn write_part(out: &mut Vec<u8>, part: &PartText) -> Result<(), AllocError>
-    ensures { OnOk result (Adds out.old.items out.new.items (part_words part.now)) }
-{
-    write_words(out, &[bytes(&part.section), b":"])?;
-    write_pattern(out, part.atoms.as_slice())?;
-    write_word(out, b";")?;
-    Ok(())
-}
+impl Written for PartText {
+    ghost words = { part_words };
 
-fn write_parts(out: &mut Vec<u8>, parts: &[PartText]) -> Result<(), AllocError>
-    ensures { OnOk result (Adds out.old.items out.new.items (flat_map part_words parts.now)) }
-{
-    'parts: for part in parts {
-        write_part(out, part)?;
+    fn write(&self, out: &mut Vec<u8>) -> Result<(), AllocError> {
+        write_words(out, &[bytes(&self.section), b":"])?;
+        write_pattern(out, self.atoms.as_slice())?;
+        write_word(out, b";")
     }
-    Ok(())
 }
 
 fn write_row(out: &mut Vec<u8>, head: &[u8], row: &RowText) -> Result<(), AllocError>
@@ -183,10 +202,8 @@ fn write_row(out: &mut Vec<u8>, head: &[u8], row: &RowText) -> Result<(), AllocE
 {
     out.extend_from_slice(head)?;
     write_word(out, b"{")?;
-    write_parts(out, row.parts.as_slice())?;
-    write_word(out, b"}")?;
-    out.push(b'\n')?;
-    Ok(())
+    write_each(out, row.parts.as_slice())?;
+    end_block(out)
 }
 
 fn quantifier_word(all: bool) -> &'static [u8]
@@ -205,43 +222,29 @@ fn region_word(region: Region) -> &'static [u8]
     }
 }
 
-fn write_guard(out: &mut Vec<u8>, guard: &GuardText) -> Result<(), AllocError>
-    ensures { OnOk result (Adds out.old.items out.new.items (guard_words guard.now)) }
-{
-    write_words(
-        out,
-        &[
-            b"when",
-            quantifier_word(guard.all),
-            region_word(guard.region),
-            b"in",
-        ],
-    )?;
-    write_set(out, guard.letters.as_slice())
-}
+impl Written for GuardText {
+    ghost words = { guard_words };
 
-fn write_guards(out: &mut Vec<u8>, guards: &[GuardText]) -> Result<(), AllocError>
-    ensures { OnOk result (Adds out.old.items out.new.items (flat_map guard_words guards.now)) }
-{
-    'guards: for guard in guards {
-        write_guard(out, guard)?;
+    fn write(&self, out: &mut Vec<u8>) -> Result<(), AllocError> {
+        write_words(
+            out,
+            &[
+                b"when",
+                quantifier_word(self.all),
+                region_word(self.region),
+                b"in",
+            ],
+        )?;
+        write_set(out, self.letters.as_slice())
     }
-    Ok(())
 }
 
-fn write_entry(out: &mut Vec<u8>, entry: &(Name, Name)) -> Result<(), AllocError>
-    ensures { OnOk result (Adds out.old.items out.new.items (entry_words entry.now)) }
-{
-    write_words(out, &[bytes(&entry.0), b"->", bytes(&entry.1), b";"])
-}
+impl Written for (Name, Name) {
+    ghost words = { entry_words };
 
-fn write_entries(out: &mut Vec<u8>, entries: &[(Name, Name)]) -> Result<(), AllocError>
-    ensures { OnOk result (Adds out.old.items out.new.items (flat_map entry_words entries.now)) }
-{
-    'entries: for entry in entries {
-        write_entry(out, entry)?;
+    fn write(&self, out: &mut Vec<u8>) -> Result<(), AllocError> {
+        write_words(out, &[bytes(&self.0), b"->", bytes(&self.1), b";"])
     }
-    Ok(())
 }
 
 fn write_table(out: &mut Vec<u8>, table: &[(Name, Name)]) -> Result<(), AllocError>
@@ -251,7 +254,7 @@ fn write_table(out: &mut Vec<u8>, table: &[(Name, Name)]) -> Result<(), AllocErr
         [] => Ok(()),
         [_, ..] => {
             write_words(out, &[b"map", b"{"])?;
-            write_entries(out, table)?;
+            write_each(out, table)?;
             write_word(out, b"}")
         }
     }
@@ -306,7 +309,7 @@ fn write_at_move(
         (codes "at" ∷ from.now.text ∷ codes "->" ∷ to.now.text ∷ (flat_map guard_words when.now ++ table_words map.now))) }
 {
     write_words(out, &[b"at", bytes(from), b"->", bytes(to)])?;
-    write_guards(out, when)?;
+    write_each(out, when)?;
     write_table(out, map)
 }
 
@@ -360,22 +363,14 @@ fn write_body(out: &mut Vec<u8>, body: &MoveBody) -> Result<(), AllocError>
     }
 }
 
-fn write_step(out: &mut Vec<u8>, step: &MoveText) -> Result<(), AllocError>
-    ensures { OnOk result (Adds out.old.items out.new.items (step_words step.now)) }
-{
-    write_words(out, &[bytes(&step.section), b":"])?;
-    write_body(out, &step.body)?;
-    write_word(out, b";")?;
-    Ok(())
-}
+impl Written for MoveText {
+    ghost words = { step_words };
 
-fn write_steps(out: &mut Vec<u8>, steps: &[MoveText]) -> Result<(), AllocError>
-    ensures { OnOk result (Adds out.old.items out.new.items (flat_map step_words steps.now)) }
-{
-    'steps: for step in steps {
-        write_step(out, step)?;
+    fn write(&self, out: &mut Vec<u8>) -> Result<(), AllocError> {
+        write_words(out, &[bytes(&self.section), b":"])?;
+        write_body(out, &self.body)?;
+        write_word(out, b";")
     }
-    Ok(())
 }
 
 fn write_rule(out: &mut Vec<u8>, rule: &RuleText) -> Result<(), AllocError>
@@ -383,10 +378,8 @@ fn write_rule(out: &mut Vec<u8>, rule: &RuleText) -> Result<(), AllocError>
 {
     out.extend_from_slice(b"rule")?;
     write_words(out, &[bytes(&rule.name), b"{"])?;
-    write_steps(out, rule.moves.as_slice())?;
-    write_word(out, b"}")?;
-    out.push(b'\n')?;
-    Ok(())
+    write_each(out, rule.moves.as_slice())?;
+    end_block(out)
 }
 
 fn write_sections(out: &mut Vec<u8>, sections: &[SectionText]) -> Result<(), AllocError>
@@ -420,7 +413,7 @@ fn write_language(out: &mut Vec<u8>, language: u32) -> Result<(), AllocError>
     ensures { OnOk result (Adds out.old.items out.new.items (language_words language)) }
 {
     if 2 <= language {
-        write_words(out, &[b"language", b"2"])?;
+        return write_words(out, &[b"language", b"2"]);
     }
     Ok(())
 }
@@ -432,8 +425,7 @@ fn write_head(out: &mut Vec<u8>, protocol: &Protocol) -> Result<(), AllocError>
     out.extend_from_slice(b"protocol")?;
     write_name(out, &protocol.name)?;
     write_language(out, protocol.language)?;
-    out.push(b'\n')?;
-    Ok(())
+    end_line(out)
 }
 
 fn write_items(out: &mut Vec<u8>, protocol: &Protocol) -> Result<(), AllocError>
