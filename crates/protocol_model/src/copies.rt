@@ -10,71 +10,58 @@ use crate::system::{Atom, Configuration, Move, Pattern, Row, Rule, Section, Syst
 use sequence::{Sequence, Text};
 use std::alloc::{AllocError, Global};
 
-fn copy_numbers(alloc: Global, numbers: &Sequence<u32>) -> Result<Sequence<u32>, AllocError>
-    ensures { IfOk result (λ copy. copy ≡ numbers.now) }
-{
-    Ok(Sequence::from_vec(numbers.as_slice().to_vec(alloc)?))
+/// What can be copied.
+trait Copied: Drop {
+    /// A value with the same data.
+    fn copied(&self, alloc: Global) -> Result<Self, AllocError>
+        ensures { IfOk result (λ copy. copy ≡ self.now) };
 }
 
-fn copy_texts(alloc: Global, texts: &[Text]) -> Result<Sequence<Text>, AllocError>
-    ensures { IfOk result (λ copies. copies ≡ texts.now) }
+fn copy_each<T: Copied>(alloc: Global, items: &[T]) -> Result<Sequence<T>, AllocError>
+    ensures { IfOk result (λ copies. copies ≡ items.now) }
 {
     let mut copies = Vec::new(alloc);
-    'texts: for text in texts {
-        let copy = copy_text(alloc, text)?;
+    'items: for item in items {
+        let copy = item.copied(alloc)?;
         copies.push(copy)?;
     }
     Ok(Sequence::from_vec(copies))
 }
 
-fn copy_lists(alloc: Global, lists: &[Sequence<u32>]) -> Result<Sequence<Sequence<u32>>, AllocError>
-    ensures { IfOk result (λ copies. copies ≡ lists.now) }
-{
-    let mut copies = Vec::new(alloc);
-    'lists: for list in lists {
-        let copy = copy_numbers(alloc, list)?;
-        copies.push(copy)?;
+impl Copied for Text {
+    fn copied(&self, alloc: Global) -> Result<Text, AllocError> {
+        copy_text(alloc, self)
     }
-    Ok(Sequence::from_vec(copies))
 }
 
-fn copy_atoms(alloc: Global, atoms: &[Atom]) -> Result<Sequence<Atom>, AllocError>
-    ensures { IfOk result (λ copies. copies ≡ atoms.now) }
-{
-    let mut copies = Vec::new(alloc);
-    'atoms: for atom in atoms {
-        let letters = copy_numbers(alloc, &atom.letters)?;
-        copies.push(Atom {
+impl Copied for Sequence<u32> {
+    fn copied(&self, alloc: Global) -> Result<Sequence<u32>, AllocError> {
+        Ok(Sequence::from_vec(self.as_slice().to_vec(alloc)?))
+    }
+}
+
+impl Copied for Atom {
+    fn copied(&self, alloc: Global) -> Result<Atom, AllocError> {
+        let letters = self.letters.copied(alloc)?;
+        Ok(Atom {
             letters,
-            many: atom.many,
-        })?;
+            many: self.many,
+        })
     }
-    Ok(Sequence::from_vec(copies))
 }
 
-fn copy_parts(
-    alloc: Global,
-    parts: &[(u32, Pattern)],
-) -> Result<Sequence<(u32, Pattern)>, AllocError>
-    ensures { IfOk result (λ copies. copies ≡ parts.now) }
-{
-    let mut copies = Vec::new(alloc);
-    'parts: for part in parts {
-        let atoms = copy_atoms(alloc, part.1.atoms.as_slice())?;
-        copies.push((part.0, Pattern { atoms }))?;
+impl Copied for (u32, Pattern) {
+    fn copied(&self, alloc: Global) -> Result<(u32, Pattern), AllocError> {
+        let atoms = copy_each(alloc, self.1.atoms.as_slice())?;
+        Ok((self.0, Pattern { atoms }))
     }
-    Ok(Sequence::from_vec(copies))
 }
 
-fn copy_rows(alloc: Global, rows: &[Row]) -> Result<Sequence<Row>, AllocError>
-    ensures { IfOk result (λ copies. copies ≡ rows.now) }
-{
-    let mut copies = Vec::new(alloc);
-    'rows: for row in rows {
-        let parts = copy_parts(alloc, row.parts.as_slice())?;
-        copies.push(Row { parts })?;
+impl Copied for Row {
+    fn copied(&self, alloc: Global) -> Result<Row, AllocError> {
+        let parts = copy_each(alloc, self.parts.as_slice())?;
+        Ok(Row { parts })
     }
-    Ok(Sequence::from_vec(copies))
 }
 
 /// The renaming by which each number stays.
@@ -102,7 +89,7 @@ impl MoveRenaming for Identity {
     ghost left_fault = { λ _ _ _. None };
 
     fn set(&self, alloc: Global, set: &Sequence<u32>) -> Result<Sequence<u32>, ModelFault> {
-        Ok(copy_numbers(alloc, set)?)
+        Ok(set.copied(alloc)?)
     }
 
     fn check_entry(
@@ -124,43 +111,31 @@ fn copy_move(alloc: Global, source: &Move) -> Result<Move, AllocError>
     }
 }
 
-fn copy_moves(alloc: Global, moves: &[(u32, Move)]) -> Result<Sequence<(u32, Move)>, AllocError>
-    ensures { IfOk result (λ copies. copies ≡ moves.now) }
-{
-    let mut copies = Vec::new(alloc);
-    'moves: for part in moves {
-        let copy = copy_move(alloc, &part.1)?;
-        copies.push((part.0, copy))?;
+impl Copied for (u32, Move) {
+    fn copied(&self, alloc: Global) -> Result<(u32, Move), AllocError> {
+        let copy = copy_move(alloc, &self.1)?;
+        Ok((self.0, copy))
     }
-    Ok(Sequence::from_vec(copies))
 }
 
-fn copy_rules(alloc: Global, rules: &[Rule]) -> Result<Sequence<Rule>, AllocError>
-    ensures { IfOk result (λ copies. copies ≡ rules.now) }
-{
-    let mut copies = Vec::new(alloc);
-    'rules: for rule in rules {
-        let name = copy_text(alloc, &rule.name)?;
-        let moves = copy_moves(alloc, rule.moves.as_slice())?;
-        copies.push(Rule { name, moves })?;
+impl Copied for Rule {
+    fn copied(&self, alloc: Global) -> Result<Rule, AllocError> {
+        let name = copy_text(alloc, &self.name)?;
+        let moves = copy_each(alloc, self.moves.as_slice())?;
+        Ok(Rule { name, moves })
     }
-    Ok(Sequence::from_vec(copies))
 }
 
-fn copy_sections(alloc: Global, sections: &[Section]) -> Result<Sequence<Section>, AllocError>
-    ensures { IfOk result (λ copies. copies ≡ sections.now) }
-{
-    let mut copies = Vec::new(alloc);
-    'sections: for section in sections {
-        let name = copy_text(alloc, &section.name)?;
-        let letters = copy_texts(alloc, section.letters.as_slice())?;
-        copies.push(Section {
+impl Copied for Section {
+    fn copied(&self, alloc: Global) -> Result<Section, AllocError> {
+        let name = copy_text(alloc, &self.name)?;
+        let letters = copy_each(alloc, self.letters.as_slice())?;
+        Ok(Section {
             name,
-            kind: section.kind,
+            kind: self.kind,
             letters,
-        })?;
+        })
     }
-    Ok(Sequence::from_vec(copies))
 }
 
 impl Configuration {
@@ -168,7 +143,7 @@ impl Configuration {
     pub fn copy(&self, alloc: Global) -> Result<Configuration, AllocError>
         ensures { IfOk result (λ copy. copy ≡ self.now) }
     {
-        let lists = copy_lists(alloc, self.lists.as_slice())?;
+        let lists = copy_each(alloc, self.lists.as_slice())?;
         Ok(Configuration { lists })
     }
 }
@@ -179,10 +154,10 @@ impl System {
         ensures { IfOk result (λ copy. copy ≡ self.now) }
     {
         let name = copy_text(alloc, &self.name)?;
-        let sections = copy_sections(alloc, self.sections.as_slice())?;
-        let init = copy_rows(alloc, self.init.as_slice())?;
-        let rules = copy_rules(alloc, self.rules.as_slice())?;
-        let bad = copy_rows(alloc, self.bad.as_slice())?;
+        let sections = copy_each(alloc, self.sections.as_slice())?;
+        let init = copy_each(alloc, self.init.as_slice())?;
+        let rules = copy_each(alloc, self.rules.as_slice())?;
+        let bad = copy_each(alloc, self.bad.as_slice())?;
         Ok(System {
             name,
             sections,

@@ -6,11 +6,11 @@ ghost use Rattle.protocol_model.specs.declared.fault.ModelFault.TheVariants.{Mem
 
 use protocol_syntax::Name;
 use std::alloc::{AllocError, AllocFailed};
-use thiserror::Error;
+use std::error::Error;
+use std::fmt;
 
 /// The first fault of a protocol, with the name at which it stands.
-#[derive(Drop, Debug, Error)]
-#[error("{:?}", self)]
+#[derive(Drop, Debug)]
 pub enum ModelFault {
     /// The name stands for an earlier item of the same kind.
     Duplicate {
@@ -51,3 +51,11 @@ impl<T: Drop> From<AllocFailed<T>> for ModelFault {
         ModelFault::Memory
     }
 }
+
+impl fmt::Display for ModelFault {
+    fn fmt<W: fmt::Write>(&self, f: &mut fmt::Formatter<W>) -> fmt::Result {
+        fmt::Debug::fmt(self, f)
+    }
+}
+
+impl Error for ModelFault {}

@@ -11,8 +11,9 @@ ghost use Rattle.protocol_model.specs.Faults.{duplicate, unknown};
 
 use crate::fault::ModelFault;
 use crate::names::Names;
-use crate::renaming::{MoveRenaming, Renaming, rename_letters};
+use crate::renaming::{Letters, MoveRenaming, Renaming};
 use crate::sections::{duplicate_name, unknown_name};
+use crate::traversal::resolve_each;
 use protocol_syntax::{BaseText, Name};
 use sequence::Sequence;
 use std::alloc::{AllocError, Global};
@@ -67,7 +68,7 @@ impl<'a> MoveRenaming for Names<'a> {
                 let number = self.letter(alloc, name)?;
                 Ok(Sequence::from_vec(vec![in alloc; number]?))
             }
-            BaseText::Set(names) => rename_letters(alloc, self, names.as_slice()),
+            BaseText::Set(names) => resolve_each(alloc, &Letters(self), names.as_slice()),
             BaseText::Any => Ok(numbers_below(alloc, self.len())?),
         }
     }

@@ -14,6 +14,7 @@ mod rows;
 mod rules;
 mod sections;
 mod system;
+mod traversal;
 
 pub use facts::{SectionLetters, is_in, table_value};
 pub use fault::ModelFault;

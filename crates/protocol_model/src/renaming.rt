@@ -12,6 +12,7 @@ ghost use Rattle.protocol_model.specs.private.Traversal.{pair_fault, move_fault}
 
 use crate::fault::ModelFault;
 use crate::system::{Guard, Move};
+use crate::traversal::{Resolver, resolve_each};
 use protocol_syntax::{Guard as AnyGuard, Move as AnyMove};
 use sequence::Sequence;
 use std::alloc::Global;
@@ -55,20 +56,96 @@ pub trait MoveRenaming: Renaming {
         ensures { IsOutcome (left_fault self.now earlier.now entry.now.0) tt result };
 }
 
-/// The numbers of letters, or the first fault among them.
-pub fn rename_letters<R: Renaming>(
+/// Letters, which become their numbers.
+#[derive(Drop)]
+pub struct Letters<'r, R>(pub &'r R);
+
+impl<'r, R: Renaming> Resolver for Letters<'r, R> {
+    type Item = R::Letter;
+
+    type Value = u32;
+
+    ghost value = { λ x. R.number x.0.now };
+
+    ghost fault = { λ x _. R.fault x.0.now };
+
+    fn resolve(
+        &self,
+        alloc: Global,
+        _earlier: &[R::Letter],
+        letter: &R::Letter,
+    ) -> Result<u32, ModelFault> {
+        self.0.letter(alloc, letter)
+    }
+}
+
+/// Guards of a move.
+#[derive(Drop)]
+struct Guards<'r, R>(&'r R);
+
+impl<'r, R: Renaming> Resolver for Guards<'r, R> {
+    type Item = AnyGuard<R::Letter>;
+
+    type Value = Guard;
+
+    ghost value = { λ x. renamed_guard (R.number x.0.now) };
+
+    ghost fault = { λ x _ guard. first_fault_of (λ _. R.fault x.0.now) [] guard.letters };
+
+    fn resolve(
+        &self,
+        alloc: Global,
+        _earlier: &[AnyGuard<R::Letter>],
+        guard: &AnyGuard<R::Letter>,
+    ) -> Result<Guard, ModelFault> {
+        let letters = resolve_each(alloc, &Letters(self.0), guard.letters.as_slice())?;
+        Ok(Guard {
+            all: guard.all,
+            region: guard.region,
+            letters,
+        })
+    }
+}
+
+/// Entries of a table.
+#[derive(Drop)]
+struct Entries<'r, R>(&'r R);
+
+impl<'r, R: MoveRenaming> Resolver for Entries<'r, R> {
+    type Item = (R::Letter, R::Letter);
+
+    type Value = (u32, u32);
+
+    ghost value = { λ x. renamed_pair (R.number x.0.now) };
+
+    ghost fault = { λ x. pair_fault (R.fault x.0.now) (R.left_fault x.0.now) };
+
+    fn resolve(
+        &self,
+        alloc: Global,
+        earlier: &[(R::Letter, R::Letter)],
+        entry: &(R::Letter, R::Letter),
+    ) -> Result<(u32, u32), ModelFault> {
+        let from = self.0.letter(alloc, &entry.0)?;
+        self.0.check_entry(alloc, earlier, entry)?;
+        let to = self.0.letter(alloc, &entry.1)?;
+        Ok((from, to))
+    }
+}
+
+/// The numbers of two letters.
+fn rename_two<R: Renaming>(
     alloc: Global,
     renaming: &R,
-    letters: &[R::Letter],
-) -> Result<Sequence<u32>, ModelFault>
-    ensures { IsOutcome (first_fault_of (λ _. R.fault renaming.now) [] letters.now) (map (R.number renaming.now) letters.now) result }
+    a: &R::Letter,
+    b: &R::Letter,
+) -> Result<(u32, u32), ModelFault>
+    ensures { IsOutcome (first_fault_of (λ _. R.fault renaming.now) [] (a.now ∷ b.now ∷ []))
+        (R.number renaming.now a.now, R.number renaming.now b.now) result }
 {
-    let mut numbers = Vec::new(alloc);
-    'letters: for letter in letters {
-        let number = renaming.letter(alloc, letter)?;
-        numbers.push(number)?;
-    }
-    Ok(Sequence::from_vec(numbers))
+    let first = renaming.letter(alloc, a)?;
+    let second = renaming.letter(alloc, b)?;
+    Ok((first, second))
 }
 
 /// The numbers of four letters.
@@ -79,82 +156,13 @@ fn rename_four<R: Renaming>(
     b: &R::Letter,
     c: &R::Letter,
     d: &R::Letter,
-) -> Result<((u32, u32), (u32, u32)), ModelFault>
+) -> Result<(u32, u32, u32, u32), ModelFault>
     ensures { IsOutcome (first_fault_of (λ _. R.fault renaming.now) [] (a.now ∷ b.now ∷ c.now ∷ d.now ∷ []))
-        ((R.number renaming.now a.now, R.number renaming.now b.now), (R.number renaming.now c.now, R.number renaming.now d.now)) result }
+        (R.number renaming.now a.now, R.number renaming.now b.now, R.number renaming.now c.now, R.number renaming.now d.now) result }
 {
-    let first = renaming.letter(alloc, a)?;
-    let second = renaming.letter(alloc, b)?;
-    let third = renaming.letter(alloc, c)?;
-    let fourth = renaming.letter(alloc, d)?;
-    Ok(((first, second), (third, fourth)))
-}
-
-/// A guard of a move.
-fn rename_guard<R: Renaming>(
-    alloc: Global,
-    renaming: &R,
-    guard: &AnyGuard<R::Letter>,
-) -> Result<Guard, ModelFault>
-    ensures { IsOutcome (first_fault_of (λ _. R.fault renaming.now) [] guard.now.letters)
-        (renamed_guard (R.number renaming.now) guard.now) result }
-{
-    let letters = rename_letters(alloc, renaming, guard.letters.as_slice())?;
-    Ok(Guard {
-        all: guard.all,
-        region: guard.region,
-        letters,
-    })
-}
-
-/// The guards of a move.
-fn rename_guards<R: Renaming>(
-    alloc: Global,
-    renaming: &R,
-    guards: &[AnyGuard<R::Letter>],
-) -> Result<Sequence<Guard>, ModelFault>
-    ensures { IsOutcome (first_fault_of (λ _ guard. first_fault_of (λ _. R.fault renaming.now) [] guard.letters) [] guards.now)
-        (map (renamed_guard (R.number renaming.now)) guards.now) result }
-{
-    let mut renamed = Vec::new(alloc);
-    'guards: for guard in guards {
-        let next = rename_guard(alloc, renaming, guard)?;
-        renamed.push(next)?;
-    }
-    Ok(Sequence::from_vec(renamed))
-}
-
-/// An entry of a table, after the entries before it.
-fn rename_entry<R: MoveRenaming>(
-    alloc: Global,
-    renaming: &R,
-    earlier: &[(R::Letter, R::Letter)],
-    entry: &(R::Letter, R::Letter),
-) -> Result<(u32, u32), ModelFault>
-    ensures { IsOutcome (pair_fault (R.fault renaming.now) (R.left_fault renaming.now) earlier.now entry.now)
-        (renamed_pair (R.number renaming.now) entry.now) result }
-{
-    let from = renaming.letter(alloc, &entry.0)?;
-    renaming.check_entry(alloc, earlier, entry)?;
-    let to = renaming.letter(alloc, &entry.1)?;
-    Ok((from, to))
-}
-
-/// The table of a move.
-fn rename_table<R: MoveRenaming>(
-    alloc: Global,
-    renaming: &R,
-    entries: &[(R::Letter, R::Letter)],
-) -> Result<Sequence<(u32, u32)>, ModelFault>
-    ensures { IsOutcome (first_fault_of (pair_fault (R.fault renaming.now) (R.left_fault renaming.now)) [] entries.now)
-        (map (renamed_pair (R.number renaming.now)) entries.now) result }
-{
-    let mut renamed = Vec::new(alloc);
-    'entries: for (i, entry) in entries.iter().enumerate() {
-        let next = rename_entry(alloc, renaming, &entries[..i], entry)?;
-        renamed.push(next)?;
-    }
-    Ok(Sequence::from_vec(renamed))
+    let (a, b) = rename_two(alloc, renaming, a, b)?;
+    let (c, d) = rename_two(alloc, renaming, c, d)?;
+    Ok((a, b, c, d))
 }
 
 /// A move of a position.
@@ -172,10 +180,9 @@ fn rename_at<R: MoveRenaming>(
         (At (R.number renaming.now from.now) (R.number renaming.now to.now) (map (renamed_guard (R.number renaming.now)) guards.now)
         (map (renamed_pair (R.number renaming.now)) entries.now)) result }
 {
-    let from = renaming.letter(alloc, from)?;
-    let to = renaming.letter(alloc, to)?;
-    let guards = rename_guards(alloc, renaming, guards)?;
-    let map = rename_table(alloc, renaming, entries)?;
+    let (from, to) = rename_two(alloc, renaming, from, to)?;
+    let guards = resolve_each(alloc, &Guards(renaming), guards)?;
+    let map = resolve_each(alloc, &Entries(renaming), entries)?;
     Ok(Move::At {
         from,
         to,
@@ -199,7 +206,7 @@ fn rename_stack<R: Renaming>(
         Some(letter) => Some(renaming.letter(alloc, letter)?),
         None => None,
     };
-    let push = rename_letters(alloc, renaming, push)?;
+    let push = resolve_each(alloc, &Letters(renaming), push)?;
     Ok(Move::Stack { pop, push })
 }
 
@@ -220,36 +227,35 @@ pub fn rename_move<R: MoveRenaming>(
             map,
         } => rename_at(alloc, renaming, from, to, guards.as_slice(), map.as_slice()),
         AnyMove::Pair { a, b, c, d } => {
-            let ((a, b), (c, d)) = rename_four(alloc, renaming, a, b, c, d)?;
-            Ok(Move::Pair { a, b, c, d })
+            let numbers = rename_four(alloc, renaming, a, b, c, d);
+            numbers.map(|(a, b, c, d)| Move::Pair { a, b, c, d })
         }
         AnyMove::Ring { a, b, c, d } => {
-            let ((a, b), (c, d)) = rename_four(alloc, renaming, a, b, c, d)?;
-            Ok(Move::Ring { a, b, c, d })
+            let numbers = rename_four(alloc, renaming, a, b, c, d);
+            numbers.map(|(a, b, c, d)| Move::Ring { a, b, c, d })
         }
         AnyMove::Two { a, b, c, d } => {
-            let ((a, b), (c, d)) = rename_four(alloc, renaming, a, b, c, d)?;
-            Ok(Move::Two { a, b, c, d })
+            let numbers = rename_four(alloc, renaming, a, b, c, d);
+            numbers.map(|(a, b, c, d)| Move::Two { a, b, c, d })
         }
-        AnyMove::Set { from, to } => Ok(Move::Set {
-            from: renaming.letter(alloc, from)?,
-            to: renaming.letter(alloc, to)?,
-        }),
-        AnyMove::Send { letter } => Ok(Move::Send {
-            letter: renaming.letter(alloc, letter)?,
-        }),
-        AnyMove::Recv { letter } => Ok(Move::Recv {
-            letter: renaming.letter(alloc, letter)?,
-        }),
+        AnyMove::Set { from, to } => {
+            rename_two(alloc, renaming, from, to).map(|(from, to)| Move::Set { from, to })
+        }
+        AnyMove::Send { letter } => renaming
+            .letter(alloc, letter)
+            .map(|letter| Move::Send { letter }),
+        AnyMove::Recv { letter } => renaming
+            .letter(alloc, letter)
+            .map(|letter| Move::Recv { letter }),
         AnyMove::Stack { pop, push } => rename_stack(alloc, renaming, pop, push.as_slice()),
-        AnyMove::Spawn { letter } => Ok(Move::Spawn {
-            letter: renaming.letter(alloc, letter)?,
-        }),
-        AnyMove::Exit { letter } => Ok(Move::Exit {
-            letter: renaming.letter(alloc, letter)?,
-        }),
-        AnyMove::Lose { letters } => Ok(Move::Lose {
-            letters: renaming.set(alloc, letters)?,
-        }),
+        AnyMove::Spawn { letter } => renaming
+            .letter(alloc, letter)
+            .map(|letter| Move::Spawn { letter }),
+        AnyMove::Exit { letter } => renaming
+            .letter(alloc, letter)
+            .map(|letter| Move::Exit { letter }),
+        AnyMove::Lose { letters } => renaming
+            .set(alloc, letters)
+            .map(|letters| Move::Lose { letters }),
     }
 }

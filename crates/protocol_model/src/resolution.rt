@@ -8,10 +8,11 @@ ghost use Rattle.protocol_model.specs.Allowed.{IsAllowed};
 ghost use Rattle.protocol_model.specs.declared.fault.ModelFault.TheVariants as fault;
 
 use crate::fault::ModelFault;
-use crate::rows::resolve_rows;
+use crate::rows::Rows;
 use crate::rules::resolve_rules;
 use crate::sections::{Sections, copy_text};
 use crate::system::{Row, Rule, Section, System};
+use crate::traversal::resolve_each;
 use protocol_syntax::{Name, Protocol, SectionText};
 use sequence::{Sequence, Text};
 use std::alloc::{AllocError, Global};
@@ -92,9 +93,9 @@ fn resolve_parts(
     ensures system { IfOk result (λ system. (first_fault protocol.now ≡ None) × (system ≡ system_of protocol.now)) }
     ensures refused { IfErr result (λ e. (first_fault protocol.now ≡ Some e) ⊎ (e ≡ fault.Memory)) }
 {
-    let init = resolve_rows(alloc, sections, protocol.init.as_slice())?;
+    let init = resolve_each(alloc, &Rows(sections), protocol.init.as_slice())?;
     let rules = resolve_rules(alloc, sections, protocol.rules.as_slice())?;
-    let bad = resolve_rows(alloc, sections, protocol.bad.as_slice())?;
+    let bad = resolve_each(alloc, &Rows(sections), protocol.bad.as_slice())?;
     system_with(alloc, protocol, init, rules, bad)
 }
 

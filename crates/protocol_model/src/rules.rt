@@ -19,6 +19,7 @@ use crate::names::Names;
 use crate::renaming::rename_move;
 use crate::sections::{Sections, add_name, copy_name, copy_text, unknown_name};
 use crate::system::{Move, Rule};
+use crate::traversal::{Resolver, resolve_each};
 use protocol_syntax::{Kind, MoveBody, MoveText, Name, RuleText};
 use sequence::Sequence;
 use std::alloc::Global;
@@ -72,49 +73,44 @@ fn wrong_kind_name(alloc: Global, name: &Name) -> ModelFault
     }
 }
 
-/// A step of a rule, after the steps before it.
-fn resolve_step(
-    alloc: Global,
-    sections: &Sections,
-    earlier: &[MoveText],
-    step: &MoveText,
-) -> Result<(u32, Move), ModelFault>
-    ensures { IsOutcome (step_fault sections.now earlier.now step.now) (step_of sections.now step.now) result }
-{
-    let Some(found) = sections.find(&step.section) else {
-        return Err(unknown_name(alloc, &step.section));
-    };
-    if is_touched(earlier, &step.section) {
-        return Err(touched_twice_name(alloc, &step.section));
-    }
-    if !is_of_kind(&step.body, found.kind) {
-        return Err(wrong_kind_name(alloc, &step.section));
-    }
-    let body = rename_move(alloc, found.letters, &step.body)?;
-    Ok((found.number, body))
-}
+/// Steps of a rule.
+#[derive(Clone, Copy)]
+struct Steps<'s, 'a>(&'s Sections<'a>);
 
-/// The steps of a rule.
-fn resolve_steps(
-    alloc: Global,
-    sections: &Sections,
-    steps: &[MoveText],
-) -> Result<Sequence<(u32, Move)>, ModelFault>
-    ensures { IsOutcome (first_fault_of (step_fault sections.now) [] steps.now) (map (step_of sections.now) steps.now) result }
-{
-    let mut resolved = Vec::new(alloc);
-    'steps: for (i, step) in steps.iter().enumerate() {
-        let next = resolve_step(alloc, sections, &steps[..i], step)?;
-        resolved.push(next)?;
+impl<'s, 'a> Resolver for Steps<'s, 'a> {
+    type Item = MoveText;
+
+    type Value = (u32, Move);
+
+    ghost value = { λ x. step_of x.0.now };
+
+    ghost fault = { λ x. step_fault x.0.now };
+
+    fn resolve(
+        &self,
+        alloc: Global,
+        earlier: &[MoveText],
+        step: &MoveText,
+    ) -> Result<(u32, Move), ModelFault> {
+        let Some(found) = self.0.find(&step.section) else {
+            return Err(unknown_name(alloc, &step.section));
+        };
+        if is_touched(earlier, &step.section) {
+            return Err(touched_twice_name(alloc, &step.section));
+        }
+        if !is_of_kind(&step.body, found.kind) {
+            return Err(wrong_kind_name(alloc, &step.section));
+        }
+        let body = rename_move(alloc, found.letters, &step.body)?;
+        Ok((found.number, body))
     }
-    Ok(Sequence::from_vec(resolved))
 }
 
 /// A rule whose name is its own.
 fn resolve_rule(alloc: Global, sections: &Sections, rule: &RuleText) -> Result<Rule, ModelFault>
     ensures { IsOutcome (first_fault_of (step_fault sections.now) [] rule.now.moves) (rule_of sections.now rule.now) result }
 {
-    let moves = resolve_steps(alloc, sections, rule.moves.as_slice())?;
+    let moves = resolve_each(alloc, &Steps(sections), rule.moves.as_slice())?;
     let name = copy_text(alloc, &rule.name.text)?;
     Ok(Rule { name, moves })
 }

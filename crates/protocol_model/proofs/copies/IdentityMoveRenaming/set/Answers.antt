@@ -7,4 +7,4 @@ no_fault earlier [] = refl
 no_fault earlier (a ∷ letters) = no_fault (earlier ++ a ∷ []) letters
 
 pub returns : goal.returns
-returns c = (no_fault [] c.args.set.now, c.in_ok-copy_numbers.ensures)
+returns c = (no_fault [] c.args.set.now, c.in_ok-copied.ensures)

@@ -11,7 +11,7 @@ use Rattle.protocol_model.specs.declared.fault.ModelFault.TheVariants.{Unknown, 
 use Rattle.protocol_model.specs.Numbering.{section_names, section_named, letters_named}
 use Rattle.protocol_model.specs.Faults.{is_among, unknown, touched_twice, wrong_kind, body_fault}
 use Rattle.protocol_syntax.specs.MoveLetters.{belongs_to}
-use Rattle.protocol_model.proofs.rules.resolve_step.Goals as goal
+use Rattle.protocol_model.proofs.rules.StepsResolver.resolve.Goals as goal
 
 -- the test of a kind, where the section is there
 kind_test : (found : Option SectionText) (of : Kind → Bool) (kind : Kind) (b : Bool) →
@@ -23,7 +23,7 @@ kind_test (Some section) of kind b e h =
 
 pub returns-then-is_touched : goal.returns-then-is_touched
 returns-then-is_touched c =
-    let sections = c.args.sections.now in
+    let sections = c.args.self.now.0.now in
     let name = c.args.step.now.section in
     let earlier = map (λ before. before.section.text) c.args.earlier.now in
     let known : unknown (section_names sections) name ≡ None =
@@ -37,7 +37,7 @@ returns-then-is_touched c =
 
 pub returns-then-not-is_of_kind : goal.returns-then-not-is_of_kind
 returns-then-not-is_of_kind c =
-    let sections = c.args.sections.now in
+    let sections = c.args.self.now.0.now in
     let step = c.args.step.now in
     let name = step.section in
     let earlier = map (λ before. before.section.text) c.args.earlier.now in
@@ -58,7 +58,7 @@ returns-then-not-is_of_kind c =
 
 pub returns-in_err-body : goal.returns-in_err-body
 returns-in_err-body c =
-    let sections = c.args.sections.now in
+    let sections = c.args.self.now.0.now in
     let step = c.args.step.now in
     let name = step.section in
     let earlier = map (λ before. before.section.text) c.args.earlier.now in
@@ -81,7 +81,7 @@ returns-in_err-body c =
 
 pub returns : goal.returns
 returns c =
-    let sections = c.args.sections.now in
+    let sections = c.args.self.now.0.now in
     let step = c.args.step.now in
     let name = step.section in
     let earlier = map (λ before. before.section.text) c.args.earlier.now in

@@ -7,11 +7,11 @@ use Rattle.protocol_model.specs.Numbering.{section_names, letters_named}
 use Rattle.protocol_model.specs.Faults.{is_among, unknown, duplicate, base_fault, first_fault_of}
 use Rattle.protocol_model.proofs.Lists.{list_any_map}
 use Rattle.protocol_model.proofs.Known.{fault_where_true, or_left, or_right, or_none}
-use Rattle.protocol_model.proofs.rows.resolve_part.Goals as goal
+use Rattle.protocol_model.proofs.rows.PartsResolver.resolve.Goals as goal
 
 pub returns-then-is_named : goal.returns-then-is_named
 returns-then-is_named c =
-    let sections = c.args.sections.now in
+    let sections = c.args.self.now.0.now in
     let name = c.args.part.now.section in
     let earlier = map (λ before. before.section.text) c.args.earlier.now in
     let known : unknown (section_names sections) name ≡ None =
@@ -25,7 +25,7 @@ returns-then-is_named c =
 
 pub returns-in_err-atoms : goal.returns-in_err-atoms
 returns-in_err-atoms c =
-    let sections = c.args.sections.now in
+    let sections = c.args.self.now.0.now in
     let name = c.args.part.now.section in
     let earlier = map (λ before. before.section.text) c.args.earlier.now in
     let known : unknown (section_names sections) name ≡ None =
@@ -42,7 +42,7 @@ returns-in_err-atoms c =
 
 pub returns : goal.returns
 returns c =
-    let sections = c.args.sections.now in
+    let sections = c.args.self.now.0.now in
     let name = c.args.part.now.section in
     let earlier = map (λ before. before.section.text) c.args.earlier.now in
     let known : unknown (section_names sections) name ≡ None =
