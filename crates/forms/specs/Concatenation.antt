@@ -1,4 +1,5 @@
 -- One form behind another.
+use Rattle.std.specs.Prelude.{List, ◌∷◌}
 use Rattle.forms.specs.declared.symbol.Symbol.{Symbol}
 use Rattle.forms.specs.Grammar.{Grammar, sign, gives, ◌>>=◌}
 
@@ -21,3 +22,10 @@ ended x symbol = do
   a ← x
   last ← sign symbol
   gives a
+
+-- an item, and after it a list of more items
+abbrev pub non_empty : {A : Type 0} → Grammar A → Grammar (List A) → Grammar (List A)
+non_empty x y = do
+  first ← x
+  rest ← y
+  gives (first ∷ rest)

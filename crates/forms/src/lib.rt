@@ -15,7 +15,7 @@ mod source;
 mod symbol;
 mod whole;
 
-pub use concatenation::{Behind, Ended, Then};
+pub use concatenation::{Behind, Ended, NonEmpty, Then};
 pub use each::{FormOf, read_each};
 pub use fault::{SyntaxFault, What};
 pub use form::Form;

@@ -15,14 +15,13 @@ use Rattle.forms.specs.declared.symbol.Symbol.{Symbol}
 use Rattle.forms.specs.declared.symbol.Symbol.TheVariants.{Reserved}
 use Rattle.forms.specs.FirstFault.{IsFault, IsUnexpected, IsTooMany, IsSoundBefore}
 use Rattle.forms.specs.Symbol.{Source, source_of, token_at}
-use Rattle.forms.specs.Grammar.{Grammar, name, sign, gives, ◌>>=◌, optional, many, many_by, item, up_to, Says, SaysMany, Begins, Passes}
+use Rattle.forms.specs.Grammar.{Grammar, name, gives, ◌>>=◌, optional, many, many_by, item, up_to, Says, SaysMany, Begins, Passes}
 use Rattle.protocol_syntax.specs.declared.protocol.Protocol.{Protocol}
 use Rattle.protocol_syntax.specs.declared.protocol.SectionText.{SectionText}
-use Rattle.protocol_syntax.specs.declared.protocol.MoveText.{MoveText}
 use Rattle.protocol_syntax.specs.declared.protocol.RuleText.{RuleText}
 use Rattle.protocol_syntax.specs.declared.protocol.RowText.{RowText}
 use Rattle.protocol_syntax.specs.declared.protocol.Kind.{Kind}
-use Rattle.protocol_syntax.specs.declared.limits.TheConstants.{MAX_SECTIONS, MAX_LETTERS, MAX_ROWS, MAX_RULES}
+use Rattle.protocol_syntax.specs.declared.limits.TheConstants.{MAX_SECTIONS, MAX_ROWS, MAX_RULES}
 use Rattle.protocol_syntax.specs.MoveLetters.{MoveBody}
 use Rattle.protocol_syntax.specs.Grammar.{section, kind, common_kind, common_move, any_move, at_move, letters_of, more_sections, row, rule, step, second_language, protocol}
 use Rattle.protocol_syntax.specs.FirstLanguage.{first_section, first_more_sections, first_step, first_rule, first_protocol, FirstLanguageStays, FirstProtocolsStay, FirstFaultsStay}

@@ -1,4 +1,5 @@
 pub mod ForCallers
+mod Unfolded
 mod Letters
 mod Together
 pub mod Told

@@ -1,11 +1,9 @@
 -- Productions of several parts: each is read as the nested pairs of its parts are, which the code reads.
-use Rattle.std.proofs.Common.{◌≡◌, ◌∷◌, ℕ, List, [], Some, Ok, Err, Result, refl, sym, subst, ap, ◌∙◌}
-use Rattle.std.specs.Prelude.{◌-◌, IfOk, OnErr}
+use Rattle.std.proofs.Common.{◌≡◌, ℕ, List, [], Some, Ok, refl, sym, subst, ◌∙◌}
 pub use Rattle.std.proofs.lemmas.Result.{err_from_is_err_and}
 use Rattle.protocol_lexer.specs.declared.TokenKind.TheVariants.{BraceLeft, BraceRight, Colon, Semicolon, Arrow}
 use Rattle.forms.specs.declared.fault.What.TheVariants as Limits
 use Rattle.forms.specs.declared.fault.SyntaxFault.{SyntaxFault}
-use Rattle.forms.specs.declared.fault.SyntaxFault.TheVariants as Faults
 use Rattle.forms.specs.declared.name.Name.{Name}
 use Rattle.forms.specs.declared.symbol.Keyword.{Keyword}
 use Rattle.forms.specs.declared.symbol.Keyword.TheVariants as Words
@@ -13,31 +11,23 @@ use Rattle.forms.specs.declared.symbol.Symbol.TheVariants.{Reserved, Sign}
 pub use Rattle.forms.specs.Symbol.{Source, source_of}
 use Rattle.forms.specs.Concatenation.{behind, both, ended}
 use Rattle.forms.specs.Grammar.{Grammar, name, gives, ◌>>=◌, optional, many, up_to}
-use Rattle.forms.specs.Reading.{Answer, Fails, Gives, read}
+use Rattle.forms.specs.Reading.{Fails, read}
 use Rattle.forms.proofs.ForCallers.{IsReadAs, read_as, goes_on, fails_with}
 pub use Rattle.forms.proofs.ForCallers.{says_made, fails_too, given_alike}
-use Rattle.protocol_syntax.specs.declared.limits.TheConstants.{MAX_ROWS, MAX_RULES, MAX_ATOMS, MAX_GUARDS, MAX_PUSHED}
+use Rattle.protocol_syntax.specs.declared.limits.TheConstants.{MAX_ROWS, MAX_RULES, MAX_GUARDS}
 use Rattle.protocol_syntax.specs.declared.protocol.Many.TheVariants as Counts
 use Rattle.protocol_syntax.specs.declared.protocol.Move.TheVariants as Moves
 use Rattle.protocol_syntax.specs.declared.protocol.Protocol.{Protocol}
 use Rattle.protocol_syntax.specs.declared.protocol.SectionText.{SectionText}
 use Rattle.protocol_syntax.specs.declared.protocol.RowText.{RowText}
 use Rattle.protocol_syntax.specs.declared.protocol.RuleText.{RuleText}
-use Rattle.protocol_syntax.specs.Grammar.{kind, section, set, base, count, atom, atoms, pattern, part, row, quantifier, region, guard, entry, table}
+use Rattle.protocol_syntax.specs.Grammar.{kind, section, set, base, count, atom, pattern, part, row, quantifier, region, guard, entry, table}
 use Rattle.protocol_syntax.specs.Grammar.{at_move, four_names, set_move, pushed, pop_move, step, rule, second_language, protocol}
 use Rattle.protocol_syntax.specs.private.Parts.{all_sections, letters_behind}
-
-pub set_as : IsReadAs set (ended (behind (Sign BraceLeft) (many name)) (Sign BraceRight)) (λ v. v)
-unfolding set
-set_as = read_as _ _ _ (λ s i. refl)
 
 pub atom_as : IsReadAs atom (both base (optional Counts.One count)) (λ v. record { base = v.0; many = v.1 })
 unfolding atom
 atom_as = read_as _ _ _ (λ s i. refl)
-
-pub atoms_as : IsReadAs atoms (both atom (up_to (MAX_ATOMS - 1) Limits.Atoms atom)) (λ v. v.0 ∷ v.1)
-unfolding atoms
-atoms_as = read_as _ _ _ (λ s i. refl)
 
 pub part_as : IsReadAs part (both name (behind (Sign Colon) (ended pattern (Sign Semicolon)))) (λ v. record { section = v.0; atoms = v.1 })
 unfolding part
@@ -58,10 +48,6 @@ pub entry_as : IsReadAs entry (ended (both name (behind (Sign Arrow) name)) (Sig
 unfolding entry
 entry_as = read_as _ _ _ (λ s i. refl)
 
-pub table_as : IsReadAs table (behind (Reserved Words.Map) (ended (behind (Sign BraceLeft) (many entry)) (Sign BraceRight))) (λ v. v)
-unfolding table
-table_as = read_as _ _ _ (λ s i. refl)
-
 pub at_as : IsReadAs at_move
     (both (both (both (behind (Reserved Words.At) name) (behind (Sign Arrow) name)) (up_to MAX_GUARDS Limits.Guards guard)) (optional [] table))
     (λ v. Moves.At v.0.0.0 v.0.0.1 v.0.1 v.1)
@@ -77,10 +63,6 @@ pub set_move_as : IsReadAs set_move (both (behind (Reserved Words.Set) name) (be
 unfolding set_move
 set_move_as = read_as _ _ _ (λ s i. refl)
 
-pub pushed_as : IsReadAs pushed (both (behind (Reserved Words.Push) name) (up_to (MAX_PUSHED - 1) Limits.Pushed name)) (λ v. v.0 ∷ v.1)
-unfolding pushed
-pushed_as = read_as _ _ _ (λ s i. refl)
-
 pub pop_as : IsReadAs pop_move (both (behind (Reserved Words.Pop) name) (optional [] pushed)) (λ v. Moves.Stack (Some v.0) v.1)
 unfolding pop_move
 pop_as = read_as _ _ _ (λ s i. refl)
@@ -90,12 +72,6 @@ pub rule_as : (language : ℕ)
     (λ v. record { name = v.0; moves = v.1 })
 unfolding rule
 rule_as language = read_as _ _ _ (λ s i. refl)
-
--- a list with its first item in front, or no memory for it
-pub listed : {A : Type 0} (answer : Answer (List A)) (j : ℕ) (first : A) (rest more : List A) (r : Result (List A) SyntaxFault)
-    → answer ≡ Ok (first ∷ rest, j) → more ≡ rest → IfOk r (λ items. items ≡ first ∷ more) → OnErr r (r ≡ Err Faults.Memory) → Gives answer j r
-listed answer j first rest more (Ok items) is same made memory = is ∙ ap (λ items. Ok (items, j)) (sym (made ∙ ap (λ others. first ∷ others) same))
-listed answer j first rest more (Err e) is same made memory = subst (λ r. Gives answer j r) (sym memory) tt
 
 -- a protocol: its head, its sections, and the rows and rules behind them
 abbrev head : Grammar (Name × ℕ)

@@ -7,12 +7,10 @@ use Rattle.forms.specs.Grammar.{up_to}
 use Rattle.forms.specs.Shape.{IsUniform, shape, is_told, code}
 use Rattle.protocol_syntax.specs.Grammar.{common_kind, lossy_kind, kind, section, more_sections, set, letter_base, set_base, base, count, atom, atoms, pattern, part, row_body, row, quantifier, region, guard, entry, table, at_move, four_names, pair_move, ring_move, two_move, set_move, send_move, recv_move, pushed, pop_move, push_move, channel_or_stack_move, common_move, spawn_move, exit_move, lose_move, later_move, any_move, step, rule, second_language, protocol}
 use Rattle.protocol_syntax.specs.Properties.{block, properties}
+use Rattle.protocol_syntax.proofs.Unfolded.{productions}
 
 pub protocol_is_told : is_told (shape protocol) ≡ true
-unfolding common_kind lossy_kind kind section more_sections set letter_base set_base base count atom atoms pattern part row_body row quantifier region
-    guard entry table at_move four_names pair_move ring_move two_move set_move send_move recv_move pushed pop_move push_move
-    channel_or_stack_move common_move spawn_move exit_move lose_move later_move any_move step rule second_language protocol up_to
-    code
+unfolding productions code
 protocol_is_told = refl
 
 kind_is_uniform : (language : ℕ) → IsUniform (kind language)
@@ -114,7 +112,7 @@ protocol_is_uniform = (
 )
 
 pub properties_are_told : is_told (shape properties) ≡ true
-unfolding set letter_base set_base base count atom atoms pattern part row_body block properties up_to code
+unfolding productions code
 properties_are_told = refl
 
 pub properties_are_uniform : IsUniform properties

@@ -1,5 +1,6 @@
 //! The sign that ends a form.
 //! What the form says is handed in, so that one function lets it go where another token stands there; time is constant.
+#![tactic(auto, unfolding(crate::proofs::Unfolded::productions))]
 
 ghost use Rattle.forms.specs.Symbol.{source_of};
 ghost use Rattle.forms.specs.Reading.{IsRead};
@@ -8,7 +9,6 @@ ghost use Rattle.protocol_syntax.specs.private.Parts.{ended};
 use forms::{Form, Sign, Source, SyntaxFault};
 
 /// Reads the sign that ends a form, and gives what the form says.
-#[tactic(auto, unfolding(forms::specs::Reading::read_then))]
 pub fn ended<T: Drop>(
     said: T,
     end: Sign,

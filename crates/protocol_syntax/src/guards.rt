@@ -1,5 +1,6 @@
 //! Reading guards and sets.
 //! One function or form for each production, as in all files here; time is linear in the tokens.
+#![tactic(auto, unfolding(crate::proofs::Unfolded::productions))]
 
 ghost use Rattle.protocol_syntax.specs.Grammar.{guard, set};
 
@@ -44,13 +45,12 @@ impl Form for Set {
 
     ghost grammar = { λ _. set };
 
-    #[tactic(auto, unfolding(crate::specs::Grammar::set))]
     fn opens(&self, source: &Source<'_>, at: usize) -> bool {
         BRACE_LEFT.opens(source, at)
     }
 
     fn read(&self, source: &Source<'_>, at: &mut usize) -> Result<Sequence<Name>, SyntaxFault> {
-        Ended(Behind(BRACE_LEFT, Many(AnyName)), BRACE_RIGHT).read(source, at)
+        Behind(BRACE_LEFT, Ended(Many(AnyName), BRACE_RIGHT)).read(source, at)
     }
 }
 
@@ -63,7 +63,6 @@ impl Form for Guard {
 
     ghost grammar = { λ _. guard };
 
-    #[tactic(auto, unfolding(crate::specs::Grammar::guard))]
     fn opens(&self, source: &Source<'_>, at: usize) -> bool {
         WHEN.opens(source, at)
     }

@@ -1,5 +1,6 @@
 //! Reading rules: their steps, moves and tables.
 //! The word with which a move begins tells which one it is.
+#![tactic(auto, unfolding(crate::proofs::Unfolded::productions))]
 
 ghost use Rattle.forms.specs.Symbol.{source_of};
 ghost use Rattle.forms.specs.Reading.{IsRead};
@@ -13,8 +14,8 @@ use crate::limits::MAX_PUSHED;
 use crate::protocol::{MoveBody, MoveText, RuleText};
 use crate::rows::Base;
 use forms::{
-    ARROW, AnyName, BRACE_LEFT, BRACE_RIGHT, Behind, COLON, Ended, Form, Keyword, Many, Name, Only,
-    OrEmpty, SEMICOLON, Sign, Source, Symbol, SyntaxFault, Then, UpTo, What, with_first,
+    ARROW, AnyName, BRACE_LEFT, BRACE_RIGHT, Behind, COLON, Ended, Form, Keyword, Many, Name,
+    NonEmpty, Only, OrEmpty, SEMICOLON, Sign, Source, Symbol, SyntaxFault, Then, UpTo, What,
 };
 use sequence::Sequence;
 
@@ -55,7 +56,6 @@ impl Form for Entry {
 
     ghost grammar = { λ _. entry };
 
-    #[tactic(auto, unfolding(crate::specs::Grammar::entry))]
     fn opens(&self, source: &Source<'_>, at: usize) -> bool {
         AnyName.opens(source, at)
     }
@@ -74,7 +74,6 @@ impl Form for Table {
 
     ghost grammar = { λ _. table };
 
-    #[tactic(auto, unfolding(crate::specs::Grammar::table))]
     fn opens(&self, source: &Source<'_>, at: usize) -> bool {
         MAP.opens(source, at)
     }
@@ -84,7 +83,7 @@ impl Form for Table {
         source: &Source<'_>,
         at: &mut usize,
     ) -> Result<Sequence<(Name, Name)>, SyntaxFault> {
-        let entries = Ended(Behind(BRACE_LEFT, Many(Entry)), BRACE_RIGHT);
+        let entries = Behind(BRACE_LEFT, Ended(Many(Entry), BRACE_RIGHT));
         Behind(MAP, entries).read(source, at)
     }
 }
@@ -120,7 +119,6 @@ fn four_names(
 }
 
 /// A move of neighbours.
-#[tactic(auto, unfolding(crate::specs::Grammar::pair_move, forms::specs::Reading::read_then))]
 fn pair_move(source: &Source<'_>, at: &mut usize) -> Result<MoveBody, SyntaxFault>
     ensures { IsRead pair_move (source_of source.now.text.now source.now.tokens.now) at.old at.new result }
 {
@@ -129,7 +127,6 @@ fn pair_move(source: &Source<'_>, at: &mut usize) -> Result<MoveBody, SyntaxFaul
 }
 
 /// A move of the last and the first position.
-#[tactic(auto, unfolding(crate::specs::Grammar::ring_move, forms::specs::Reading::read_then))]
 fn ring_move(source: &Source<'_>, at: &mut usize) -> Result<MoveBody, SyntaxFault>
     ensures { IsRead ring_move (source_of source.now.text.now source.now.tokens.now) at.old at.new result }
 {
@@ -138,7 +135,6 @@ fn ring_move(source: &Source<'_>, at: &mut usize) -> Result<MoveBody, SyntaxFaul
 }
 
 /// A move of any two positions.
-#[tactic(auto, unfolding(crate::specs::Grammar::two_move, forms::specs::Reading::read_then))]
 fn two_move(source: &Source<'_>, at: &mut usize) -> Result<MoveBody, SyntaxFault>
     ensures { IsRead two_move (source_of source.now.text.now source.now.tokens.now) at.old at.new result }
 {
@@ -156,7 +152,6 @@ fn set_move(source: &Source<'_>, at: &mut usize) -> Result<MoveBody, SyntaxFault
 }
 
 /// A letter is sent.
-#[tactic(auto, unfolding(crate::specs::Grammar::send_move, forms::specs::Reading::read_then))]
 fn send_move(source: &Source<'_>, at: &mut usize) -> Result<MoveBody, SyntaxFault>
     ensures { IsRead send_move (source_of source.now.text.now source.now.tokens.now) at.old at.new result }
 {
@@ -166,7 +161,6 @@ fn send_move(source: &Source<'_>, at: &mut usize) -> Result<MoveBody, SyntaxFaul
 }
 
 /// A letter is received.
-#[tactic(auto, unfolding(crate::specs::Grammar::recv_move, forms::specs::Reading::read_then))]
 fn recv_move(source: &Source<'_>, at: &mut usize) -> Result<MoveBody, SyntaxFault>
     ensures { IsRead recv_move (source_of source.now.text.now source.now.tokens.now) at.old at.new result }
 {
@@ -190,15 +184,12 @@ impl Form for Pushed {
 
     ghost grammar = { λ _. pushed };
 
-    #[tactic(auto, unfolding(crate::specs::Grammar::pushed))]
     fn opens(&self, source: &Source<'_>, at: usize) -> bool {
         PUSH.opens(source, at)
     }
 
     fn read(&self, source: &Source<'_>, at: &mut usize) -> Result<Sequence<Name>, SyntaxFault> {
-        let parts = Then(Behind(PUSH, AnyName), MORE_PUSHED).read(source, at)?;
-        let (first, rest) = parts;
-        with_first(first, rest.into_vec())
+        Behind(PUSH, NonEmpty(AnyName, MORE_PUSHED)).read(source, at)
     }
 }
 
@@ -215,7 +206,6 @@ fn pop_move(source: &Source<'_>, at: &mut usize) -> Result<MoveBody, SyntaxFault
 }
 
 /// Letters are put on a stack.
-#[tactic(auto, unfolding(crate::specs::Grammar::push_move, forms::specs::Reading::read_then))]
 fn push_move(source: &Source<'_>, at: &mut usize) -> Result<MoveBody, SyntaxFault>
     ensures { IsRead push_move (source_of source.now.text.now source.now.tokens.now) at.old at.new result }
 {
@@ -224,7 +214,6 @@ fn push_move(source: &Source<'_>, at: &mut usize) -> Result<MoveBody, SyntaxFaul
 }
 
 /// A move of a channel or a stack.
-#[tactic(auto, unfolding(crate::specs::Grammar::channel_or_stack_move, crate::specs::Grammar::send_move, crate::specs::Grammar::recv_move, crate::specs::Grammar::pop_move, forms::specs::Reading::read_or))]
 fn channel_or_stack_move(source: &Source<'_>, at: &mut usize) -> Result<MoveBody, SyntaxFault>
     ensures { IsRead channel_or_stack_move (source_of source.now.text.now source.now.tokens.now) at.old at.new result }
 {
@@ -241,7 +230,6 @@ fn channel_or_stack_move(source: &Source<'_>, at: &mut usize) -> Result<MoveBody
 }
 
 /// A move of every language.
-#[tactic(auto, unfolding(crate::specs::Grammar::common_move, crate::specs::Grammar::at_move, crate::specs::Grammar::pair_move, crate::specs::Grammar::ring_move, crate::specs::Grammar::two_move, crate::specs::Grammar::four_names, crate::specs::Grammar::set_move, forms::specs::Reading::read_or))]
 fn common_move(source: &Source<'_>, at: &mut usize) -> Result<MoveBody, SyntaxFault>
     ensures { IsRead common_move (source_of source.now.text.now source.now.tokens.now) at.old at.new result }
 {
@@ -264,7 +252,6 @@ fn common_move(source: &Source<'_>, at: &mut usize) -> Result<MoveBody, SyntaxFa
 }
 
 /// A position is added to an array.
-#[tactic(auto, unfolding(crate::specs::Grammar::spawn_move, forms::specs::Reading::read_then))]
 fn spawn_move(source: &Source<'_>, at: &mut usize) -> Result<MoveBody, SyntaxFault>
     ensures { IsRead spawn_move (source_of source.now.text.now source.now.tokens.now) at.old at.new result }
 {
@@ -274,7 +261,6 @@ fn spawn_move(source: &Source<'_>, at: &mut usize) -> Result<MoveBody, SyntaxFau
 }
 
 /// A position leaves an array.
-#[tactic(auto, unfolding(crate::specs::Grammar::exit_move, forms::specs::Reading::read_then))]
 fn exit_move(source: &Source<'_>, at: &mut usize) -> Result<MoveBody, SyntaxFault>
     ensures { IsRead exit_move (source_of source.now.text.now source.now.tokens.now) at.old at.new result }
 {
@@ -284,7 +270,6 @@ fn exit_move(source: &Source<'_>, at: &mut usize) -> Result<MoveBody, SyntaxFaul
 }
 
 /// A letter is lost.
-#[tactic(auto, unfolding(crate::specs::Grammar::lose_move, forms::specs::Reading::read_then))]
 fn lose_move(source: &Source<'_>, at: &mut usize) -> Result<MoveBody, SyntaxFault>
     ensures { IsRead lose_move (source_of source.now.text.now source.now.tokens.now) at.old at.new result }
 {
@@ -302,12 +287,10 @@ impl Form for LaterMove {
 
     ghost grammar = { λ _. later_move };
 
-    #[tactic(auto, unfolding(crate::specs::Grammar::later_move, crate::specs::Grammar::spawn_move, crate::specs::Grammar::exit_move, crate::specs::Grammar::lose_move))]
     fn opens(&self, source: &Source<'_>, at: usize) -> bool {
         SPAWN.opens(source, at) || (EXIT.opens(source, at) || LOSE.opens(source, at))
     }
 
-    #[tactic(auto, unfolding(crate::specs::Grammar::later_move, crate::specs::Grammar::spawn_move, crate::specs::Grammar::exit_move, forms::specs::Reading::read_or))]
     fn read(&self, source: &Source<'_>, at: &mut usize) -> Result<MoveBody, SyntaxFault> {
         if SPAWN.opens(source, *at) {
             return spawn_move(source, at);
@@ -320,7 +303,6 @@ impl Form for LaterMove {
 }
 
 /// A move.
-#[tactic(auto, unfolding(crate::specs::Grammar::any_move, forms::specs::Reading::read_or))]
 fn any_move(language: u32, source: &Source<'_>, at: &mut usize) -> Result<MoveBody, SyntaxFault>
     ensures { IsRead (any_move language) (source_of source.now.text.now source.now.tokens.now) at.old at.new result }
 {
@@ -345,12 +327,10 @@ impl Form for Step {
 
     ghost grammar = { λ x. step x.language };
 
-    #[tactic(auto, unfolding(crate::specs::Grammar::step))]
     fn opens(&self, source: &Source<'_>, at: usize) -> bool {
         AnyName.opens(source, at)
     }
 
-    #[tactic(auto, unfolding(crate::specs::Grammar::step, forms::specs::Reading::read_then))]
     fn read(&self, source: &Source<'_>, at: &mut usize) -> Result<MoveText, SyntaxFault> {
         let section = AnyName.read(source, at)?;
         COLON.read(source, at)?;
@@ -370,7 +350,6 @@ impl Form for Rule {
 
     ghost grammar = { λ x. rule x.language };
 
-    #[tactic(auto, unfolding(crate::specs::Grammar::rule))]
     fn opens(&self, source: &Source<'_>, at: usize) -> bool {
         RULE.opens(source, at)
     }

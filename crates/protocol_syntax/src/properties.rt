@@ -4,71 +4,49 @@
 ghost use Rattle.std.specs.Prelude.{◌≡◌, ◌≢◌, ◌↔◌, List, IfErr, IfOk};
 ghost use Rattle.forms.specs.declared.name.Name.{Name};
 ghost use Rattle.protocol_syntax.specs.declared.protocol.RowText.{RowText};
-ghost use Rattle.protocol_syntax.specs.Properties.{AreProperties, IsPropertiesFault, block, properties};
+ghost use Rattle.protocol_syntax.specs.Properties.{AreProperties, IsPropertiesFault, properties};
 
 use crate::limits::MAX_ROWS;
 use crate::protocol::RowText;
-use crate::rows::row_body;
+use crate::rows::RowBody;
 use forms::{
-    AnyName, Form, Keyword, Name, Sign, Source, Symbol, SyntaxFault, UpTo, What, with_first,
+    AnyName, Behind, Form, Keyword, Name, NonEmpty, Sign, Source, Symbol, SyntaxFault, Then, UpTo,
+    What,
 };
 use sequence::Sequence;
 use std::alloc::Global;
 
 const BAD: Sign = Sign(Symbol::Reserved(Keyword::Bad));
 
-const MORE_BLOCKS: UpTo<Block> = UpTo {
+/// A row with the name of its property.
+const BLOCK: Behind<Then<AnyName, RowBody>> = Behind(BAD, Then(AnyName, RowBody));
+
+const MORE_BLOCKS: UpTo<Behind<Then<AnyName, RowBody>>> = UpTo {
     limit: MAX_ROWS - 1,
     what: What::BadRows,
-    form: Block,
+    form: BLOCK,
 };
-
-/// A row with the name of its property.
-#[derive(Clone, Copy)]
-struct Block;
-
-impl Form for Block {
-    type Meaning = (Name, RowText);
-
-    ghost grammar = { λ _. block };
-
-    #[tactic(auto, unfolding(crate::specs::Properties::block))]
-    fn opens(&self, source: &Source<'_>, at: usize) -> bool {
-        BAD.opens(source, at)
-    }
-
-    #[tactic(auto, unfolding(crate::specs::Properties::block, forms::specs::Reading::read_then))]
-    fn read(&self, source: &Source<'_>, at: &mut usize) -> Result<(Name, RowText), SyntaxFault> {
-        BAD.read(source, at)?;
-        let name = AnyName.read(source, at)?;
-        let row = row_body(source, at)?;
-        Ok((name, row))
-    }
-}
 
 /// All properties of a text.
 #[derive(Clone, Copy)]
 struct Properties;
 
+#[tactic(auto, unfolding(crate::proofs::Unfolded::productions))]
 impl Form for Properties {
     type Meaning = Sequence<(Name, RowText)>;
 
     ghost grammar = { λ _. properties };
 
-    #[tactic(auto, unfolding(crate::specs::Properties::properties))]
     fn opens(&self, source: &Source<'_>, at: usize) -> bool {
-        Block.opens(source, at)
+        BLOCK.opens(source, at)
     }
 
-    #[tactic(auto, unfolding(crate::specs::Properties::properties, forms::specs::Reading::read_then))]
     fn read(
         &self,
         source: &Source<'_>,
         at: &mut usize,
     ) -> Result<Sequence<(Name, RowText)>, SyntaxFault> {
-        let first = Block.read(source, at)?;
-        let rest = MORE_BLOCKS.read(source, at)?;
-        with_first(first, rest.into_vec())
+        NonEmpty(BLOCK, MORE_BLOCKS).read(source, at)
     }
 }
 

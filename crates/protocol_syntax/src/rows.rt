@@ -1,17 +1,16 @@
 //! Reading rows and their patterns.
 //! What stands before an atom's count is told by one token.
+#![tactic(auto, unfolding(crate::proofs::Unfolded::productions))]
 
-ghost use Rattle.protocol_syntax.specs.Grammar.{atom, atoms, base, part, pattern, row, row_body};
-ghost use Rattle.forms.specs.Symbol.{source_of};
-ghost use Rattle.forms.specs.Reading.{IsRead};
+ghost use Rattle.protocol_syntax.specs.Grammar.{atom, base, part, pattern, row_body};
 
 use crate::ends::ended;
 use crate::guards::Set;
 use crate::limits::MAX_ATOMS;
 use crate::protocol::{AtomText, BaseText, Many as Count, PartText, RowText};
 use forms::{
-    AnyName, BRACE_LEFT, BRACE_RIGHT, Behind, COLON, Ended, Form, Keyword, Many, Means, Optional,
-    Or, SEMICOLON, Sign, Source, Symbol, SyntaxFault, Then, UpTo, What, with_first,
+    AnyName, BRACE_LEFT, BRACE_RIGHT, Behind, COLON, Ended, Form, Keyword, Many, Means, NonEmpty,
+    Optional, Or, SEMICOLON, Sign, Source, Symbol, SyntaxFault, Then, UpTo, What,
 };
 use protocol_lexer::TokenKind;
 use sequence::Sequence;
@@ -31,6 +30,8 @@ const MORE_ATOMS: UpTo<Atom> = UpTo {
     form: Atom,
 };
 
+const ATOMS: NonEmpty<Atom, UpTo<Atom>> = NonEmpty(Atom, MORE_ATOMS);
+
 /// What one letter of a pattern may be.
 #[derive(Clone, Copy)]
 pub struct Base;
@@ -40,12 +41,10 @@ impl Form for Base {
 
     ghost grammar = { λ _. base };
 
-    #[tactic(auto, unfolding(crate::specs::Grammar::base, crate::specs::Grammar::letter_base, crate::specs::Grammar::set_base))]
     fn opens(&self, source: &Source<'_>, at: usize) -> bool {
         AnyName.opens(source, at) || (ANY.opens(source, at) || Set.opens(source, at))
     }
 
-    #[tactic(auto, unfolding(crate::specs::Grammar::base, crate::specs::Grammar::letter_base, crate::specs::Grammar::set_base, forms::specs::Reading::read_or, forms::specs::Reading::read_then))]
     fn read(&self, source: &Source<'_>, at: &mut usize) -> Result<BaseText, SyntaxFault> {
         if AnyName.opens(source, *at) {
             let letter = AnyName.read(source, at)?;
@@ -69,7 +68,6 @@ impl Form for Atom {
 
     ghost grammar = { λ _. atom };
 
-    #[tactic(auto, unfolding(crate::specs::Grammar::atom))]
     fn opens(&self, source: &Source<'_>, at: usize) -> bool {
         Base.opens(source, at)
     }
@@ -81,15 +79,6 @@ impl Form for Atom {
     }
 }
 
-/// The atoms of a pattern.
-fn atoms(source: &Source<'_>, at: &mut usize) -> Result<Sequence<AtomText>, SyntaxFault>
-    ensures { IsRead atoms (source_of source.now.text.now source.now.tokens.now) at.old at.new result }
-{
-    let parts = Then(Atom, MORE_ATOMS).read(source, at)?;
-    let (first, rest) = parts;
-    with_first(first, rest.into_vec())
-}
-
 /// The pattern of a section.
 #[derive(Clone, Copy)]
 struct Pattern;
@@ -99,18 +88,16 @@ impl Form for Pattern {
 
     ghost grammar = { λ _. pattern };
 
-    #[tactic(auto, unfolding(crate::specs::Grammar::pattern, crate::specs::Grammar::atoms))]
     fn opens(&self, source: &Source<'_>, at: usize) -> bool {
-        EMPTY.opens(source, at) || Atom.opens(source, at)
+        EMPTY.opens(source, at) || ATOMS.opens(source, at)
     }
 
-    #[tactic(auto, unfolding(crate::specs::Grammar::pattern, forms::specs::Reading::read_or, forms::specs::Reading::read_then))]
     fn read(&self, source: &Source<'_>, at: &mut usize) -> Result<Sequence<AtomText>, SyntaxFault> {
         if EMPTY.opens(source, *at) {
             EMPTY.read(source, at)?;
             return Ok(Sequence::from_vec(Vec::new(source.alloc)));
         }
-        atoms(source, at)
+        ATOMS.read(source, at)
     }
 }
 
@@ -123,7 +110,6 @@ impl Form for Part {
 
     ghost grammar = { λ _. part };
 
-    #[tactic(auto, unfolding(crate::specs::Grammar::part))]
     fn opens(&self, source: &Source<'_>, at: usize) -> bool {
         AnyName.opens(source, at)
     }
@@ -137,32 +123,21 @@ impl Form for Part {
 }
 
 /// The parts of a row.
-#[tactic(auto, unfolding(crate::specs::Grammar::row_body, forms::specs::Reading::read_then))]
-pub fn row_body(source: &Source<'_>, at: &mut usize) -> Result<RowText, SyntaxFault>
-    ensures { IsRead row_body (source_of source.now.text.now source.now.tokens.now) at.old at.new result }
-{
-    BRACE_LEFT.read(source, at)?;
-    let parts = Many(Part).read(source, at)?;
-    ended(RowText { parts }, BRACE_RIGHT, source, at)
-}
-
-/// A row, which begins with this word.
 #[derive(Clone, Copy)]
-pub struct Row(pub Keyword);
+pub struct RowBody;
 
-impl Form for Row {
+impl Form for RowBody {
     type Meaning = RowText;
 
-    ghost grammar = { λ x. row x.0 };
+    ghost grammar = { λ _. row_body };
 
-    #[tactic(auto, unfolding(crate::specs::Grammar::row))]
     fn opens(&self, source: &Source<'_>, at: usize) -> bool {
-        Sign(Symbol::Reserved(self.0)).opens(source, at)
+        BRACE_LEFT.opens(source, at)
     }
 
-    #[tactic(auto, unfolding(crate::specs::Grammar::row, forms::specs::Reading::read_then))]
     fn read(&self, source: &Source<'_>, at: &mut usize) -> Result<RowText, SyntaxFault> {
-        Sign(Symbol::Reserved(self.0)).read(source, at)?;
-        row_body(source, at)
+        BRACE_LEFT.read(source, at)?;
+        let parts = Many(Part).read(source, at)?;
+        ended(RowText { parts }, BRACE_RIGHT, source, at)
     }
 }

@@ -1,5 +1,6 @@
 //! Reading sections.
 //! The letters of the earlier sections are counted anew for each section, of which there are few.
+#![tactic(auto, unfolding(crate::proofs::Unfolded::productions))]
 
 ghost use Rattle.std.specs.Prelude.{◌≡◌, ◌-◌, ◌∷◌, length, min, nat_le};
 ghost use Rattle.forms.specs.declared.fault.What.TheVariants as Limits;
@@ -7,14 +8,14 @@ ghost use Rattle.forms.specs.Grammar.{item};
 ghost use Rattle.protocol_syntax.specs.declared.limits.TheConstants.{MAX_SECTIONS, MAX_LETTERS};
 ghost use Rattle.forms.specs.Symbol.{source_of};
 ghost use Rattle.forms.specs.Reading.{IsRead};
-ghost use Rattle.protocol_syntax.specs.Grammar.{kind, letters_of, lossy_kind, section};
+ghost use Rattle.protocol_syntax.specs.Grammar.{kind, letters_of, section};
 ghost use Rattle.protocol_syntax.specs.private.Parts.{all_sections, letters_behind};
 
 use crate::limits::{MAX_LETTERS, MAX_SECTIONS};
 use crate::protocol::{Kind, SectionText};
 use forms::{
-    AnyName, BRACE_LEFT, BRACE_RIGHT, Behind, Ended, Form, Item, Items, Keyword, Means, Name, Only,
-    Or, Sign, Source, Symbol, SyntaxFault, Then, UpTo, What, read_many, with_first,
+    AnyName, BRACE_LEFT, BRACE_RIGHT, Behind, Ended, Form, Item, Items, Keyword, Means, Name,
+    NonEmpty, Only, Or, Sign, Source, Symbol, SyntaxFault, Then, UpTo, What, read_many, with_first,
 };
 use sequence::Sequence;
 
@@ -29,31 +30,11 @@ const COMMON_KIND: Or<Means<Kind>, Or<Means<Kind>, Or<Means<Kind>, Means<Kind>>>
     ),
 );
 
-const LOSSY: Sign = Sign(Symbol::Reserved(Keyword::Lossy));
-
-const CHANNEL: Sign = Sign(Symbol::Reserved(Keyword::Channel));
-
 /// The kind of channels that lose.
-#[derive(Clone, Copy)]
-struct LossyKind;
-
-impl Form for LossyKind {
-    type Meaning = Kind;
-
-    ghost grammar = { λ _. lossy_kind };
-
-    #[tactic(auto, unfolding(crate::specs::Grammar::lossy_kind))]
-    fn opens(&self, source: &Source<'_>, at: usize) -> bool {
-        LOSSY.opens(source, at)
-    }
-
-    #[tactic(auto, unfolding(crate::specs::Grammar::lossy_kind, forms::specs::Reading::read_then))]
-    fn read(&self, source: &Source<'_>, at: &mut usize) -> Result<Kind, SyntaxFault> {
-        LOSSY.read(source, at)?;
-        CHANNEL.read(source, at)?;
-        Ok(Kind::LossyChannel)
-    }
-}
+const LOSSY_KIND: Behind<Means<Kind>> = Behind(
+    Sign(Symbol::Reserved(Keyword::Lossy)),
+    Means(Symbol::Reserved(Keyword::Channel), Kind::LossyChannel),
+);
 
 /// The kind of a section.
 #[derive(Clone, Copy)]
@@ -66,25 +47,20 @@ impl Form for SectionKind {
 
     ghost grammar = { λ x. kind x.language };
 
-    #[tactic(auto, unfolding(crate::specs::Grammar::kind, crate::specs::Grammar::common_kind))]
     fn opens(&self, source: &Source<'_>, at: usize) -> bool {
         let lossy = Only {
             allowed: 2 <= self.language,
-            form: LossyKind,
+            form: LOSSY_KIND,
         };
-        COMMON_KIND.opens(source, at) || lossy.opens(source, at)
+        Or(COMMON_KIND, lossy).opens(source, at)
     }
 
-    #[tactic(auto, unfolding(crate::specs::Grammar::kind, crate::specs::Grammar::common_kind, forms::specs::Reading::read_or))]
     fn read(&self, source: &Source<'_>, at: &mut usize) -> Result<Kind, SyntaxFault> {
-        if COMMON_KIND.opens(source, *at) {
-            return COMMON_KIND.read(source, at);
-        }
         let lossy = Only {
             allowed: 2 <= self.language,
-            form: LossyKind,
+            form: LOSSY_KIND,
         };
-        lossy.read(source, at)
+        Or(COMMON_KIND, lossy).read(source, at)
     }
 }
 
@@ -100,7 +76,6 @@ impl Form for Section {
 
     ghost grammar = { λ x. section x.language x.used };
 
-    #[tactic(auto, unfolding(crate::specs::Grammar::section))]
     fn opens(&self, source: &Source<'_>, at: usize) -> bool {
         let kind = SectionKind {
             language: self.language,
@@ -139,21 +114,18 @@ impl Form for Letters {
         AnyName.opens(source, at)
     }
 
-    #[tactic(auto, unfolding(forms::specs::Reading::read_then))]
     fn read(&self, source: &Source<'_>, at: &mut usize) -> Result<Sequence<Name>, SyntaxFault> {
         let one = Item {
             full: MAX_LETTERS <= self.used,
             what: What::Letters,
             form: AnyName,
         };
-        let letter = one.read(source, at)?;
         let others = UpTo {
             limit: (MAX_LETTERS - 1).saturating_sub(self.used),
             what: What::Letters,
             form: AnyName,
         };
-        let more = others.read(source, at)?;
-        with_first(letter, more.into_vec())
+        NonEmpty(one, others).read(source, at)
     }
 }
 
@@ -170,7 +142,6 @@ impl<'a> Items for MoreSections<'a> {
     ghost next = { λ x before. item (nat_le (MAX_SECTIONS - 1) (length before)) Limits.Sections
         (section x.language (letters_of (x.first.now ∷ before))) };
 
-    #[tactic(auto, unfolding(crate::specs::Grammar::section))]
     fn opens_next(&self, _before: &[SectionText], source: &Source<'_>, at: usize) -> bool {
         let kind = SectionKind {
             language: self.language,
@@ -200,7 +171,6 @@ impl<'a> Items for MoreSections<'a> {
 }
 
 /// Reads the sections of a text of this language.
-#[tactic(auto, unfolding(crate::specs::Grammar::more_sections, forms::specs::Reading::read_then))]
 pub fn sections(
     language: u32,
     source: &Source<'_>,

@@ -8,7 +8,7 @@ use crate::law::limits_and_words;
 use crate::limits::{MAX_ROWS, MAX_RULES};
 use crate::moves::Rule;
 use crate::protocol::Protocol;
-use crate::rows::Row;
+use crate::rows::RowBody;
 use crate::sections::sections;
 use forms::{
     AnyName, Behind, Form, Keyword, OneOf, Optional, Sign, Source, Symbol, SyntaxFault, Then, UpTo,
@@ -22,33 +22,32 @@ const PROTOCOL: Sign = Sign(Symbol::Reserved(Keyword::Protocol));
 
 const LANGUAGE: Sign = Sign(Symbol::Reserved(Keyword::Language));
 
-const INIT: UpTo<Row> = UpTo {
+const INIT: UpTo<Behind<RowBody>> = UpTo {
     limit: MAX_ROWS,
     what: What::InitRows,
-    form: Row(Keyword::Init),
+    form: Behind(Sign(Symbol::Reserved(Keyword::Init)), RowBody),
 };
 
-const BAD: UpTo<Row> = UpTo {
+const BAD: UpTo<Behind<RowBody>> = UpTo {
     limit: MAX_ROWS,
     what: What::BadRows,
-    form: Row(Keyword::Bad),
+    form: Behind(Sign(Symbol::Reserved(Keyword::Bad)), RowBody),
 };
 
 /// What the head of a text of language 2 says behind the name.
 #[derive(Clone, Copy)]
 struct SecondLanguage;
 
+#[tactic(auto, unfolding(crate::proofs::Unfolded::productions))]
 impl Form for SecondLanguage {
     type Meaning = u32;
 
     ghost grammar = { λ _. second_language };
 
-    #[tactic(auto, unfolding(crate::specs::Grammar::second_language))]
     fn opens(&self, source: &Source<'_>, at: usize) -> bool {
         LANGUAGE.opens(source, at)
     }
 
-    #[tactic(auto, unfolding(crate::specs::Grammar::second_language, forms::specs::Reading::read_then))]
     fn read(&self, source: &Source<'_>, at: &mut usize) -> Result<u32, SyntaxFault> {
         let two = String::from_str(source.alloc, "2").map_err(|_| SyntaxFault::Memory)?;
         let number = Text::from_string(two);
@@ -62,12 +61,12 @@ impl Form for SecondLanguage {
 #[derive(Clone, Copy)]
 struct WholeProtocol;
 
+#[tactic(auto, unfolding(crate::proofs::Unfolded::productions))]
 impl Form for WholeProtocol {
     type Meaning = Protocol;
 
     ghost grammar = { λ _. protocol };
 
-    #[tactic(auto, unfolding(crate::specs::Grammar::protocol))]
     fn opens(&self, source: &Source<'_>, at: usize) -> bool {
         PROTOCOL.opens(source, at)
     }
