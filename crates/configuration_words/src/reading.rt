@@ -3,7 +3,7 @@
 
 ghost use Rattle.std.specs.Prelude.{◌≡◌, ◌≢◌, ◌↔◌, IfErr, IfOk, IsTrue};
 ghost use Rattle.forms.specs.Grammar.{one_of};
-ghost use Rattle.forms.specs.Reading.{IsRead};
+ghost use Rattle.forms.specs.Reading.{IsRead, begins};
 ghost use Rattle.forms.specs.Symbol.{source_of};
 ghost use Rattle.protocol_model.specs.declared.system.Configuration.{Configuration};
 ghost use Rattle.protocol_model.specs.System.{IsValid};
@@ -88,6 +88,14 @@ fn read_list(
     read_letters(section, source, at)
 }
 
+/// Whether the token at the index begins the part of the section.
+#[tactic(auto, unfolding(crate::specs::ConfigurationText::part))]
+fn part_opens(section: &Section, source: &Source<'_>, at: usize) -> bool
+    ensures { result ≡ begins (part section.now) (source_of source.now.text.now source.now.tokens.now) at }
+{
+    OneOf(from_ref(&section.name)).opens(source, at)
+}
+
 /// The part of a section.
 #[tactic(auto, unfolding(crate::specs::ConfigurationText::part, forms::specs::Reading::read_then))]
 fn read_part(
@@ -151,10 +159,10 @@ impl<'a> Form for AnyConfiguration<'a> {
 
     ghost grammar = { λ x. configuration x.0.now.sections };
 
-    #[tactic(auto, unfolding(crate::specs::ConfigurationText::configuration, crate::specs::ConfigurationText::parts, crate::specs::ConfigurationText::part))]
+    #[tactic(auto, unfolding(crate::specs::ConfigurationText::configuration, crate::specs::ConfigurationText::parts))]
     fn opens(&self, source: &Source<'_>, at: usize) -> bool {
         match sections(self.0).first() {
-            Some(section) => OneOf(from_ref(&section.name)).opens(source, at),
+            Some(section) => part_opens(section, source, at),
             None => false,
         }
     }
