@@ -2,7 +2,6 @@
 use Rattle.std.proofs.Common.{◌≡◌, ◌<◌, ◌≤◌, ◌+◌, ◌-◌, ℕ, zero, suc, Bool, true, false, List, [], ◌∷◌, ◌++◌, Option, None, Some, map, refl, sym, subst, ◌∙◌, inl, inr, arith, append_assoc, append-nil}
 use Rattle.std.specs.Prelude.{codes, decimal}
 use Rattle.std.specs.List.{range_with_len, list_any}
-use Rattle.std.specs.Option.{option_or}
 use Rattle.std.specs.Str.{bytes_eq}
 use Rattle.std.proofs.lemmas.Bool.{cases_eq, or_left, or_right, or_from, cond-true, cond-false}
 use Rattle.std.proofs.lemmas.List.Folds.{list_any-append}
@@ -131,18 +130,9 @@ rules_faultless : (number : ℕ) → number ≤ 255
     → first_fault_of (rule_fault (chain_section number ∷ [])) [] (map chain_rule (range_with_len 0 (number - 1))) ≡ None
 rules_faultless number small =
     range_faultless chain_rule (rule_fault (chain_section number ∷ [])) 0 (number - 1)
-    (λ i below.
-    or_none (duplicate (map (λ (r : RuleText). r.name.text) (map chain_rule (range_with_len 0 i))) (chain_rule i).name)
-    (first_fault_of (step_fault (chain_section number ∷ [])) [] (chain_rule i).moves)
-    (rule_fresh i (omega (arith, below, small))) (move_faultless number i (omega (arith, below))))
+    (λ i below. or_none _ _ (rule_fresh i (omega (arith, below, small))) (move_faultless number i (omega (arith, below))))
 
 pub chain_faultless : (number : ℕ) → 1 ≤ number → number ≤ 255 → first_fault (chain number) ≡ None
 chain_faultless number some small =
-    let sections = chain_section number ∷ [] in
-    let init = first_fault_of (λ _. row_fault sections) [] (chain_init ∷ []) in
-    let rules = first_fault_of (rule_fault sections) [] (map chain_rule (range_with_len 0 (number - 1))) in
-    let bad = first_fault_of (λ _. row_fault sections) [] (chain_bad ∷ []) in
-    or_none (first_fault_of section_fault [] sections) (option_or init (option_or rules bad))
-    (or_none (section_fault [] (chain_section number)) None (section_faultless number small) refl)
-    (or_none init (option_or rules bad) (or_none (row_fault sections chain_init) None (init_faultless number some) refl)
-    (or_none rules bad (rules_faultless number small) (or_none (row_fault sections chain_bad) None (bad_faultless number) refl)))
+    or_none _ _ (or_none _ None (section_faultless number small) refl) (or_none _ _ (or_none _ None (init_faultless number some) refl)
+    (or_none _ _ (rules_faultless number small) (or_none _ None (bad_faultless number) refl)))

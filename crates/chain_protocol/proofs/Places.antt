@@ -41,12 +41,8 @@ each_without : {X : Type 0} (without : X → X) (fault other : List X → X → 
     → (earlier xs : List X) → first_fault_of other (map without earlier) (map without xs) ≡ None → first_fault_of fault earlier xs ≡ None
 each_without without fault other each earlier [] h = refl
 each_without {X} without fault other each earlier (x ∷ xs) h =
-    let earlier_is : map without (earlier ++ x ∷ []) ≡ map without earlier ++ without x ∷ [] = map-append without earlier (x ∷ []) in
-    let first = none_first (other (map without earlier) (without x)) (first_fault_of other (map without earlier ++ without x ∷ []) (map without xs)) h in
-    let rest = none_second (other (map without earlier) (without x)) (first_fault_of other (map without earlier ++ without x ∷ []) (map without xs)) h in
-    or_none (fault earlier x) (first_fault_of fault (earlier ++ x ∷ []) xs) (each earlier x first)
-    (each_without without fault other each (earlier ++ x ∷ []) xs
-    (subst (λ (l : List X). first_fault_of other l (map without xs) ≡ None) (sym earlier_is) rest))
+    let now = ap (λ (l : List X). first_fault_of other l (map without xs)) (map-append without earlier (x ∷ [])) in
+    both _ _ _ _ (each earlier x) (λ rest. each_without without fault other each (earlier ++ x ∷ []) xs (now ∙ rest)) h
 
 unknown_without : (names : List (List ℕ)) (n : Name) → unknown names (name_without_place n) ≡ None → unknown names n ≡ None
 unknown_without names n h = cond-true (is_among names n) None (Some (Unknown n)) (known names (name_without_place n) h)
@@ -76,14 +72,8 @@ base_without letters b h =
 entry_without : (letters : List (List ℕ)) (earlier : List (Name × Name)) (e : Name × Name)
     → entry_fault letters (map (renamed_pair name_without_place) earlier) (renamed_pair name_without_place e) ≡ None → entry_fault letters earlier e ≡ None
 entry_without letters earlier e h =
-    let keys = map (λ (before : Name × Name). before.0.text) earlier in
-    let others = map (λ (before : Name × Name). before.0.text) (map (renamed_pair name_without_place) earlier) in
-    let same : others ≡ keys = same_keys (renamed_pair name_without_place) (λ before. before.0.text) (λ _. refl) earlier in
-    both (unknown letters (name_without_place e.0)) (option_or (duplicate others (name_without_place e.0)) (unknown letters (name_without_place e.1)))
-    (unknown letters e.0) (option_or (duplicate keys e.0) (unknown letters e.1)) (unknown_without letters e.0)
-    (both (duplicate others (name_without_place e.0)) (unknown letters (name_without_place e.1)) (duplicate keys e.0) (unknown letters e.1)
-    (duplicate_without keys others e.0 same) (unknown_without letters e.1))
-    h
+    let same = same_keys (renamed_pair name_without_place) (λ (before : Name × Name). before.0.text) (λ _. refl) earlier in
+    both _ _ _ _ (unknown_without letters e.0) (both _ _ _ _ (duplicate_without _ _ e.0 same) (unknown_without letters e.1)) h
 
 popped_without : (pop : Option Name) (push : List Name)
     → popped (option_map name_without_place pop) ++ map name_without_place push ≡ map name_without_place (popped pop ++ push)
@@ -110,16 +100,10 @@ table_without _ = refl
 
 body_without : (letters : List (List ℕ)) (b : MoveBody) → body_fault letters (move_without_places b) ≡ None → body_fault letters b ≡ None
 body_without letters b h =
-    let other = move_without_places b in
-    both (letters_fault letters (letters_before_table base_names other)) (first_fault_of (entry_fault letters) [] (table_of other))
-    (letters_fault letters (letters_before_table base_names b)) (first_fault_of (entry_fault letters) [] (table_of b))
-    (λ g.
-    letters_without letters (letters_before_table base_names b)
-    (subst (λ (names : List Name). letters_fault letters names ≡ None) (move_letters_without b) g))
-    (λ g.
-    each_without (renamed_pair name_without_place) (entry_fault letters) (entry_fault letters) (entry_without letters) [] (table_of b)
-    (subst (λ (table : List (Name × Name)). first_fault_of (entry_fault letters) [] table ≡ None) (table_without b) g))
-    h
+    let names = ap (letters_fault letters) (move_letters_without b) in
+    let table = ap (first_fault_of (entry_fault letters) []) (table_without b) in
+    both _ _ _ _ (λ g. letters_without letters (letters_before_table base_names b) (sym names ∙ g))
+    (λ g. each_without (renamed_pair name_without_place) (entry_fault letters) (entry_fault letters) (entry_without letters) [] (table_of b) (sym table ∙ g)) h
 
 belongs_without : (b : MoveBody) (kind : Kind) → belongs_to (move_without_places b) kind ≡ belongs_to b kind
 belongs_without (At f t guards table) kind = refl
@@ -159,21 +143,12 @@ module _ (sections : List SectionText) where
       → part_fault sections earlier p ≡ None
   part_without earlier p h =
       let n = p.section in
-      let keys = map (λ (before : PartText). before.section.text) earlier in
-      let others_keys = map (λ (before : PartText). before.section.text) (map part_without_places earlier) in
-      let same : others_keys ≡ keys = same_keys part_without_places (λ before. before.section.text) (λ _. refl) earlier in
+      let same = same_keys part_without_places (λ (before : PartText). before.section.text) (λ _. refl) earlier in
       let test = λ (letters : List (List ℕ)) (_ : List AtomText) (a : AtomText). base_fault letters a.base in
       let letters = letters_named sections n in
-      let other = letters_named others (name_without_place n) in
-      let atoms_without : first_fault_of (test other) [] (map atom_without_places p.atoms) ≡ None → first_fault_of (test letters) [] p.atoms ≡ None =
-      λ g. each_without atom_without_places (test letters) (test letters) (λ _ a. base_without letters a.base) [] p.atoms
-      (subst (λ (l : List (List ℕ)). first_fault_of (test l) [] (map atom_without_places p.atoms) ≡ None) (letters_same n) g) in
-      both (unknown (section_names others) (name_without_place n))
-      (option_or (duplicate others_keys (name_without_place n)) (first_fault_of (test other) [] (map atom_without_places p.atoms)))
-      (unknown (section_names sections) n) (option_or (duplicate keys n) (first_fault_of (test letters) [] p.atoms)) (known_without n)
-      (both (duplicate others_keys (name_without_place n)) (first_fault_of (test other) [] (map atom_without_places p.atoms)) (duplicate keys n)
-      (first_fault_of (test letters) [] p.atoms) (duplicate_without keys others_keys n same) atoms_without)
-      h
+      let atoms = ap (λ (l : List (List ℕ)). first_fault_of (test l) [] (map atom_without_places p.atoms)) (letters_same n) in
+      both _ _ _ _ (known_without n) (both _ _ _ _ (duplicate_without _ _ n same)
+      (λ g. each_without atom_without_places (test letters) (test letters) (λ _ a. base_without letters a.base) [] p.atoms (sym atoms ∙ g))) h
 
   row_without : (r : RowText) → row_fault others (row_without_places r) ≡ None → row_fault sections r ≡ None
   row_without r h = each_without part_without_places (part_fault sections) (part_fault others) part_without [] r.parts h
@@ -191,60 +166,32 @@ module _ (sections : List SectionText) where
       → step_fault sections earlier m ≡ None
   step_without earlier m h =
       let n = m.section in
-      let keys = map (λ (before : MoveText). before.section.text) earlier in
-      let others_keys = map (λ (before : MoveText). before.section.text) (map step_without_places earlier) in
-      let same : others_keys ≡ keys = same_keys step_without_places (λ before. before.section.text) (λ _. refl) earlier in
-      let body = body_fault (letters_named sections n) m.body in
-      let other = body_fault (letters_named others (name_without_place n)) (move_without_places m.body) in
-      let bodies : other ≡ None → body ≡ None = λ g.
-      body_without (letters_named sections n) m.body
-      (subst (λ (l : List (List ℕ)). body_fault l (move_without_places m.body) ≡ None) (letters_same n) g) in
-      both (unknown (section_names others) (name_without_place n))
-      (option_or (touched_twice others_keys (name_without_place n)) (option_or (wrong_kind others (step_without_places m)) other))
-      (unknown (section_names sections) n) (option_or (touched_twice keys n) (option_or (wrong_kind sections m) body)) (known_without n)
-      (both (touched_twice others_keys (name_without_place n)) (option_or (wrong_kind others (step_without_places m)) other) (touched_twice keys n)
-      (option_or (wrong_kind sections m) body) (touched_without keys others_keys n same)
-      (both (wrong_kind others (step_without_places m)) other (wrong_kind sections m) body (kind_without m) bodies))
-      h
+      let same = same_keys step_without_places (λ (before : MoveText). before.section.text) (λ _. refl) earlier in
+      let body = ap (λ (l : List (List ℕ)). body_fault l (move_without_places m.body)) (letters_same n) in
+      both _ _ _ _ (known_without n) (both _ _ _ _ (touched_without _ _ n same) (both _ _ _ _ (kind_without m)
+      (λ g. body_without (letters_named sections n) m.body (sym body ∙ g)))) h
 
   rule_without : (earlier : List RuleText) (r : RuleText) → rule_fault others (map rule_without_places earlier) (rule_without_places r) ≡ None
       → rule_fault sections earlier r ≡ None
   rule_without earlier r h =
-      let keys = map (λ (before : RuleText). before.name.text) earlier in
-      let others_keys = map (λ (before : RuleText). before.name.text) (map rule_without_places earlier) in
-      let same : others_keys ≡ keys = same_keys rule_without_places (λ before. before.name.text) (λ _. refl) earlier in
-      both (duplicate others_keys (name_without_place r.name)) (first_fault_of (step_fault others) [] (map step_without_places r.moves))
-      (duplicate keys r.name) (first_fault_of (step_fault sections) [] r.moves) (duplicate_without keys others_keys r.name same)
-      (each_without step_without_places (step_fault sections) (step_fault others) step_without [] r.moves)
-      h
+      both _ _ _ _ (duplicate_without _ _ r.name (same_keys rule_without_places (λ (before : RuleText). before.name.text) (λ _. refl) earlier))
+      (each_without step_without_places (step_fault sections) (step_fault others) step_without [] r.moves) h
 
 section_without : (earlier : List SectionText) (s : SectionText) → section_fault (map section_without_places earlier) (section_without_places s) ≡ None
     → section_fault earlier s ≡ None
 section_without earlier s h =
     let test = λ (before : List Name). duplicate (texts_of before) in
-    both (duplicate (section_names (map section_without_places earlier)) (name_without_place s.name))
-    (first_fault_of test [] (map name_without_place s.letters)) (duplicate (section_names earlier) s.name) (first_fault_of test [] s.letters)
-    (duplicate_without (section_names earlier) (section_names (map section_without_places earlier)) s.name (names_same earlier))
+    both _ _ _ _ (duplicate_without _ _ s.name (names_same earlier))
     (each_without name_without_place test test
     (λ before n. duplicate_without (texts_of before) (texts_of (map name_without_place before)) n (same_keys name_without_place (λ m. m.text) (λ _. refl) before))
-    [] s.letters)
-    h
+    [] s.letters) h
 
 -- a protocol that has no fault apart from places has none
 pub faultless_without_places : (p : Protocol) → first_fault (without_places p) ≡ None → first_fault p ≡ None
 faultless_without_places p h =
     let s = p.sections in
     let t = map section_without_places s in
-    let init = first_fault_of (λ _. row_fault s) [] p.init in
-    let other_init = first_fault_of (λ _. row_fault t) [] (map row_without_places p.init) in
-    let rules = first_fault_of (rule_fault s) [] p.rules in
-    let other_rules = first_fault_of (rule_fault t) [] (map rule_without_places p.rules) in
-    let bad = first_fault_of (λ _. row_fault s) [] p.bad in
-    let other_bad = first_fault_of (λ _. row_fault t) [] (map row_without_places p.bad) in
-    both (first_fault_of section_fault [] t) (option_or other_init (option_or other_rules other_bad)) (first_fault_of section_fault [] s)
-    (option_or init (option_or rules bad)) (each_without section_without_places section_fault section_fault section_without [] s)
-    (both other_init (option_or other_rules other_bad) init (option_or rules bad)
-    (each_without row_without_places (λ _. row_fault s) (λ _. row_fault t) (λ _ r. row_without s r) [] p.init)
-    (both other_rules other_bad rules bad (each_without rule_without_places (rule_fault s) (rule_fault t) (rule_without s) [] p.rules)
-    (each_without row_without_places (λ _. row_fault s) (λ _. row_fault t) (λ _ r. row_without s r) [] p.bad)))
-    h
+    let rows = each_without row_without_places (λ _. row_fault s) (λ _. row_fault t) (λ _ r. row_without s r) [] in
+    both _ _ _ _ (each_without section_without_places section_fault section_fault section_without [] s)
+    (both _ _ _ _ (rows p.init)
+    (both _ _ _ _ (each_without rule_without_places (rule_fault s) (rule_fault t) (rule_without s) [] p.rules) (rows p.bad))) h
