@@ -3,18 +3,15 @@ use Rattle.std.proofs.Common.{◌≡◌, ◌<◌, ◌≤◌, ◌⊎◌, arith, i
 use Rattle.armc_io.specs.Faults.{Rose, last_count}
 use Rattle.armc_io.specs.Library.{LibraryState}
 use Rattle.armc_io.specs.Sink.{SinkState}
-use Rattle.protocol_syntax.specs.declared.protocol.Protocol.{Protocol}
 use Rattle.command_words.specs.Words.{Command, command_of}
 use Rattle.command_replies.specs.declared.status.Status.{Status}
 use Rattle.command_replies.specs.declared.status.Status.TheVariants as status
 use Rattle.command_replies.specs.declared.reply.Reply.{Reply}
 use Rattle.command_replies.specs.declared.failure.Failure.{Failure}
 use Rattle.command_replies.specs.declared.failure.Failure.TheVariants.{ReadFault, TooLong, Memory}
-use Rattle.command_replies.specs.Reading.{IsFaultless}
 use Rattle.command_replies.specs.Reply.{reply_of}
-use Rattle.armc_commands.specs.Commands.{CommandReply, Promise}
+use Rattle.armc_commands.specs.ReplyLaws.{RepliesKeepPromises}
 use Rattle.armc_commands.specs.Outcome.{IsReliableFor, IsOutcome, IsDecidedBy, IsReply}
-use Rattle.armc_commands.proofs.ByCommand.{by_command}
 use Rattle.armc_commands.specs.Answer.{Answers, DeliversCounted, AreQuietEnds, KeepsCounts, IsWholeReply, KeepsPromise, IsSound, IsQuiet, IsDecided, is_own}
 
 pub Answers-made : (words : List (List ℕ)) (l l' : LibraryState) (o o' e e' : SinkState) (result : Status) (outcome : Result Reply Failure)
@@ -27,23 +24,21 @@ Answers-made words l l' o o' e e' result outcome is which = elim which [
 ]
 
 -- a reply with a status of the command's own keeps what the command promises
-module _ (keep : (command : Command) (source : List ℕ) (p : Protocol) (text : List ℕ) (reply : Reply) → IsFaultless source p → CommandReply command p text reply
-    → Promise command p text reply)
-    (words : List (List ℕ)) (l l' : LibraryState) (o o' e e' : SinkState) (result : Status) (command : Command)
+module _ (keep : RepliesKeepPromises) (words : List (List ℕ)) (l l' : LibraryState) (o o' e e' : SinkState) (result : Status) (command : Command)
     (asked : command_of words ≡ Some command) (own : IsTrue (is_own result)) where
   not_own : (other : Status) → is_own other ≡ false → result ≡ other → ⊥
   not_own other none same = true≢false (sym own ∙ ap is_own same ∙ none)
 
   replied : (reply : Reply) → IsReply words l.told reply → IsWholeReply reply o o' e e' result → KeepsPromise l.told command o o' e e' result
-  replied reply is whole = elim (by_command words l.told command asked reply is) [
+  replied reply is whole = elim (keep words l.told command reply asked is) [
     | inl refused ↦ absurd (not_own status.ProtocolRefused refl (whole.status_is ∙ ap (λ (r : Reply). r.status) refused.reply_is))
-    | inr out ↦ record {
-      protocol = out.protocol;
-      text = out.text;
+    | inr kept ↦ record {
+      protocol = kept.protocol;
+      text = kept.text;
       reply = reply;
-      has_protocol = out.has_protocol;
-      is_text = out.is_text;
-      promised = keep command out.has_protocol.text out.protocol out.text reply out.has_protocol.says out.replies;
+      has_protocol = kept.has_protocol;
+      is_text = kept.is_text;
+      promised = kept.promised;
       whole = whole;
     }
   ]
@@ -64,9 +59,7 @@ module _ (keep : (command : Command) (source : List ℕ) (p : Protocol) (text : 
     ]
   ]
 
-pub IsSound-answer : ((command : Command) (source : List ℕ) (p : Protocol) (text : List ℕ) (reply : Reply) → IsFaultless source p
-    → CommandReply command p text reply → Promise command p text reply)
-    → (words : List (List ℕ)) (l l' : LibraryState) (o o' e e' : SinkState) (result : Status)
+pub IsSound-answer : RepliesKeepPromises → (words : List (List ℕ)) (l l' : LibraryState) (o o' e e' : SinkState) (result : Status)
     → Answers words l l' o o' e e' result → IsSound words l.told o o' e e' result
 IsSound-answer keep words l l' o o' e e' result answer = λ command asked own. kept keep words l l' o o' e e' result command asked own answer
 

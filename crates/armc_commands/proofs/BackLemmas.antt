@@ -17,15 +17,13 @@ use Rattle.protocol_search.specs.Methods.{by_predicates}
 use Rattle.protocol_search.specs.Verdicts.{IsVerdictOf}
 use Rattle.protocol_search.proofs.ForCallers.{found-sound}
 use Rattle.command_words.specs.declared.Query.TheVariants.{Back}
-use Rattle.command_replies.specs.declared.status.Status.TheVariants as status
 use Rattle.command_replies.specs.declared.reply.Reply.{Reply}
 use Rattle.armc_commands.specs.declared.search_reply.Telling.{Telling}
 use Rattle.armc_commands.specs.declared.search_reply.Telling.TheVariants.{Certificate}
-use Rattle.armc_commands.specs.SearchReply.{Part, only_part, IsAnswerTo, IsSearchReply, status_of}
-use Rattle.armc_commands.specs.SearchPromise.{SearchPromise}
+use Rattle.armc_commands.specs.SearchReply.{only_part, IsAnswerTo, IsSearchReply}
 use Rattle.armc_commands.specs.Commands.Back.{BackPromise, ProvesBackward, ShowsComplement}
 use Rattle.armc_commands.specs.Commands.Searches.{search_for}
-use Rattle.armc_commands.proofs.SearchLemmas.{certificate-promised, one-answer, part-of}
+use Rattle.armc_commands.proofs.SearchLemmas.{SearchesKeep, certificate-promised, one-answer, part-of, where-safe}
 
 -- an invariant of the reversed problem proves the system backward
 proves-backward : (s : SystemData) (m : Automaton) → IsInvariant (reversed (task_of s)) m → ProvesBackward s m
@@ -57,15 +55,7 @@ module _ (s : SystemData) (budget : ℕ) (text : List ℕ) where
   of-found v h proof log means (Unsafe words log') is sound told = absurd (cc told)
   of-found v h proof log means (Unknown log') is sound told = absurd (cc told)
 
-  shows-complement : (v : Verdict) → IsVerdictOf s (search_for Back budget) v → IsCertificateText s v text → status_of (v ∷ []) ≡ status.Done
-      → ShowsComplement s budget text
-  shows-complement (Safe proof log) h told e =
-      of-found (Safe proof log) h proof log told.1 h.is_verdict.found h.is_verdict.is_found (found-sound s budget (Safe proof log) h) h.is_verdict.told
-  shows-complement (Unsafe words log) h told e = absurd (cc e)
-  shows-complement (Unknown log) h told e = absurd (cc e)
-
-pub back-promised : ((told : Telling) (parts : List Part) (reply : Reply) → IsSearchReply told parts reply → SearchPromise told parts reply)
-    → (s : SystemData) (budget : ℕ) (reply : Reply) → IsSearchReply (Certificate None) (only_part s (search_for Back budget)) reply → BackPromise s budget reply
+pub back-promised : SearchesKeep → (s : SystemData) (budget : ℕ) (reply : Reply) → IsSearchReply (Certificate None) (only_part s (search_for Back budget)) reply → BackPromise s budget reply
 back-promised keep s budget reply h =
     let told : Telling = Certificate None in
     let search = search_for Back budget in
@@ -73,5 +63,7 @@ back-promised keep s budget reply h =
     record {
       certificate = certificate-promised keep s search None (λ v text shows. shows) (λ log. refl) reply h;
       complements = λ e. subst (ShowsComplement s budget) (sym one.out_is)
-          (shows-complement s budget one.answer.text one.answer.verdict one.holds.is_verdict one.holds.is_told (sym one.status_is ∙ e));
+          (where-safe (λ v. IsVerdictOf s search v × IsCertificateText s v one.answer.text) (ShowsComplement s budget one.answer.text)
+          (λ proof log h. of-found s budget one.answer.text (Safe proof log) h.0 proof log h.1.1 h.0.is_verdict.found h.0.is_verdict.is_found
+          (found-sound s budget (Safe proof log) h.0) h.0.is_verdict.told) one.answer.verdict (one.holds.is_verdict, one.holds.is_told) (sym one.status_is ∙ e));
     }

@@ -1,10 +1,9 @@
 -- The replies to `checkall`: their texts, that there is one, and what they promise.
-use Rattle.std.proofs.Common.{◌≡◌, ◌≢◌, ◌<◌, ◌≤◌, ◌⊎◌, ◌||◌, ◌+◌, ◌∙◌, ℕ, Bool, true, false, if◌then◌else◌, List, [], ◌∷◌, ◌++◌, zero, suc, length, take, min, arith, get_or, map, None, Some, Result, Ok, Err, IfOk, append-nil, append_assoc, inl, inr, refl, sym, ap, ap₂, subst, codes}
-use Rattle.std.proofs.lemmas.List.{take_more, take_all}
+use Rattle.std.proofs.Common.{◌≡◌, ◌≢◌, ◌<◌, ◌≤◌, ◌⊎◌, ◌||◌, ◌+◌, ◌∙◌, ℕ, Bool, true, false, if◌then◌else◌, List, [], ◌∷◌, ◌++◌, length, drop, min, arith, get_or, map, None, Some, Result, Ok, Err, IfOk, append-nil, append_assoc, inl, inr, refl, sym, ap, ap₂, subst, codes}
+use Rattle.std.proofs.lemmas.List.{drop_more, drop_all}
 use Rattle.std.proofs.lemmas.Option.{slice_get-get_or}
 use Rattle.property_batch.specs.PropertyVerdicts.{AreVerdicts, IsPropertyVerdict}
 use Rattle.property_batch.proofs.ForCallers.{by-number}
-use Rattle.std.proofs.lemmas.Bool.{true≢false}
 use Rattle.std.specs.List.{list_any, flat_map}
 use Rattle.refinement.specs.Verdicts.{log_in}
 use Rattle.refinement.specs.declared.verdict.Verdict.{Verdict}
@@ -23,14 +22,13 @@ use Rattle.armc_commands.specs.declared.search_reply.Telling.{Telling}
 use Rattle.armc_commands.specs.declared.search_reply.Telling.TheVariants.{Certificate}
 use Rattle.command_replies.specs.Refusal.{IsRefusalIn}
 use Rattle.command_replies.specs.Reply.{on_out, refusal_reply}
-use Rattle.armc_commands.specs.SearchReply.{Part, PartAnswer, IsAnswerTo, HoldsOfParts, IsSearchReply, reply_of_answers, report_of, status_of, texts_of, titled}
+use Rattle.armc_commands.specs.SearchReply.{Part, PartAnswer, IsAnswerTo, HoldsOfParts, IsSearchReply, report_of, status_of, texts_of, titled}
 use Rattle.armc_commands.specs.SearchReply.{is_unsafe, is_unknown}
-use Rattle.armc_commands.specs.SearchPromise.{SearchPromise}
 use Rattle.armc_commands.specs.Commands.CheckAll.{SaysProperties, RefusesProperties, ChecksAll, IsCheckAllReply, CheckAllPromise, property_part, property_parts}
 use Rattle.armc_commands.specs.ReplyLaws.{AreKept, KeepsParts}
 use Rattle.armc_commands.specs.private.PartTexts.{IsToldPart, AreTold}
 use Rattle.armc_commands.proofs.CommandsOnce.{either-once}
-use Rattle.armc_commands.proofs.SearchLemmas.{part-stays}
+use Rattle.armc_commands.proofs.SearchLemmas.{SearchesKeep, part-stays}
 use Rattle.command_replies.proofs.ForCallers.{refusal_once, refused_or_faultless}
 
 -- ---- the texts of the parts
@@ -38,65 +36,39 @@ use Rattle.command_replies.proofs.ForCallers.{refusal_once, refused_or_faultless
 abbrev told : Telling
 told = Certificate None
 
--- one part more
-parts-more : (parts : List Part) (answers : List PartAnswer) (part : Part) (answer : PartAnswer) → HoldsOfParts (IsAnswerTo told) parts answers
-    → IsAnswerTo told part answer → HoldsOfParts (IsAnswerTo told) (parts ++ part ∷ []) (answers ++ answer ∷ [])
-parts-more [] [] part answer are is = (is, tt)
-parts-more [] (a ∷ answers) part answer are is = absurd are
-parts-more (p ∷ parts) [] part answer are is = absurd are
-parts-more (p ∷ parts) (a ∷ answers) part answer are is = (are.0, parts-more parts answers part answer are.1 is)
+-- one part before the others
+told-first : (budget : ℕ) (p : Property) (said : List Property) (v : Verdict) (vs : List Verdict) (part rest : List ℕ) → IsToldPart budget p v part
+    → AreTold budget said vs rest → AreTold budget (p ∷ said) (v ∷ vs) (part ++ rest)
+told-first budget p said v vs part rest is are = record {
+  answers = is.answer ∷ are.answers;
+  are_answers = (is.is_answer, are.are_answers);
+  verdicts_are = ap₂ (λ x xs. x ∷ xs) is.verdict_is are.verdicts_are;
+  text_is = ap₂ (λ x xs. x ++ xs) is.text_is are.text_is;
+}
 
-texts-more : (parts : List Part) (answers : List PartAnswer) (part : Part) (answer : PartAnswer) → HoldsOfParts (IsAnswerTo told) parts answers
-    → texts_of (parts ++ part ∷ []) (answers ++ answer ∷ []) ≡ texts_of parts answers ++ texts_of (part ∷ []) (answer ∷ [])
-texts-more [] [] part answer are = refl
-texts-more [] (a ∷ answers) part answer are = absurd are
-texts-more (p ∷ parts) [] part answer are = absurd are
-texts-more (p ∷ parts) (a ∷ answers) part answer are =
-    ap (λ x. titled p.title a.text ++ x) (texts-more parts answers part answer are.1)
-    ∙ sym (append_assoc (titled p.title a.text) (texts_of parts answers) (texts_of (part ∷ []) (answer ∷ [])))
+-- the text and what tells the properties from this number on tell them all
+abbrev pub Completes : ℕ → List Property → List Verdict → ℕ → List ℕ → Type 0
+Completes budget said vs n text = (rest : List ℕ) → AreTold budget (drop n said) (drop n vs) rest → AreTold budget said vs (text ++ rest)
 
-map-more : {A B : Type 0} (f : A → B) (xs : List A) (x : A) → map f (xs ++ x ∷ []) ≡ map f xs ++ f x ∷ []
-map-more f [] x = refl
-map-more f (y ∷ xs) x = ap (λ z. f y ∷ z) (map-more f xs x)
+pub completes-next : (budget : ℕ) (said : List Property) (vs : List Verdict) (n : ℕ) (text : List ℕ) (p : Property) (v : Verdict) (part new : List ℕ)
+    → n < length said → n < length vs → p ≡ get_or said n p → v ≡ get_or vs n v → Completes budget said vs n text
+    → IsToldPart budget p v part → new ≡ text ++ part → Completes budget said vs (n + 1) new
+completes-next budget said vs n text p v part new within within_too p_is v_is so_far is new_is rest are =
+    let ps = drop_more said n p within ∙ ap (λ x. x ∷ drop (n + 1) said) (sym p_is) in
+    let ws = drop_more vs n v within_too ∙ ap (λ x. x ∷ drop (n + 1) vs) (sym v_is) in
+    subst (AreTold budget said vs) (sym (append_assoc text part rest) ∙ ap (λ x. x ++ rest) (sym new_is)) (so_far (part ++ rest)
+    (subst (λ xs. AreTold budget xs (drop n vs) (part ++ rest)) (sym ps)
+    (subst (λ xs. AreTold budget (p ∷ drop (n + 1) said) xs (part ++ rest)) (sym ws)
+    (told-first budget p (drop (n + 1) said) v (drop (n + 1) vs) part rest is are))))
 
-pub none-told : (budget : ℕ) → AreTold budget [] [] []
-none-told budget = record { answers = []; are_answers = tt; verdicts_are = refl; text_is = refl }
-
-told-more : (budget : ℕ) (said : List Property) (vs : List Verdict) (text : List ℕ) (p : Property) (v : Verdict) (part : List ℕ)
-    → AreTold budget said vs text → IsToldPart budget p v part → AreTold budget (said ++ p ∷ []) (vs ++ v ∷ []) (text ++ part)
-told-more budget said vs text p v part are is =
-    let parts = property_parts budget said in
-    let one = property_part budget p in
-    let as_parts = sym (map-more (property_part budget) said p) in
-    record {
-      answers = are.answers ++ is.answer ∷ [];
-      are_answers = subst (λ ps. HoldsOfParts (IsAnswerTo told) ps (are.answers ++ is.answer ∷ [])) as_parts
-          (parts-more parts are.answers one is.answer are.are_answers is.is_answer);
-      verdicts_are = map-more (λ (a : PartAnswer). a.verdict) are.answers is.answer ∙ ap₂ (λ xs x. xs ++ x ∷ []) are.verdicts_are is.verdict_is;
-      text_is = ap₂ (λ xs x. xs ++ x) are.text_is (is.text_is ∙ sym (append-nil _))
-          ∙ sym (texts-more parts are.answers one is.answer are.are_answers)
-          ∙ ap (λ ps. texts_of ps (are.answers ++ is.answer ∷ [])) as_parts;
-    }
-
--- the next part of some properties
-pub told-and-one : (budget : ℕ) (said : List Property) (vs : List Verdict) (n : ℕ) (text : List ℕ) (p : Property) (v : Verdict) (part new : List ℕ)
-    → n < length said → n < length vs → p ≡ get_or said n p → v ≡ get_or vs n v → AreTold budget (take n said) (take n vs) text
-    → IsToldPart budget p v part → new ≡ text ++ part → AreTold budget (take (n + 1) said) (take (n + 1) vs) new
-told-and-one budget said vs n text p v part new within within_too p_is v_is are is new_is =
-    let ps = take_more said n p within ∙ ap (λ x. take n said ++ x ∷ []) (sym p_is) in
-    let ws = take_more vs n v within_too ∙ ap (λ x. take n vs ++ x ∷ []) (sym v_is) in
-    subst (AreTold budget (take (n + 1) said) (take (n + 1) vs)) (sym new_is)
-    (subst (λ xs. AreTold budget xs (take (n + 1) vs) (text ++ part)) (sym ps)
-    (subst (λ xs. AreTold budget (take n said ++ p ∷ []) xs (text ++ part)) (sym ws)
-    (told-more budget (take n said) (take n vs) text p v part are is)))
-
--- all parts of some properties, each of which has a verdict
-pub told-all : (budget : ℕ) (said : List Property) (vs : List Verdict) (n : ℕ) (text : List ℕ) → AreVerdicts budget said vs
-    → n ≡ min (length said) (length vs) → AreTold budget (take n said) (take n vs) text → AreTold budget said vs text
-told-all budget said vs n text are end told =
+pub completes-all : (budget : ℕ) (said : List Property) (vs : List Verdict) (n : ℕ) (text : List ℕ) → AreVerdicts budget said vs
+    → n ≡ min (length said) (length vs) → Completes budget said vs n text → AreTold budget said vs text
+completes-all budget said vs n text are end so_far =
     let same : length vs ≡ length said = (by-number budget said vs are).0 in
-    subst (λ xs. AreTold budget xs vs text) (take_all n said (omega (arith, same, end)))
-    (subst (λ xs. AreTold budget (take n said) xs text) (take_all n vs (omega (arith, same, end))) told)
+    let none : AreTold budget [] [] [] = record { answers = []; are_answers = tt; verdicts_are = refl; text_is = refl } in
+    subst (AreTold budget said vs) (append-nil text) (so_far []
+    (subst (λ xs. AreTold budget xs (drop n vs) []) (sym (drop_all n said (omega (arith, same, end))))
+    (subst (λ xs. AreTold budget [] xs []) (sym (drop_all n vs (omega (arith, same, end)))) none)))
 
 -- the verdict on the property of a number
 pub verdict-at : (budget : ℕ) (said : List Property) (vs : List Verdict) (n : ℕ) (p : Property) (v : Verdict) → AreVerdicts budget said vs
@@ -168,81 +140,55 @@ module _ (once : PropertiesAreDetermined) (fault_once : PropertiesFaultIsDetermi
 
 -- ---- a larger budget
 
--- whether one verdict is unsafe, and whether one is unknown, where each verdict that is not unknown has the same status among others
-unsafe_step : (v w : Verdict) (rest more : Bool) → (status_of (v ∷ []) ≢ status.Unknown → status_of (w ∷ []) ≡ status_of (v ∷ []))
-    → (rest ≡ true → more ≡ true) → is_unsafe v || rest ≡ true → is_unsafe w || more ≡ true
-unsafe_step (Unsafe words log) (Unsafe words' log') rest more kept later h = refl
-unsafe_step (Unsafe words log) _ rest more kept later h = absurd (let e = kept (λ u. cc u) in cc e)
-unsafe_step _ (Unsafe words log) rest more kept later h = refl
-unsafe_step _ _ rest more kept later h = later h
-
--- neither test holds
-abbrev AreBothFalse : Bool → Bool → Type 0
-AreBothFalse a b = (a ≡ false) × (b ≡ false)
-
-safe_step : (v w : Verdict) (rest rest' more more' : Bool) → (status_of (v ∷ []) ≢ status.Unknown → status_of (w ∷ []) ≡ status_of (v ∷ []))
-    → (AreBothFalse rest rest' → AreBothFalse more more') → AreBothFalse (is_unsafe v || rest) (is_unknown v || rest')
-    → AreBothFalse (is_unsafe w || more) (is_unknown w || more')
-safe_step (Safe proof log) (Safe proof' log') rest rest' more more' kept later h = later h
-safe_step (Safe proof log) (Unsafe words log') rest rest' more more' kept later h = absurd (let e = kept (λ u. cc u) in cc e)
-safe_step (Safe proof log) (Unknown log') rest rest' more more' kept later h = absurd (let e = kept (λ u. cc u) in cc e)
-safe_step (Unsafe words log) w rest rest' more more' kept later h = absurd (true≢false h.0)
-safe_step (Unknown log) w rest rest' more more' kept later h = absurd (true≢false h.1)
-
--- whether one answer is unsafe, and whether one is unknown
-abbrev any-unsafe : List PartAnswer → Bool
-any-unsafe answers = list_any is_unsafe (map (λ (a : PartAnswer). a.verdict) answers)
-
-abbrev any-unknown : List PartAnswer → Bool
-any-unknown answers = list_any is_unknown (map (λ (a : PartAnswer). a.verdict) answers)
-
-unsafe_kept : (answers more : List PartAnswer) → AreKept answers more → any-unsafe answers ≡ true → any-unsafe more ≡ true
-unsafe_kept [] [] kept h = h
-unsafe_kept [] (b ∷ ys) kept h = absurd kept
-unsafe_kept (a ∷ xs) [] kept h = absurd kept
-unsafe_kept (a ∷ xs) (b ∷ ys) kept h =
-    unsafe_step a.verdict b.verdict (any-unsafe xs) (any-unsafe ys) (λ decided. (kept.0 decided).status) (unsafe_kept xs ys kept.1) h
-
-safe_kept : (answers more : List PartAnswer) → AreKept answers more → AreBothFalse (any-unsafe answers) (any-unknown answers)
-    → AreBothFalse (any-unsafe more) (any-unknown more)
-safe_kept [] [] kept h = h
-safe_kept [] (b ∷ ys) kept h = absurd kept
-safe_kept (a ∷ xs) [] kept h = absurd kept
-safe_kept (a ∷ xs) (b ∷ ys) kept h =
-    safe_step a.verdict b.verdict (any-unsafe xs) (any-unknown xs) (any-unsafe ys) (any-unknown ys) (λ decided. (kept.0 decided).status)
-    (safe_kept xs ys kept.1) h
-
 -- the status of such tests
 abbrev status-by : Bool → Bool → Status
 status-by unsafe unknown = if unsafe then status.Unsafe else (if unknown then status.Unknown else status.Done)
 
-status-kept : (u k u' k' : Bool) → (u ≡ true → u' ≡ true) → (AreBothFalse u k → AreBothFalse u' k') → status-by u k ≢ status.Unknown
-    → status-by u' k' ≡ status-by u k
-status-kept true k u' k' unsafe safe decided = ap (λ b. status-by b k') (unsafe refl)
-status-kept false true u' k' unsafe safe decided = absurd (decided refl)
-status-kept false false u' k' unsafe safe decided =
-    let both = safe (refl, refl) in ap (λ b. status-by b k') both.0 ∙ ap (λ b. status-by false b) both.1
+-- a verdict that keeps its status where it is not unknown, before verdicts whose status stays where it is not unknown
+status-step : (v w : Verdict) (u k u' k' : Bool) → (status_of (v ∷ []) ≢ status.Unknown → status_of (w ∷ []) ≡ status_of (v ∷ []))
+    → (status-by u k ≢ status.Unknown → status-by u' k' ≡ status-by u k) → status-by (is_unsafe v || u) (is_unknown v || k) ≢ status.Unknown
+    → status-by (is_unsafe w || u') (is_unknown w || k') ≡ status-by (is_unsafe v || u) (is_unknown v || k)
+status-step (Safe proof log) (Safe proof' log') u k u' k' kept later decided = later decided
+status-step (Safe proof log) _ u k u' k' kept later decided = absurd (let e = kept (λ f. cc f) in cc e)
+status-step (Unsafe words log) (Unsafe words' log') u k u' k' kept later decided = refl
+status-step (Unsafe words log) _ u k u' k' kept later decided = absurd (let e = kept (λ f. cc f) in cc e)
+status-step (Unknown log) w false k u' k' kept later decided = absurd (decided refl)
+status-step (Unknown log) w true k true k' kept later decided = go (is_unsafe w)
+  where
+    go : (b : Bool) → status-by (b || true) (is_unknown w || k') ≡ status.Unsafe
+    go true = refl
+    go false = refl
+status-step (Unknown log) w true k false true kept later decided = absurd (let e = later (λ f. cc f) in cc e)
+status-step (Unknown log) w true k false false kept later decided = absurd (let e = later (λ f. cc f) in cc e)
 
-done-tests : (u k : Bool) → status-by u k ≡ status.Done → AreBothFalse u k
-done-tests true k e = absurd (cc e)
-done-tests false true e = absurd (cc e)
-done-tests false false e = (refl, refl)
+abbrev verdicts_of : List PartAnswer → List Verdict
+verdicts_of answers = map (λ (a : PartAnswer). a.verdict) answers
+
+status-kept : (answers more : List PartAnswer) → AreKept answers more → status_of (verdicts_of answers) ≢ status.Unknown
+    → status_of (verdicts_of more) ≡ status_of (verdicts_of answers)
+status-kept [] [] kept decided = refl
+status-kept [] (b ∷ ys) kept decided = absurd kept
+status-kept (a ∷ xs) [] kept decided = absurd kept
+status-kept (a ∷ xs) (b ∷ ys) kept decided =
+    status-step a.verdict b.verdict (list_any is_unsafe (verdicts_of xs)) (list_any is_unknown (verdicts_of xs)) (list_any is_unsafe (verdicts_of ys))
+    (list_any is_unknown (verdicts_of ys)) (λ known. (kept.0 known).status) (status-kept xs ys kept.1) decided
 
 -- where all are safe, each text is kept
-decided-step : (v : Verdict) (rest rest' : Bool) → AreBothFalse (is_unsafe v || rest) (is_unknown v || rest')
-    → (status_of (v ∷ []) ≢ status.Unknown) × AreBothFalse rest rest'
-decided-step (Safe proof log) rest rest' h = ((λ u. cc u), h)
-decided-step (Unsafe words log) rest rest' h = absurd (true≢false h.0)
-decided-step (Unknown log) rest rest' h = absurd (true≢false h.1)
+done-step : (v : Verdict) (u k : Bool) → status-by (is_unsafe v || u) (is_unknown v || k) ≡ status.Done
+    → (status_of (v ∷ []) ≢ status.Unknown) × (status-by u k ≡ status.Done)
+done-step (Safe proof log) u k e = ((λ f. cc f), e)
+done-step (Unsafe words log) u k e = absurd (cc e)
+done-step (Unknown log) true k e = absurd (cc e)
+done-step (Unknown log) false k e = absurd (cc e)
 
-texts-kept : (parts : List Part) (answers more : List PartAnswer) → AreKept answers more → AreBothFalse (any-unsafe answers) (any-unknown answers)
+texts-kept : (parts : List Part) (answers more : List PartAnswer) → AreKept answers more → status_of (verdicts_of answers) ≡ status.Done
     → texts_of parts more ≡ texts_of parts answers
 texts-kept [] answers more kept h = refl
 texts-kept (p ∷ parts) [] [] kept h = refl
 texts-kept (p ∷ parts) [] (b ∷ ys) kept h = absurd kept
 texts-kept (p ∷ parts) (a ∷ xs) [] kept h = absurd kept
 texts-kept (p ∷ parts) (a ∷ xs) (b ∷ ys) kept h =
-    let first = decided-step a.verdict (any-unsafe xs) (any-unknown xs) h in
+    let first = done-step a.verdict (list_any is_unsafe (verdicts_of xs)) (list_any is_unknown (verdicts_of xs)) h in
     ap₂ (λ x y. titled p.title x ++ y) (kept.0 first.0).text (texts-kept parts xs ys kept.1 first.1)
 
 -- a budget is in no title
@@ -282,13 +228,9 @@ module _ (keeps : LargerBudgetKeepsVerdict) (keeps-text : LargerBudgetKeepsText)
           err = flat_map (λ (a : PartAnswer). report_of told (log_in a.verdict)) k.answers;
         });
         kept = kept;
-        status = λ decided.
-            other
-            ∙ status-kept (any-unsafe h.answers) (any-unknown h.answers) (any-unsafe k.answers) (any-unknown k.answers)
-            (unsafe_kept h.answers k.answers kept) (safe_kept h.answers k.answers kept) (λ e. decided (one ∙ e))
-            ∙ sym one;
+        status = λ decided. other ∙ status-kept h.answers k.answers kept (λ e. decided (one ∙ e)) ∙ sym one;
         out = λ done.
-            ap (λ (x : Reply). x.out) k.reply_is ∙ within ∙ texts-kept parts h.answers k.answers kept (done-tests (any-unsafe h.answers) (any-unknown h.answers) (sym one ∙ done))
+            ap (λ (x : Reply). x.out) k.reply_is ∙ within ∙ texts-kept parts h.answers k.answers kept (sym one ∙ done)
             ∙ sym (ap (λ (x : Reply). x.out) h.reply_is);
       }
 
@@ -313,8 +255,7 @@ module _ (once : PropertiesAreDetermined) (fault_once : PropertiesFaultIsDetermi
 
 -- ---- what it promises
 
-pub check-all-promised : ((told : Telling) (parts : List Part) (reply : Reply) → IsSearchReply told parts reply → SearchPromise told parts reply)
-    → (s : SystemData) (budget : ℕ) (text : List ℕ) (reply : Reply) → IsCheckAllReply s budget text reply → CheckAllPromise s budget text reply
+pub check-all-promised : SearchesKeep → (s : SystemData) (budget : ℕ) (text : List ℕ) (reply : Reply) → IsCheckAllReply s budget text reply → CheckAllPromise s budget text reply
 check-all-promised keep s budget text reply h = elim h [
   | inl refuses ↦ inl refuses
   | inr checks ↦ inr (record {

@@ -1,5 +1,5 @@
 -- The replies to queries: their promises and laws.
-use Rattle.std.proofs.Common.{◌≡◌, ◌≢◌, ◌≤◌, ℕ, List, None, Some, refl, if◌then◌else◌}
+use Rattle.std.proofs.Common.{◌≡◌, ◌≢◌, ◌≤◌, ℕ, None, Some, refl, if◌then◌else◌}
 use Rattle.protocol_model.specs.System.{SystemData}
 use Rattle.protocol_model.specs.declared.system.Run.{Run}
 use Rattle.protocol_search.specs.Analyses.{IsCounterexample}
@@ -8,20 +8,16 @@ use Rattle.command_words.specs.declared.Query.{Query}
 use Rattle.command_words.specs.declared.Query.TheVariants.{Check as ByCheck, Back as ByBack, Deadlock as ByDeadlock, Past as ByPast}
 use Rattle.command_replies.specs.declared.status.Status.TheVariants.{Done, Unknown}
 use Rattle.command_replies.specs.declared.reply.Reply.{Reply}
-use Rattle.armc_commands.specs.declared.search_reply.Telling.{Telling}
 use Rattle.armc_commands.specs.declared.search_reply.Telling.TheVariants.{Certificate}
-use Rattle.armc_commands.specs.SearchReply.{Part, IsSearchReply}
-use Rattle.armc_commands.specs.SearchPromise.{SearchPromise}
 use Rattle.armc_commands.specs.Commands.Queries.{QueryReply, QueryPromise, check_telling}
 use Rattle.armc_commands.specs.Commands.Searches.{search_for}
 use Rattle.armc_commands.specs.ReplyLaws.{SameAnswer}
-use Rattle.armc_commands.proofs.SearchLemmas.{part-of, certificate-promised, reply-stays}
+use Rattle.armc_commands.proofs.SearchLemmas.{SearchesKeep, part-of, certificate-promised, reply-stays}
 use Rattle.armc_commands.proofs.BackLemmas.{back-promised}
 use Rattle.armc_commands.proofs.DeadlockLemmas.{deadlock_promised}
 
 -- each reply keeps what its query promises
-pub query-promised : ((told : Telling) (parts : List Part) (reply : Reply) → IsSearchReply told parts reply → SearchPromise told parts reply)
-    → (query : Query) (budget : ℕ) (s : SystemData) (reply : Reply) → QueryReply query budget s reply → QueryPromise query budget s reply
+pub query-promised : SearchesKeep → (query : Query) (budget : ℕ) (s : SystemData) (reply : Reply) → QueryReply query budget s reply → QueryPromise query budget s reply
 query-promised keep (ByCheck settings) budget s reply h =
     certificate-promised keep s (search_for (ByCheck settings) budget) (if settings.report then Some settings.method else None)
     (λ v text shows. shows) (λ log. refl) reply h

@@ -1,10 +1,8 @@
 -- The replies of commands that search.
 use Rattle.std.proofs.Common.{◌≡◌, ◌≢◌, ◌↔◌, ◌≤◌, ◌∙◌, ℕ, Bool, true, false, List, [], ◌∷◌, map, Option, None, append-nil, refl, sym, ap, subst, if◌then◌else◌}
 use Rattle.std.specs.List.{list_any}
-use Rattle.protocol_model.specs.declared.system.Run.{Run}
+use Rattle.word_automata.specs.Automaton.{Automaton}
 use Rattle.protocol_model.specs.System.{SystemData}
-use Rattle.protocol_model.specs.Runs.{IsBadRun}
-use Rattle.certificate_checker.specs.Proof.{IsSafe}
 use Rattle.search_history.specs.Histories.{log_of}
 use Rattle.search_history.specs.declared.log.Log.{Log}
 use Rattle.search_history.specs.declared.log.LogEnd.{LogEnd}
@@ -29,7 +27,7 @@ use Rattle.command_replies.specs.declared.reply.Reply.{Reply}
 use Rattle.armc_commands.specs.declared.search_reply.Telling.{Telling}
 use Rattle.armc_commands.specs.declared.search_reply.Telling.TheVariants.{Certificate, Summary}
 use Rattle.armc_commands.specs.Summary.{summary}
-use Rattle.armc_commands.specs.SearchReply.{Part, PartAnswer, only_part, IsTold, IsAnswerTo, HoldsOfParts, titled, status_of, report_of, reply_of_answers, IsSearchReply}
+use Rattle.armc_commands.specs.SearchReply.{Part, PartAnswer, only_part, IsTold, IsAnswerTo, HoldsOfParts, titled, status_of, reply_of_answers, IsSearchReply}
 use Rattle.armc_commands.specs.SearchReply.{is_unsafe, is_unknown}
 use Rattle.armc_commands.specs.SearchPromise.{PartPromise, IsStatusOfHistory, spent_text, ToldShows, SearchPromise, ShowsSafe, ShowsUnsafe, CertificatePromise}
 use Rattle.armc_commands.specs.Commands.Generate.{IsGenerateReply, GeneratePromise, default_search}
@@ -112,6 +110,9 @@ module _ (histories : VerdictsHaveHistories) (no-others : VerdictsAreOfHistories
 
 -- ---- what it promises
 
+abbrev pub SearchesKeep : Type 0
+SearchesKeep = (told : Telling) (parts : List Part) (reply : Reply) → IsSearchReply told parts reply → SearchPromise told parts reply
+
 module _ (histories : VerdictsHaveHistories) (no-others : VerdictsAreOfHistories) (sound : VerdictsAreSound) (shows : VerdictsShow) (texts : TextsShow)
     (once : SearchRefutesOnce) (by-keys : SearchIsBoundedByKeys) (by-runs : SearchIsBoundedByRuns) where
   told-shows : (told : Telling) (part : Part) (answer : PartAnswer) → IsAnswerTo told part answer → ToldShows told part answer
@@ -148,7 +149,7 @@ module _ (histories : VerdictsHaveHistories) (no-others : VerdictsAreOfHistories
   parts-promised told (part ∷ parts) [] h = absurd h
   parts-promised told (part ∷ parts) (a ∷ xs) h = (part-promised told part a h.0, parts-promised told parts xs h.1)
 
-  pub search-promised : (told : Telling) (parts : List Part) (reply : Reply) → IsSearchReply told parts reply → SearchPromise told parts reply
+  pub search-promised : SearchesKeep
   search-promised told parts reply h = record {
     answers = h.answers;
     promised = parts-promised told parts h.answers h.are_answers;
@@ -178,18 +179,20 @@ one-answer P told part reply (a ∷ b ∷ xs) h is = absurd h.1
 abbrev pub part-of : SystemData → Search → Part
 part-of s search = record { title = None; system = s; search = search }
 
-certificate-safe : (s : SystemData) (v : Verdict) (text : List ℕ) → CertificateShows s v text → status_of (v ∷ []) ≡ status.Done → ShowsSafe s text
-certificate-safe s (Safe proof log) text h e = (proof, h.0, h.1, h.2)
-certificate-safe s (Unsafe words log) text h e = absurd (cc e)
-certificate-safe s (Unknown log) text h e = absurd (cc e)
+-- what a verdict shows whose status is 0, and one whose status is 1
+pub where-safe : (P : Verdict → Type 0) (Q : Type 0) → ((proof : Automaton) (log : Log) → P (Safe proof log) → Q) → (v : Verdict) → P v
+    → status_of (v ∷ []) ≡ status.Done → Q
+where-safe P Q each (Safe proof log) h e = each proof log h
+where-safe P Q each (Unsafe words log) h e = absurd (cc e)
+where-safe P Q each (Unknown log) h e = absurd (cc e)
 
-certificate-unsafe : (s : SystemData) (v : Verdict) (text : List ℕ) → CertificateShows s v text → status_of (v ∷ []) ≡ status.Unsafe → ShowsUnsafe s text
-certificate-unsafe s (Safe proof log) text h e = absurd (cc e)
-certificate-unsafe s (Unsafe words log) text h e = h
-certificate-unsafe s (Unknown log) text h e = absurd (cc e)
+pub where-unsafe : (P : Verdict → Type 0) (Q : Type 0) → ((words : List (List ℕ)) (log : Log) → P (Unsafe words log) → Q) → (v : Verdict) → P v
+    → status_of (v ∷ []) ≡ status.Unsafe → Q
+where-unsafe P Q each (Safe proof log) h e = absurd (cc e)
+where-unsafe P Q each (Unsafe words log) h e = each words log h
+where-unsafe P Q each (Unknown log) h e = absurd (cc e)
 
-pub certificate-promised : ((told : Telling) (parts : List Part) (reply : Reply) → IsSearchReply told parts reply → SearchPromise told parts reply)
-    → (s : SystemData) (search : Search) (report : Option Method)
+pub certificate-promised : SearchesKeep → (s : SystemData) (search : Search) (report : Option Method)
     → ((v : Verdict) (text : List ℕ) → TextShows search.analysis s v text → CertificateShows s v text)
     → ((log : Log) → spent_text (Certificate report) search.analysis log ≡ unknown_text log.counted log.budget)
     → (reply : Reply) → IsSearchReply (Certificate report) (only_part s search) reply → CertificatePromise s (Certificate report) search reply
@@ -198,27 +201,19 @@ certificate-promised keep s search report certifies spells reply h =
     let part = part-of s search in
     let promise = keep told (part ∷ []) reply h in
     let one = one-answer (PartPromise told) told part reply promise.answers promise.promised promise.reply_is in
-    let shows = certifies one.answer.verdict one.answer.text one.holds.text_shows in
+    let v = one.answer.verdict in
+    let text = one.answer.text in
+    let shows = certifies v text one.holds.text_shows in
+    let P : Verdict → Type 0 = λ v. CertificateShows s v text in
     record {
       searched = promise;
       by_history = subst (IsStatusOfHistory s search) (sym one.status_is) one.holds.by_history;
-      safe = λ e. subst (ShowsSafe s) (sym one.out_is) (certificate-safe s one.answer.verdict one.answer.text shows (sym one.status_is ∙ e));
-      unsafe = λ e. subst (ShowsUnsafe s) (sym one.out_is) (certificate-unsafe s one.answer.verdict one.answer.text shows (sym one.status_is ∙ e));
+      safe = λ e. subst (ShowsSafe s) (sym one.out_is) (where-safe P (ShowsSafe s text) (λ proof log h. (proof, h.0, h.1, h.2)) v shows (sym one.status_is ∙ e));
+      unsafe = λ e. subst (ShowsUnsafe s) (sym one.out_is) (where-unsafe P (ShowsUnsafe s text) (λ words log h. h) v shows (sym one.status_is ∙ e));
       unknown = λ sum spent. one.out_is ∙ one.holds.unknown sum spent ∙ spells (log_of search.budget spent.rounds sum);
     }
 
-safe_shown : (s : SystemData) (v : Verdict) → VerdictShows Forward s v → status_of (v ∷ []) ≡ status.Done → IsSafe s
-safe_shown s (Safe proof log) shows e = shows.1
-safe_shown s (Unsafe words log) shows e = absurd (cc e)
-safe_shown s (Unknown log) shows e = absurd (cc e)
-
-run-shown : (s : SystemData) (v : Verdict) → VerdictShows Forward s v → status_of (v ∷ []) ≡ status.Unsafe → (run : Run) × IsBadRun s run
-run-shown s (Safe proof log) shows e = absurd (cc e)
-run-shown s (Unsafe words log) shows e = shows
-run-shown s (Unknown log) shows e = absurd (cc e)
-
-pub generate-promised : ((told : Telling) (parts : List Part) (reply : Reply) → IsSearchReply told parts reply → SearchPromise told parts reply)
-    → (s : SystemData) (number : ℕ) (reply : Reply) → IsGenerateReply s number reply → GeneratePromise s number reply
+pub generate-promised : SearchesKeep → (s : SystemData) (number : ℕ) (reply : Reply) → IsGenerateReply s number reply → GeneratePromise s number reply
 generate-promised keep s number reply h =
     let told : Telling = Summary number in
     let promise = keep told (only_part s default_search) reply h in
@@ -226,8 +221,8 @@ generate-promised keep s number reply h =
     record {
       searched = promise;
       by_history = subst (IsStatusOfHistory s default_search) (sym one.status_is) one.holds.by_history;
-      safe = λ e. safe_shown s one.answer.verdict one.holds.shows (sym one.status_is ∙ e);
-      unsafe = λ e. run-shown s one.answer.verdict one.holds.shows (sym one.status_is ∙ e);
+      safe = λ e. where-safe (VerdictShows Forward s) _ (λ proof log h. h.1) one.answer.verdict one.holds.shows (sym one.status_is ∙ e);
+      unsafe = λ e. where-unsafe (VerdictShows Forward s) _ (λ words log h. h) one.answer.verdict one.holds.shows (sym one.status_is ∙ e);
       unknown = λ sum spent. one.out_is ∙ one.holds.unknown sum spent;
     }
 

@@ -16,10 +16,10 @@ use protocol_search::{larger_budget_keeps_verdict, one_verdict};
 use protocol_steps::one_answer as one_list;
 use protocol_syntax::{one_reading as one_protocol, one_reading_of_properties};
 
-/// The law of replies: where every text that the words read is told, the words and the told texts decide one reply, or one text that is
-/// too long, beside running out of memory. The function does nothing.
-pub fn one_reply()
-    ensures { (words : List (List ℕ)) (told : Told) → HasOneReply words told }
+/// The law of workers: what words decide whose commands differ in the number of workers alone is the same, beside running out of memory.
+/// The function does nothing.
+pub fn workers_keep_reply()
+    ensures { (words : List (List ℕ)) (told : Told) → WorkersKeepReply words told }
 {
     one_protocol();
     texts_say_allowed_protocols();
@@ -31,12 +31,12 @@ pub fn one_reply()
     one_verdict();
 }
 
-/// The law of workers: what words decide whose commands differ in the number of workers alone is the same, beside running out of memory.
-/// The function does nothing.
-pub fn workers_keep_reply()
-    ensures { (words : List (List ℕ)) (told : Told) → WorkersKeepReply words told }
+/// The law of replies: where every text that the words read is told, the words and the told texts decide one reply, or one text that is
+/// too long, beside running out of memory. The function does nothing.
+pub fn one_reply()
+    ensures { (words : List (List ℕ)) (told : Told) → HasOneReply words told }
 {
-    one_reply();
+    workers_keep_reply();
 }
 
 /// The law of budgets: an answer to a search of a file that decides has the same status and the same certificate for every larger budget,

@@ -1,7 +1,7 @@
 //! What a call comes to: the words, the protocol and the second text are read in this order, and the first that has a fault or cannot
 //! be read ends the call. It costs what the command costs.
 
-ghost use Rattle.std.specs.Prelude.{◌≡◌, ◌≤◌, ℕ, List, None, Some, IsTrue, map, string_bytes};
+ghost use Rattle.std.specs.Prelude.{◌≡◌, ◌≤◌, ℕ, List, None, Some, IfOk, IsTrue, map, string_bytes};
 ghost use Rattle.armc_io.specs.Library.{LibraryState};
 ghost use Rattle.protocol_model.specs.Numbering.{system_of};
 ghost use Rattle.command_words.specs.Words.{command_of as command_of_words, IsInRange, said};
@@ -18,7 +18,7 @@ use command_replies::{Failure, Reading, Reply, Status, read_protocol, refusal_re
 use command_words::{Command, command_of};
 use protocol_model::System;
 use protocol_syntax::Protocol;
-use std::alloc::Global;
+use std::alloc::{AllocError, Global};
 use std::thread::Threads;
 
 // Reads the second text of the command, and carries it out for this protocol, which has no fault, and its system.
@@ -89,6 +89,13 @@ fn reply_to_reading<L: Library, G: Gate, R: Threads + Sync>(
     }
 }
 
+// What the text of a protocol says, behind one pointer.
+fn boxed_reading(alloc: Global, text: &[u8]) -> Result<Box<Reading>, AllocError>
+    ensures { IfOk result (λ reading. IsReadingOf text.now reading.value) }
+{
+    Ok(Box::new(alloc, read_protocol(alloc, text)?)?)
+}
+
 // Reads the protocol of the command, and carries it out where the protocol has no fault.
 fn reply_to_command<L: Library, G: Gate, R: Threads + Sync>(
     alloc: Global,
@@ -108,7 +115,7 @@ fn reply_to_command<L: Library, G: Gate, R: Threads + Sync>(
         Ok(text) => text,
         Err(failure) => return Err(failure),
     };
-    let reading = read_protocol(alloc, text.as_slice())?;
+    let reading = boxed_reading(alloc, text.as_slice())?;
     reply_to_reading(alloc, runtime, gate, command, &reading, library)
 }
 

@@ -19,7 +19,7 @@ ghost use Rattle.armc_commands.specs.private.PartTexts.{AreTold, IsToldPart};
 use crate::search_reply::keep_search_promises;
 use armc_io::Gate;
 use command_replies::{
-    Refusal, Reply, Status, on_out, refusal_reply, refused_by_grammar, refused_by_names,
+    Refusal, Reply, Status, line_of, on_out, refusal_reply, refused_by_grammar, refused_by_names,
 };
 use command_words::Limits;
 use property_batch::{property_verdicts_show, search_all};
@@ -83,9 +83,7 @@ fn worst_status(verdicts: &[Verdict]) -> Status
 fn with_title(alloc: Global, name: &str, text: &[u8]) -> Result<Vec<u8>, AllocError>
     ensures { IfOk result (λ made. made.items ≡ titled (Some name.now) text.now) }
 {
-    let mut made = Vec::from_slice(alloc, b"property ")?;
-    made.extend_from_slice(name.as_bytes())?;
-    made.push(b'\n')?;
+    let mut made = line_of(alloc, b"property ", name.as_bytes())?;
     made.extend_from_slice(text)?;
     Ok(made)
 }

@@ -1,6 +1,7 @@
 use Rattle.std.proofs.Common.{map}
 use Rattle.std.specs.Prelude.{string_bytes}
 use Rattle.armc_commands.proofs.Answered.{Answers-made, IsSound-answer, IsDecided-answer, IsQuiet-ends, KeepsCounts-made}
+use Rattle.armc_commands.proofs.Promised.{promised}
 use Rattle.armc_commands.proofs.UsageLemmas.{usage_only}
 use Rattle.armc_commands.proofs.call.run.Goals as goal
 
@@ -9,7 +10,7 @@ returns-clause-answer g c = Answers-made _ _ _ _ _ _ _ _ _ c.reply_to-outcome.en
 
 pub returns-clause-sound : goal.returns-clause-sound
 returns-clause-sound g c =
-    IsSound-answer c.keep_promises.ensures (map string_bytes c.args.words.now) (g.L.Library.state c.args.library.now)
+    IsSound-answer (promised c.keep_promises.ensures) (map string_bytes c.args.words.now) (g.L.Library.state c.args.library.now)
     (g.L.Library.state c.reply_to-outcome.new.library) _ _ _ _ _
     (Answers-made _ _ _ _ _ _ _ _ _ c.reply_to-outcome.ensures.outcome c.answer.ensures)
 

@@ -26,7 +26,8 @@ returns-clause-outcome g c = λ words asked.
     let P : Origin → Type 0 = λ origin. IsTextFrom old.told origin c.in-Ok.text.items in
     c.reply_to_reading.ensures.outcome words old c.in-Ok.text.items
     (record { same_told = c.in-Ok.ensures.told; no_fall = c.in-Ok.ensures.no_fall }) asked (subst P c.protocol_origin.ensures.origin c.in-Ok.ensures.text)
-    (subst (λ (text : List ℕ). IsReadingOf text c.in_ok-reading.reading) c.as_slice.ensures.value c.in_ok-reading.ensures)
+    (subst (IsReadingOf c.in-Ok.text.items) (sym c.deref.ensures)
+    (subst (λ (text : List ℕ). IsReadingOf text c.in_ok-reading.reading.value) c.as_slice.ensures.value c.in_ok-reading.ensures))
 
 pub returns-clause-quiet : goal.returns-clause-quiet
 returns-clause-quiet g c = λ words asked ends.
@@ -36,6 +37,7 @@ returns-clause-quiet g c = λ words asked ends.
     c.reply_to_reading.ensures.quiet words c.in-Ok.text.items
     (record { reliable = c.in-Ok.ensures.reliable ∙ ends.reliable; tells = subst (TellsTexts words) (sym c.in-Ok.ensures.told) ends.tells }) asked
     (subst Q (sym c.in-Ok.ensures.told) (subst P c.protocol_origin.ensures.origin c.in-Ok.ensures.text))
-    (subst (λ (text : List ℕ). IsReadingOf text c.in_ok-reading.reading) c.as_slice.ensures.value c.in_ok-reading.ensures)
+    (subst (IsReadingOf c.in-Ok.text.items) (sym c.deref.ensures)
+    (subst (λ (text : List ℕ). IsReadingOf text c.in_ok-reading.reading.value) c.as_slice.ensures.value c.in_ok-reading.ensures))
     ∙ c.in-Ok.ensures.no_fault ends.reliable
     (subst (IsToldOrigin told) (sym c.protocol_origin.ensures.origin) (first_told words told ends.tells (said c.args.command) asked))

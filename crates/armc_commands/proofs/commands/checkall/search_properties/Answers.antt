@@ -1,4 +1,4 @@
-use Rattle.std.proofs.Common.{◌∙◌, List, subst, ap, sym}
+use Rattle.std.proofs.Common.{◌∙◌, List, subst, ap}
 use Rattle.refinement.specs.declared.verdict.Verdict.{Verdict}
 use Rattle.command_replies.specs.Reply.{on_out}
 use Rattle.armc_commands.specs.SearchReply.{status_of}
