@@ -16,7 +16,7 @@ use Rattle.boolean_operations.proofs.ProductLanguages.{no_pair, pair_states}
 use Rattle.boolean_operations.proofs.EdgeTargets.{no_target, passed_later}
 use Rattle.boolean_operations.proofs.SearchCalls.{contains_at}
 
-module _ (operation : Operation) (m n : Automaton) (same_letters : m.letters ≡ n.letters) (m_valid : IsValid m) (n_valid : IsValid n) (p q : Option ℕ) where
+module _ {operation : Operation} {m n : Automaton} (same_letters : m.letters ≡ n.letters) (m_valid : IsValid m) (n_valid : IsValid n) (p q : Option ℕ) where
   -- before any edge
   pub merging_nothing : IsMerging operation m n (edges_at m p) (edges_at n q) 0 0 []
   merging_nothing = record {
@@ -32,9 +32,9 @@ module _ (operation : Operation) (m n : Automaton) (same_letters : m.letters ≡
     };
   }
 
-  module _ (i j : ℕ) (pairs : List (ℕ × (Option ℕ × Option ℕ))) (e : IsMerging operation m n (edges_at m p) (edges_at n q) i j pairs) where
+  module _ {i j : ℕ} {pairs : List (ℕ × (Option ℕ × Option ℕ))} (e : IsMerging operation m n (edges_at m p) (edges_at n q) i j pairs) where
     -- one more letter
-    module _ (letter : ℕ) (least : IsLeastLetter (edges_at m p) i (edges_at n q) j letter) where
+    module _ {letter : ℕ} (least : IsLeastLetter (edges_at m p) i (edges_at n q) j letter) where
       reached : e.bound ≤ letter
       reached = elim least.one [
         | inl here ↦ let l = e.left_passed.above i here.0 (omega arith) here.1 in let s = here.2 in omega arith
@@ -76,7 +76,7 @@ module _ (operation : Operation) (m n : Automaton) (same_letters : m.letters ≡
         | inr after ↦ absent a (omega arith) ∙ sym (nowhere a (omega arith) l)
       ]
 
-      module _ (s t : Option ℕ) (i_next j_next : ℕ) (left : IsTaken (edges_at m p) i letter s i_next) (right : IsTaken (edges_at n q) j letter t j_next) where
+      module _ {s t : Option ℕ} {i_next j_next : ℕ} (left : IsTaken (edges_at m p) i letter s i_next) (right : IsTaken (edges_at n q) j letter t j_next) where
         made : pair_of operation s t ≡ pair_of operation (find_target (edges_at m p) letter) (find_target (edges_at n q) letter)
         made = ap (λ x. pair_of operation x t) left.target_is ∙ ap (pair_of operation (find_target (edges_at m p) letter)) right.target_is
 

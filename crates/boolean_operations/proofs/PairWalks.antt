@@ -13,7 +13,7 @@ use Rattle.boolean_operations.specs.Inclusion.{IsIncluded, IsOutside}
 use Rattle.boolean_operations.specs.LeastWords.{AcceptsNothing, IsLeastAccepted}
 use Rattle.boolean_operations.specs.private.Search.{Leads, letters_of, IsFound, Gathers}
 use Rattle.boolean_operations.specs.private.DeadStates.{AreRejecting}
-use Rattle.boolean_operations.specs.private.PairGraph.{IsPair, IsStartPair, advance, PairEdge, LiveEdge, is_wanted, is_goal_pair, IsWordOfPairs, IsStartAmong, IsSilentAmong, IsStepAmong}
+use Rattle.boolean_operations.specs.private.PairGraph.{IsPair, IsStartPair, advance, PairEdge, LiveEdge, is_wanted, is_goal_pair, IsWordOfPairs, IsAmong, StartsAt, LeadsSilently, LeadsByLetter}
 use Rattle.boolean_operations.proofs.OptionalStates.{accepts_option, accepts_option-nil, accepts_option-cons, accepts_option-start, follow-within}
 use Rattle.boolean_operations.proofs.SearchCalls.{place_of, contains_at}
 
@@ -63,6 +63,36 @@ module _ {X : Type 0} (P : X → Type 0) where
 
   pub gathered_members : (R : X → Type 0) (new : List X) → Gathers P R [] new → (x : X) → Contains new x ↔ R x
   gathered_members R new g x = ((λ there. (only_new R x (g.only x there)).1), g.all x)
+
+-- what the first k elements of a list lead to
+module _ {X Y : Type 0} {P : Y → Type 0} {leads : X → Y → Type 0} {xs : List X} {k : ℕ} {old new : List Y} (g : Gathers P (IsAmong leads xs k) old new) where
+  module _ {x : X} (at : slice_get xs k ≡ Some x) where
+    kept_among : (y : Y) → IsAmong leads xs k y → IsAmong leads xs (k + 1) y
+    kept_among y is = record { place = is.place; below = (let l = is.below in omega arith); source = is.source; at = is.at; goes = is.goes }
+
+    among_cases : (y : Y) → IsAmong leads xs (k + 1) y → IsAmong leads xs k y ⊎ leads x y
+    among_cases y is = elim (cases_eq is.place k) [
+      | inl same ↦ inr (subst (λ e. leads e y) (same_Some is.source x (sym is.at ∙ ap (slice_get xs) same ∙ at)) is.goes)
+      | inr other ↦ inl (record { place = is.place; below = (let l = is.below in omega arith); source = is.source; at = is.at; goes = is.goes })
+    ]
+
+    -- the next one leads to one thing
+    among_push : (y : Y) → P y → leads x y → ((z : Y) → leads x z → y ≡ z) → Gathers P (IsAmong leads xs (k + 1)) old (new ++ y ∷ [])
+    among_push y valid goes one =
+        gathers_push P (IsAmong leads xs k) (IsAmong leads xs (k + 1)) old new y valid (record { place = k; below = omega arith; source = x; at = at; goes = goes }) kept_among
+        (λ z is. elim (among_cases z is) [ inl before ↦ inl before | inr here ↦ inr (one z here) ]) g
+
+    -- or to nothing
+    among_other : ((z : Y) → leads x z → ⊥) → Gathers P (IsAmong leads xs (k + 1)) old new
+    among_other nothing =
+        gathers_same P (IsAmong leads xs k) (IsAmong leads xs (k + 1)) old new kept_among
+        (λ z is. elim (among_cases z is) [ inl before ↦ before | inr here ↦ absurd (nothing z here) ]) g
+
+  among_all : (R : Y → Type 0) → length xs ≤ k → ((x : X) (y : Y) → Contains xs x → leads x y → R y) → ((y : Y) → R y → (x : X) × Contains xs x × leads x y) → Gathers P R old new
+  among_all R all to from =
+      gathers_same P (IsAmong leads xs k) R old new (λ y is. to is.source y (contains_at xs is.source is.place is.at) is.goes)
+      (λ y is. let x = from y is in let there = place_of xs x.0 x.1 in
+      record { place = there.0; below = (let l = there.1 in omega arith); source = x.0; at = there.2; goes = x.2 }) g
 
 wanted_gives : (wanted accepted : Bool) → IsTrue (is_wanted wanted accepted) → accepted ≡ wanted
 wanted_gives true accepted is = is
@@ -196,121 +226,72 @@ module _ (n : NondeterministicAutomaton) (m : Automaton) where
 
   -- one more start
   pub start_more : IsInRange n → IsValid m → IsStateOrNone m (start_of m.states) → (pairs : List (ℕ × Option ℕ)) (k p : ℕ) (q : Option ℕ) → q ≡ start_of m.states → slice_get n.starts k ≡ Some p
-      → Gathers (IsPair n m) (IsStartAmong m n.starts k) [] pairs → Gathers (IsPair n m) (IsStartAmong m n.starts (k + 1)) [] (pairs ++ (p, q) ∷ [])
+      → Gathers (IsPair n m) (IsAmong (StartsAt m) n.starts k) [] pairs → Gathers (IsPair n m) (IsAmong (StartsAt m) n.starts (k + 1)) [] (pairs ++ (p, q) ∷ [])
   start_more in_range valid state pairs k p q same at g =
-      gathers_push (IsPair n m) (IsStartAmong m n.starts k) (IsStartAmong m n.starts (k + 1)) [] pairs (p, q)
+      among_push g at (p, q)
       (in_range, valid, All-contains (λ start. start < length n.states) n.starts p in_range.starts_in_range (contains_at n.starts p k at), subst (IsStateOrNone m) (sym same) state)
-      (k, omega arith, at, same)
-      (λ y is. (is.0, (let l = is.1 in omega arith), is.2, is.3))
-      (λ y is. by y is.0 is.1 is.2 is.3 (cases_eq is.0 k)) g
-    where
-      by : (y : ℕ × Option ℕ) (i : ℕ) → i < k + 1 → slice_get n.starts i ≡ Some y.0 → y.1 ≡ start_of m.states → (i ≡ k) ⊎ (i ≡ k → ⊥) → IsStartAmong m n.starts k y ⊎ (◌≡◌ {A = ℕ × Option ℕ} (p, q) y)
-      by y i l here starts (inr other) = inl (i, omega arith, here, starts)
-      by y i l here starts (inl is_k) =
-          let first : p ≡ y.0 = same_Some p y.0 (sym at ∙ ap (slice_get n.starts) (sym is_k) ∙ here) in
-          inr (ap (λ x. (x, q)) first ∙ ap (λ z. (y.0, z)) (same ∙ sym starts))
+      (refl, same) (λ z goes. ap (λ x. (x, q)) goes.0 ∙ ap (λ y. (z.0, y)) (same ∙ sym goes.1))
 
-  pub starts_all : (pairs : List (ℕ × Option ℕ)) (k : ℕ) → length n.starts ≤ k → Gathers (IsPair n m) (IsStartAmong m n.starts k) [] pairs → Gathers (IsPair n m) (IsStartPair n m) [] pairs
+  pub starts_all : (pairs : List (ℕ × Option ℕ)) (k : ℕ) → length n.starts ≤ k → Gathers (IsPair n m) (IsAmong (StartsAt m) n.starts k) [] pairs → Gathers (IsPair n m) (IsStartPair n m) [] pairs
   starts_all pairs k all g =
-      gathers_same (IsPair n m) (IsStartAmong m n.starts k) (IsStartPair n m) [] pairs
-      (λ y is. (contains_at n.starts y.0 is.0 is.2, is.3))
-      (λ y is. let place = place_of n.starts y.0 is.0 in (place.0, (let l = place.1 in omega arith), place.2, is.1)) g
+      among_all g (IsStartPair n m) all (λ p y there goes. (subst (Contains n.starts) goes.0 there, goes.1)) (λ y is. (y.0, is.0, (refl, is.1)))
 
   module _ (flags : List Bool) (in_range : IsInRange n) (valid : IsValid m) (p : ℕ) (q : Option ℕ) (state : IsStateOrNone m q) where
-    edges : List (Option ℕ × ℕ)
-    edges = edges_of n.states p
-
     -- one more edge without a letter
     pub silent_more : (targets : List (ℕ × Option ℕ)) (k r : ℕ) → slice_get (edges_of n.states p) k ≡ Some (None, r)
-        → slice_index_or flags r false ≡ false → Gathers (IsPair n m) (IsSilentAmong flags q (edges_of n.states p) k) [] targets
-        → Gathers (IsPair n m) (IsSilentAmong flags q (edges_of n.states p) (k + 1)) [] (targets ++ (r, q) ∷ [])
+        → slice_index_or flags r false ≡ false → Gathers (IsPair n m) (IsAmong (LeadsSilently flags q) (edges_of n.states p) k) [] targets
+        → Gathers (IsPair n m) (IsAmong (LeadsSilently flags q) (edges_of n.states p) (k + 1)) [] (targets ++ (r, q) ∷ [])
     silent_more targets k r at live g =
-        gathers_push (IsPair n m) (IsSilentAmong flags q (edges_of n.states p) k) (IsSilentAmong flags q (edges_of n.states p) (k + 1)) [] targets (r, q)
-        (in_range, valid, target_state in_range p None r (contains_at (edges_of n.states p) (None, r) k at), state)
-        (k, omega arith, at, refl, live)
-        (λ y is. (is.0, (let l = is.1 in omega arith), is.2, is.3, is.4))
-        (λ y is. by y is.0 is.1 is.2 is.3 is.4 (cases_eq is.0 k)) g
-      where
-        by : (y : ℕ × Option ℕ) (i : ℕ) → i < k + 1 → slice_get (edges_of n.states p) i ≡ Some (None, y.0) → y.1 ≡ q
-            → slice_index_or flags y.0 false ≡ false → (i ≡ k) ⊎ (i ≡ k → ⊥)
-            → IsSilentAmong flags q (edges_of n.states p) k y ⊎ (◌≡◌ {A = ℕ × Option ℕ} (r, q) y)
-        by y i l here stays goes_live (inr other) = inl (i, omega arith, here, stays, goes_live)
-        by y i l here stays goes_live (inl is_k) =
-            let whole : ◌≡◌ {A = Option ℕ × ℕ} (None, r) (None, y.0) = same_Some (None, r) (None, y.0) (sym at ∙ ap (slice_get (edges_of n.states p)) (sym is_k) ∙ here) in
-            inr (ap (λ x. (x, q)) (ap (λ (e : Option ℕ × ℕ). e.1) whole) ∙ ap (λ z. (y.0, z)) (sym stays))
+        among_push g at (r, q) (in_range, valid, target_state in_range p None r (contains_at (edges_of n.states p) (None, r) k at), state) (refl, refl, live)
+        (λ z goes. ap (λ x. (x, q)) (ap (λ (e : Option ℕ × ℕ). e.1) goes.0) ∙ ap (λ y. (z.0, y)) (sym goes.1))
 
     -- an edge with one, or to a flagged state
     pub silent_other : (targets : List (ℕ × Option ℕ)) (k : ℕ) (l : Option ℕ) (r : ℕ) → slice_get (edges_of n.states p) k ≡ Some (l, r)
         → (l ≡ None → slice_index_or flags r false ≡ false → ⊥)
-        → Gathers (IsPair n m) (IsSilentAmong flags q (edges_of n.states p) k) [] targets → Gathers (IsPair n m) (IsSilentAmong flags q (edges_of n.states p) (k + 1)) [] targets
+        → Gathers (IsPair n m) (IsAmong (LeadsSilently flags q) (edges_of n.states p) k) [] targets
+        → Gathers (IsPair n m) (IsAmong (LeadsSilently flags q) (edges_of n.states p) (k + 1)) [] targets
     silent_other targets k l r at other_edge g =
-        gathers_same (IsPair n m) (IsSilentAmong flags q (edges_of n.states p) k) (IsSilentAmong flags q (edges_of n.states p) (k + 1)) [] targets
-        (λ y is. (is.0, (let l = is.1 in omega arith), is.2, is.3, is.4))
-        (λ y is. by y is.0 is.1 is.2 is.3 is.4 (cases_eq is.0 k)) g
-      where
-        by : (y : ℕ × Option ℕ) (i : ℕ) → i < k + 1 → slice_get (edges_of n.states p) i ≡ Some (None, y.0) → y.1 ≡ q
-            → slice_index_or flags y.0 false ≡ false → (i ≡ k) ⊎ (i ≡ k → ⊥) → IsSilentAmong flags q (edges_of n.states p) k y
-        by y i less here stays live (inr other) = (i, omega arith, here, stays, live)
-        by y i less here stays live (inl is_k) =
-            let whole : ◌≡◌ {A = Option ℕ × ℕ} (l, r) (None, y.0) = same_Some (l, r) (None, y.0) (sym at ∙ ap (slice_get (edges_of n.states p)) (sym is_k) ∙ here) in
-            absurd (other_edge (ap (λ (e : Option ℕ × ℕ). e.0) whole)
-            (subst (λ x. slice_index_or flags x false ≡ false) (sym (ap (λ (e : Option ℕ × ℕ). e.1) whole)) live))
+        among_other g at (λ z goes. other_edge (ap (λ (e : Option ℕ × ℕ). e.0) goes.0)
+        (subst (λ x. slice_index_or flags x false ≡ false) (sym (ap (λ (e : Option ℕ × ℕ). e.1) goes.0)) goes.2))
 
-    pub silent_all : (targets : List (ℕ × Option ℕ)) (k : ℕ) → length (edges_of n.states p) ≤ k → Gathers (IsPair n m) (IsSilentAmong flags q (edges_of n.states p) k) [] targets
+    pub silent_all : (targets : List (ℕ × Option ℕ)) (k : ℕ) → length (edges_of n.states p) ≤ k → Gathers (IsPair n m) (IsAmong (LeadsSilently flags q) (edges_of n.states p) k) [] targets
         → Gathers (IsPair n m) (LiveEdge n m flags (p, q) None) [] targets
     silent_all targets k all g =
-        gathers_same (IsPair n m) (IsSilentAmong flags q (edges_of n.states p) k) (LiveEdge n m flags (p, q) None) [] targets
-        (λ y is. ((contains_at (edges_of n.states p) (None, y.0) is.0 is.2, is.3), is.4))
-        (λ y is. let place = place_of (edges_of n.states p) (None, y.0) is.0.0 in (place.0, (let l = place.1 in omega arith), place.2, is.0.1, is.1)) g
+        among_all g (LiveEdge n m flags (p, q) None) all (λ e y there goes. ((subst (Contains (edges_of n.states p)) goes.0 there, goes.1), goes.2))
+        (λ y is. ((None, y.0), is.0.0, (refl, is.0.1, is.1)))
 
     -- one more edge with a letter
     pub step_more : (old steps : List (ℕ × (ℕ × Option ℕ))) (k a r : ℕ) (next : Option ℕ) → next ≡ follow m q a → slice_get (edges_of n.states p) k ≡ Some (Some a, r)
         → slice_index_or flags r false ≡ false
-        → Gathers {X = ℕ × (ℕ × Option ℕ)} (λ step. IsPair n m step.1) (IsStepAmong flags m q (edges_of n.states p) k) old steps
-        → Gathers {X = ℕ × (ℕ × Option ℕ)} (λ step. IsPair n m step.1) (IsStepAmong flags m q (edges_of n.states p) (k + 1)) old (steps ++ (a, (r, next)) ∷ [])
+        → Gathers {X = ℕ × (ℕ × Option ℕ)} (λ step. IsPair n m step.1) (IsAmong (LeadsByLetter flags m q) (edges_of n.states p) k) old steps
+        → Gathers {X = ℕ × (ℕ × Option ℕ)} (λ step. IsPair n m step.1) (IsAmong (LeadsByLetter flags m q) (edges_of n.states p) (k + 1)) old (steps ++ (a, (r, next)) ∷ [])
     step_more old steps k a r next follows at live g =
-        gathers_push {X = ℕ × (ℕ × Option ℕ)} (λ step. IsPair n m step.1) (IsStepAmong flags m q (edges_of n.states p) k) (IsStepAmong flags m q (edges_of n.states p) (k + 1)) old steps (a, (r, next))
+        among_push g at (a, (r, next))
         (in_range, valid, target_state in_range p (Some a) r (contains_at (edges_of n.states p) (Some a, r) k at), subst (IsStateOrNone m) (sym follows) (follow-within m valid q a))
-        (k, omega arith, at, follows, live)
-        (λ y is. (is.0, (let l = is.1 in omega arith), is.2, is.3, is.4))
-        (λ y is. by y is.0 is.1 is.2 is.3 is.4 (cases_eq is.0 k)) g
+        (refl, follows, live) one
       where
-        by : (y : ℕ × (ℕ × Option ℕ)) (i : ℕ) → i < k + 1 → slice_get (edges_of n.states p) i ≡ Some (Some y.0, y.1.0) → y.1.1 ≡ follow m q y.0
-            → slice_index_or flags y.1.0 false ≡ false → (i ≡ k) ⊎ (i ≡ k → ⊥)
-            → IsStepAmong flags m q (edges_of n.states p) k y ⊎ (◌≡◌ {A = ℕ × (ℕ × Option ℕ)} (a, (r, next)) y)
-        by y i l here goes goes_live (inr other) = inl (i, omega arith, here, goes, goes_live)
-        by y i l here goes goes_live (inl is_k) =
-            let whole : ◌≡◌ {A = Option ℕ × ℕ} (Some a, r) (Some y.0, y.1.0) = same_Some (Some a, r) (Some y.0, y.1.0) (sym at ∙ ap (slice_get (edges_of n.states p)) (sym is_k) ∙ here) in
-            let letter : a ≡ y.0 = same_Some a y.0 (ap (λ (e : Option ℕ × ℕ). e.0) whole) in
-            let to : r ≡ y.1.0 = ap (λ (e : Option ℕ × ℕ). e.1) whole in
-            let on : next ≡ y.1.1 = follows ∙ ap (follow m q) letter ∙ sym goes in
-            inr (ap (λ x. (x, (r, next))) letter ∙ ap (λ x. (y.0, (x, next))) to ∙ ap (λ z. (y.0, (y.1.0, z))) on)
+        one : (z : ℕ × (ℕ × Option ℕ)) → LeadsByLetter flags m q (Some a, r) z → ◌≡◌ {A = ℕ × (ℕ × Option ℕ)} (a, (r, next)) z
+        one z goes =
+            let letter : a ≡ z.0 = same_Some a z.0 (ap (λ (e : Option ℕ × ℕ). e.0) goes.0) in
+            let to : r ≡ z.1.0 = ap (λ (e : Option ℕ × ℕ). e.1) goes.0 in
+            let on : next ≡ z.1.1 = follows ∙ ap (follow m q) letter ∙ sym goes.1 in
+            ap (λ x. (x, (r, next))) letter ∙ ap (λ x. (z.0, (x, next))) to ∙ ap (λ y. (z.0, (z.1.0, y))) on
 
     -- an edge without one, or to a flagged state
     pub step_other : (old steps : List (ℕ × (ℕ × Option ℕ))) (k : ℕ) (l : Option ℕ) (r : ℕ) → slice_get (edges_of n.states p) k ≡ Some (l, r)
         → ((a : ℕ) → l ≡ Some a → slice_index_or flags r false ≡ false → ⊥)
-        → Gathers {X = ℕ × (ℕ × Option ℕ)} (λ step. IsPair n m step.1) (IsStepAmong flags m q (edges_of n.states p) k) old steps
-        → Gathers {X = ℕ × (ℕ × Option ℕ)} (λ step. IsPair n m step.1) (IsStepAmong flags m q (edges_of n.states p) (k + 1)) old steps
+        → Gathers {X = ℕ × (ℕ × Option ℕ)} (λ step. IsPair n m step.1) (IsAmong (LeadsByLetter flags m q) (edges_of n.states p) k) old steps
+        → Gathers {X = ℕ × (ℕ × Option ℕ)} (λ step. IsPair n m step.1) (IsAmong (LeadsByLetter flags m q) (edges_of n.states p) (k + 1)) old steps
     step_other old steps k l r at other_edge g =
-        gathers_same {X = ℕ × (ℕ × Option ℕ)} (λ step. IsPair n m step.1) (IsStepAmong flags m q (edges_of n.states p) k) (IsStepAmong flags m q (edges_of n.states p) (k + 1)) old steps
-        (λ y is. (is.0, (let l = is.1 in omega arith), is.2, is.3, is.4))
-        (λ y is. by y is.0 is.1 is.2 is.3 is.4 (cases_eq is.0 k)) g
-      where
-        by : (y : ℕ × (ℕ × Option ℕ)) (i : ℕ) → i < k + 1 → slice_get (edges_of n.states p) i ≡ Some (Some y.0, y.1.0) → y.1.1 ≡ follow m q y.0
-            → slice_index_or flags y.1.0 false ≡ false → (i ≡ k) ⊎ (i ≡ k → ⊥) → IsStepAmong flags m q (edges_of n.states p) k y
-        by y i less here goes live (inr other) = (i, omega arith, here, goes, live)
-        by y i less here goes live (inl is_k) =
-            let whole : ◌≡◌ {A = Option ℕ × ℕ} (l, r) (Some y.0, y.1.0) = same_Some (l, r) (Some y.0, y.1.0) (sym at ∙ ap (slice_get (edges_of n.states p)) (sym is_k) ∙ here) in
-            absurd (other_edge y.0 (ap (λ (e : Option ℕ × ℕ). e.0) whole)
-            (subst (λ x. slice_index_or flags x false ≡ false) (sym (ap (λ (e : Option ℕ × ℕ). e.1) whole)) live))
+        among_other g at (λ z goes. other_edge z.0 (ap (λ (e : Option ℕ × ℕ). e.0) goes.0)
+        (subst (λ x. slice_index_or flags x false ≡ false) (sym (ap (λ (e : Option ℕ × ℕ). e.1) goes.0)) goes.2))
 
     pub steps_all : (old steps : List (ℕ × (ℕ × Option ℕ))) (k : ℕ) → length (edges_of n.states p) ≤ k
-        → Gathers {X = ℕ × (ℕ × Option ℕ)} (λ step. IsPair n m step.1) (IsStepAmong flags m q (edges_of n.states p) k) old steps
+        → Gathers {X = ℕ × (ℕ × Option ℕ)} (λ step. IsPair n m step.1) (IsAmong (LeadsByLetter flags m q) (edges_of n.states p) k) old steps
         → Gathers {X = ℕ × (ℕ × Option ℕ)} (λ step. IsPair n m step.1) (λ step. LiveEdge n m flags (p, q) (Some step.0) step.1) old steps
     steps_all old steps k all g =
-        gathers_same {X = ℕ × (ℕ × Option ℕ)} (λ step. IsPair n m step.1) (IsStepAmong flags m q (edges_of n.states p) k) (λ step. LiveEdge n m flags (p, q) (Some step.0) step.1) old steps
-        (λ y is. ((contains_at (edges_of n.states p) (Some y.0, y.1.0) is.0 is.2, is.3), is.4))
-        (λ y is. let place = place_of (edges_of n.states p) (Some y.0, y.1.0) is.0.0 in (place.0, (let l = place.1 in omega arith), place.2, is.0.1, is.1)) g
+        among_all g (λ step. LiveEdge n m flags (p, q) (Some step.0) step.1) all (λ e y there goes. ((subst (Contains (edges_of n.states p)) goes.0 there, goes.1), goes.2))
+        (λ y is. ((Some y.0, y.1.0), is.0.0, (refl, is.0.1, is.1)))
 
 -- a word outside an automaton without a state is any word
 module _ (a : Automaton) (valid : IsValid a) (m : Automaton) (none : m.states ≡ []) where

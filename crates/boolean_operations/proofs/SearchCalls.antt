@@ -21,10 +21,9 @@ contains_at xs x i at =
 
 module _ {S : Type 0} where
   -- what is found or taken stays so
-  pub are_found_kept : (found new : List S) (groups new_groups : List ℕ) (steps new_steps : List (ℕ × ℕ)) (first last : ℕ) → Extends found groups steps new new_groups new_steps first
-      → (targets : List S) (n : ℕ) → AreFound found groups last targets n → AreFound new new_groups last targets n
-  are_found_kept found new groups new_groups steps new_steps first last x targets n there i s l at =
-      let h = there i s l at in (h.0, in_kept found new groups new_groups steps new_steps first x s h.0 h.1, h.2)
+  pub are_found_kept : {found new : List S} {groups new_groups : List ℕ} {steps new_steps : List (ℕ × ℕ)} {first : ℕ} → Extends found groups steps new new_groups new_steps first
+      → (last : ℕ) (targets : List S) (n : ℕ) → AreFound found groups last targets n → AreFound new new_groups last targets n
+  are_found_kept x last targets n there i s l at = let h = there i s l at in (h.0, in_kept x s h.0 h.1, h.2)
 
   pub are_found_more : (found : List S) (groups : List ℕ) (last : ℕ) (targets : List S) (n : ℕ) (t : S) → slice_get targets n ≡ Some t
       → AreFound found groups last targets n → ((h : ℕ) × IsIn found groups t h × (h ≤ last)) → AreFound found groups last targets (n + 1)
@@ -36,11 +35,10 @@ module _ {S : Type 0} where
           let is : t ≡ s = same_Some t s (sym at ∙ sym (ap (slice_get targets) same) ∙ here) in
           subst (λ x. (h : ℕ) × IsIn found groups x h × (h ≤ last)) is new
 
-  pub are_taken_kept : (found new : List S) (groups new_groups : List ℕ) (steps new_steps : List (ℕ × ℕ)) (first from : ℕ) → Extends found groups steps new new_groups new_steps first
-      → (pending : List (ℕ × S)) (n : ℕ) → AreTaken found groups steps from pending n → AreTaken new new_groups new_steps from pending n
-  are_taken_kept found new groups new_groups steps new_steps first from x pending n there i a r l at =
-      let h = there i a r l at in
-      (h.0, in_kept found new groups new_groups steps new_steps first x r h.0 h.1, not_after_kept found new groups new_groups steps new_steps first x h.0 from a h.2)
+  pub are_taken_kept : {found new : List S} {groups new_groups : List ℕ} {steps new_steps : List (ℕ × ℕ)} {first : ℕ} → Extends found groups steps new new_groups new_steps first
+      → (from : ℕ) (pending : List (ℕ × S)) (n : ℕ) → AreTaken found groups steps from pending n → AreTaken new new_groups new_steps from pending n
+  are_taken_kept x from pending n there i a r l at =
+      let h = there i a r l at in (h.0, in_kept x r h.0 h.1, not_after_kept x h.0 from a h.2)
 
   pub are_taken_more : (found : List S) (groups : List ℕ) (steps : List (ℕ × ℕ)) (from : ℕ) (pending : List (ℕ × S)) (n b : ℕ) (t : S) → slice_get pending n ≡ Some (b, t)
       → AreTaken found groups steps from pending n → ((h : ℕ) × IsIn found groups t h × IsNotAfter steps h from b) → AreTaken found groups steps from pending (n + 1)
@@ -52,12 +50,24 @@ module _ {S : Type 0} where
           let is : ◌≡◌ {A = ℕ × S} (b, t) (a, r) = same_Some (b, t) (a, r) (sym at ∙ sym (ap (slice_get pending) same) ∙ here) in
           subst (λ (x : ℕ × S). (h : ℕ) × IsIn found groups x.1 h × IsNotAfter steps h from x.0) is new
 
-module _ {S : Type 0} (P start : S → Type 0) (edge : S → Option ℕ → S → Type 0) where
+module _ {S : Type 0} {start : S → Type 0} {edge : S → Option ℕ → S → Type 0} where
+  -- all starts are found
+  pub begun : {goal : S → Bool} {found : List S} {groups : List ℕ} (starts : List S) → ((s : S) → Contains starts s ↔ start s) → (n : ℕ) → length starts ≤ n → AreFound found groups 0 starts n
+      → Done start edge goal found groups [] 0
+  begun {found = found} {groups = groups} starts are n all there = record {
+    starts = λ s begins. first s (place_of starts s ((are s).1 begins));
+    done = λ s r g a in_group l goes. absurd (omega arith);
+    inside = λ s g in_group l. absurd (omega arith);
+  }
+    where
+      first : (s : S) → (i : ℕ) × (i < length starts) × (slice_get starts i ≡ Some s) → IsIn found groups s 0
+      first s (i, l, at) = let h = there i s (omega arith) at in let zero_is : h.0 ≡ 0 = (let m = h.2 in omega arith) in subst (IsIn found groups s) zero_is h.1
+
+module _ {S : Type 0} {P start : S → Type 0} {edge : S → Option ℕ → S → Type 0} where
   -- a start that is found
-  pub start_joined : (found new : List S) (groups new_groups : List ℕ) → Reached P start edge found groups [] (length found) → (s : S) → P s → start s
+  pub start_joined : {found new : List S} {groups new_groups : List ℕ} → Reached P start edge found groups [] (length found) → (s : S) → P s → start s
       → Joins found new groups new_groups s 0 → Joined P start edge found groups [] (length found) new new_groups s
-  start_joined found new groups new_groups e s valid begins joins =
-      joined P start edge found groups [] (length found) e (omega arith) new new_groups s valid reached joins
+  start_joined e s valid begins joins = joined e (omega arith) s valid reached joins
     where
       reached : (u : List ℕ) → Spells [] u 0 → IsReached start edge s (reverse u)
       reached [] h = (s, [], begins, refl, refl)
@@ -78,28 +88,17 @@ module _ {S : Type 0} (P start : S → Type 0) (edge : S → Option ℕ → S �
       none : (s : S) (i : ℕ) → slice_get [] i ≡ Some s → ⊥
       none s i at = cc
 
-  pub begun : (goal : S → Bool) (found : List S) (groups : List ℕ) (starts : List S) → ((s : S) → Contains starts s ↔ start s) → (n : ℕ) → length starts ≤ n → AreFound found groups 0 starts n
-      → Done start edge goal found groups [] 0
-  begun goal found groups starts are n all there = record {
-    starts = λ s begins. first s (place_of starts s ((are s).1 begins));
-    done = λ s r g a in_group l goes. absurd (omega arith);
-    inside = λ s g in_group l. absurd (omega arith);
-  }
-    where
-      first : (s : S) → (i : ℕ) × (i < length starts) × (slice_get starts i ≡ Some s) → IsIn found groups s 0
-      first s (i, l, at) = let h = there i s (omega arith) at in let zero_is : h.0 ≡ 0 = (let m = h.2 in omega arith) in subst (IsIn found groups s) zero_is h.1
-
-  module _ (steps : List (ℕ × ℕ)) (place : ℕ) (entry found : List S) (entry_groups groups : List ℕ) (e : Reached P start edge found groups steps place) (within : place < length entry)
+  module _ {steps : List (ℕ × ℕ)} {place : ℕ} {entry found : List S} {entry_groups groups : List ℕ} (e : Reached P start edge found groups steps place) (within : place < length entry)
       (x : Extends entry entry_groups steps found groups steps (length steps)) (s : S) (at : slice_get entry place ≡ Some s) (targets : List S) (gathers : Gathers P (edge s None) [] targets) where
     still : slice_get found place ≡ Some s
     still = x.found_kept place s at
 
     -- the target of an edge without a letter
-    pub target_joined : (new : List S) (new_groups : List ℕ) (n : ℕ) (t : S) → slice_get targets n ≡ Some t → Joins found new groups new_groups t (length steps)
+    pub target_joined : {new : List S} {new_groups : List ℕ} (n : ℕ) (t : S) → slice_get targets n ≡ Some t → Joins found new groups new_groups t (length steps)
         → Joined P start edge found groups steps place new new_groups t
-    target_joined new new_groups n t there joins =
+    target_joined n t there joins =
         let l = slice_get_within found place s still in
-        joined P start edge found groups steps place e (omega arith) new new_groups t (is_edge (gathers.only t (contains_at targets t n there))).0
+        joined e (omega arith) t (is_edge (gathers.only t (contains_at targets t n there))).0
         (λ u spells. reached_silently start edge s t (reverse u) (reached u spells) (is_edge (gathers.only t (contains_at targets t n there))).1) joins
       where
         is_edge : Contains [] t ⊎ (P t × edge s None t) → P t × edge s None t
@@ -116,7 +115,7 @@ module _ {S : Type 0} (P start : S → Type 0) (edge : S → Option ℕ → S �
     pub targets_found : (n : ℕ) → length targets ≤ n → AreFound found groups (length steps) targets n → Reached P start edge found groups steps (place + 1)
     targets_found n all there =
         subst (Reached P start edge found groups steps) (let e : suc place ≡ place + 1 = omega arith in e)
-        (closed_more P start edge found groups steps place e (let l = slice_get_within found place s still in omega arith)
+        (closed_more e (let l = slice_get_within found place s still in omega arith)
         (λ t r here goes.
         let same : s ≡ t = same_Some s t (sym still ∙ here) in
         let p = place_of targets r (gathers.all r (subst (λ y. edge y None r) (sym same) goes)) in
@@ -132,7 +131,7 @@ in_order_sorted {S} pending sorted i j a b r s l at there =
     omega (arith, ap (λ (x : ℕ × S). x.0) first, ap (λ (x : ℕ × S). x.0) second, up)
 
 -- the gathering of a group
-module _ {S : Type 0} (P : S → Type 0) (edge : S → Option ℕ → S → Type 0) (goal : S → Bool) (found : List S) (groups : List ℕ) (group from : ℕ)
+module _ {S : Type 0} {P : S → Type 0} {edge : S → Option ℕ → S → Type 0} {goal : S → Bool} {found : List S} {groups : List ℕ} {group from : ℕ}
     (count : length groups ≡ length found) (rising : AreRising groups) (begins : BeginsAt groups from group) where
   pub gathered_none : AreStepsUpTo P edge goal found groups group from from []
   gathered_none = record {
@@ -144,7 +143,7 @@ module _ {S : Type 0} (P : S → Type 0) (edge : S → Option ℕ → S → Type
     no_goal = λ i s l m at. absurd (omega arith);
   }
 
-  module _ (place : ℕ) (pending : List (ℕ × S)) (e : AreStepsUpTo P edge goal found groups group from place pending) where
+  module _ {place : ℕ} {pending : List (ℕ × S)} (e : AreStepsUpTo P edge goal found groups group from place pending) where
     pub gathered_more : (new : List (ℕ × S)) (s : S) → slice_get found place ≡ Some s → slice_get groups place ≡ Some group → goal s ≡ false
         → Gathers {X = ℕ × S} (λ step. P step.1) (λ step. edge s (Some step.0) step.1) pending new → AreStepsUpTo P edge goal found groups group from (place + 1) new
     gathered_more new s at in_group no_goal gathers = record {
@@ -214,30 +213,30 @@ module _ {S : Type 0} (P : S → Type 0) (edge : S → Option ℕ → S → Type
         ]
 
 -- the taking of a group's steps
-module _ {S : Type 0} (P : S → Type 0) (edge : S → Option ℕ → S → Type 0) (goal : S → Bool) (found : List S) (groups : List ℕ) (from : ℕ)
-    (pending : List (ℕ × S)) (are : AreStepsOf P edge goal found groups from pending) (in_order : AreInOrder pending) where
+module _ {S : Type 0} (pending : List (ℕ × S)) (from : ℕ) where
   pub bounded_first : (steps : List (ℕ × ℕ)) → AreBefore steps from → AreBounded steps from pending 0
   bounded_first steps before i a r l at k p b there = inl (before k p b there)
 
-  pub before_bounded : (steps : List (ℕ × ℕ)) (a : ℕ) → IsBounded steps from a → AreBefore steps (from + 1)
-  before_bounded steps a bounded k p b at = elim (bounded k p b at) [ inl less ↦ omega arith | inr same ↦ let e = same.0 in omega arith ]
-
-  pub bounded_on : (steps : List (ℕ × ℕ)) (n a : ℕ) (r : S) → slice_get pending n ≡ Some (a, r) → IsBounded steps from a → AreBounded steps from pending (n + 1)
-  bounded_on steps n a r at bounded i b t l there k p c here =
+  pub bounded_on : AreInOrder pending → (steps : List (ℕ × ℕ)) (n a : ℕ) (r : S) → slice_get pending n ≡ Some (a, r) → IsBounded steps from a → AreBounded steps from pending (n + 1)
+  bounded_on in_order steps n a r at bounded i b t l there k p c here =
       let up = in_order n i a b r t (omega arith) at there in
       elim (bounded k p c here) [ inl less ↦ inl less | inr same ↦ inr (same.0, (let m = same.1 in omega arith)) ]
 
-  pub source_of : (new : List S) (new_groups : List ℕ) (steps new_steps : List (ℕ × ℕ)) (first : ℕ) → Extends found groups steps new new_groups new_steps first
-      → (n a : ℕ) (r : S) → slice_get pending n ≡ Some (a, r) → P r × ((s : S) × IsIn new new_groups s from × edge s (Some a) r)
-  source_of new new_groups steps new_steps first x n a r at =
-      let both = are.only a r (contains_at pending (a, r) n at) in
-      (both.0, (both.1.0, in_kept found new groups new_groups steps new_steps first x both.1.0 from both.1.1, both.1.2))
+pub before_bounded : (steps : List (ℕ × ℕ)) (from a : ℕ) → IsBounded steps from a → AreBefore steps (from + 1)
+before_bounded steps from a bounded k p b at = elim (bounded k p b at) [ inl less ↦ omega arith | inr same ↦ let e = same.0 in omega arith ]
 
--- a sort keeps the steps
-pub steps_sorted : {S : Type 0} (P : S → Type 0) (edge : S → Option ℕ → S → Type 0) (goal : S → Bool) (found : List S) (groups : List ℕ) (group : ℕ) (pending sorted : List (ℕ × S))
-    → IsPermutation pending sorted → AreStepsOf P edge goal found groups group pending → AreStepsOf P edge goal found groups group sorted
-steps_sorted P edge goal found groups group pending sorted moved are = record {
-  all = λ s r a there goes. Contains-permutation pending sorted (a, r) moved (are.all s r a there goes);
-  only = λ a r there. are.only a r (Contains-permutation sorted pending (a, r) (IsPermutation-sym pending sorted moved) there);
-  no_goal = are.no_goal;
-}
+module _ {S : Type 0} {P : S → Type 0} {edge : S → Option ℕ → S → Type 0} {goal : S → Bool} {found : List S} {groups : List ℕ} {from : ℕ} {pending : List (ℕ × S)}
+    (are : AreStepsOf P edge goal found groups from pending) where
+  pub source_of : {new : List S} {new_groups : List ℕ} {steps new_steps : List (ℕ × ℕ)} {first : ℕ} → Extends found groups steps new new_groups new_steps first
+      → (n a : ℕ) (r : S) → slice_get pending n ≡ Some (a, r) → P r × ((s : S) × IsIn new new_groups s from × edge s (Some a) r)
+  source_of x n a r at =
+      let both = are.only a r (contains_at pending (a, r) n at) in
+      (both.0, (both.1.0, in_kept x both.1.0 from both.1.1, both.1.2))
+
+  -- a sort keeps the steps
+  pub steps_sorted : (sorted : List (ℕ × S)) → IsPermutation pending sorted → AreStepsOf P edge goal found groups from sorted
+  steps_sorted sorted moved = record {
+    all = λ s r a there goes. Contains-permutation pending sorted (a, r) moved (are.all s r a there goes);
+    only = λ a r there. are.only a r (Contains-permutation sorted pending (a, r) (IsPermutation-sym pending sorted moved) there);
+    no_goal = are.no_goal;
+  }

@@ -59,39 +59,35 @@ module _ {S : Type 0} where
       by (inr new) (inl old_group) = absurd (let l = slice_get_within groups i g old_group in let e = new.0 in omega arith)
       by (inr new) (inr new_group) = inr (new.1, new_group.1)
 
-  extends-refl : (found : List S) (groups : List ℕ) (steps : List (ℕ × ℕ)) (first : ℕ) → Extends found groups steps found groups steps first
-  extends-refl found groups steps first = record {
+  pub extends-nothing : {found : List S} {groups : List ℕ} {steps : List (ℕ × ℕ)} {first : ℕ} → Extends found groups steps found groups steps first
+  extends-nothing = record {
     found_kept = λ i s h. h;
     groups_kept = λ i g h. h;
     steps_kept = λ k e h. h;
     later = λ i g h. inl h;
   }
 
-  pub extends-nothing : (found : List S) (groups : List ℕ) (steps : List (ℕ × ℕ)) (first : ℕ) → Extends found groups steps found groups steps first
-  extends-nothing = extends-refl
-
-  module _ (f1 f2 f3 : List S) (g1 g2 g3 : List ℕ) (s1 s2 s3 : List (ℕ × ℕ)) (first second : ℕ) where
+  module _ {f1 f2 f3 : List S} {g1 g2 g3 : List ℕ} {s1 s2 s3 : List (ℕ × ℕ)} {first second : ℕ} where
     pub extends-trans : Extends f1 g1 s1 f2 g2 s2 first → Extends f2 g2 s2 f3 g3 s3 second → first ≤ second → Extends f1 g1 s1 f3 g3 s3 first
     extends-trans x y le = record {
       found_kept = λ i s h. y.found_kept i s (x.found_kept i s h);
       groups_kept = λ i g h. y.groups_kept i g (x.groups_kept i g h);
       steps_kept = λ k e h. y.steps_kept k e (x.steps_kept k e h);
-      later = λ i g h. by i g (y.later i g h);
+      later = λ i g h. elim (y.later i g h) [
+        | inl old ↦ x.later i g old
+        | inr new ↦ inr (let l = kept_longer g1 g2 x.groups_kept in let m = new.0 in let n = new.1 in (omega arith, omega arith))
+      ];
     }
-      where
-        by : (i g : ℕ) → (slice_get g2 i ≡ Some g) ⊎ ((length g2 ≤ i) × (second ≤ g)) → (slice_get g1 i ≡ Some g) ⊎ ((length g1 ≤ i) × (first ≤ g))
-        by i g (inl old) = x.later i g old
-        by i g (inr new) = inr (let l = kept_longer g1 g2 x.groups_kept in let m = new.0 in let n = new.1 in (omega arith, omega arith))
 
-  pub extends-weaker : (f1 f2 : List S) (g1 g2 : List ℕ) (s1 s2 : List (ℕ × ℕ)) (first second : ℕ) → Extends f1 g1 s1 f2 g2 s2 first → second ≤ first → Extends f1 g1 s1 f2 g2 s2 second
-  extends-weaker f1 f2 g1 g2 s1 s2 first second x le = record {
+  extends-weaker : {f1 f2 : List S} {g1 g2 : List ℕ} {s1 s2 : List (ℕ × ℕ)} {first second : ℕ} → Extends f1 g1 s1 f2 g2 s2 first → second ≤ first → Extends f1 g1 s1 f2 g2 s2 second
+  extends-weaker x le = record {
     found_kept = x.found_kept;
     groups_kept = x.groups_kept;
     steps_kept = x.steps_kept;
     later = λ i g h. elim (x.later i g h) [ inl old ↦ inl old | inr new ↦ inr (new.0, (let n = new.1 in omega arith)) ];
   }
 
-  module _ (found new : List S) (groups new_groups : List ℕ) (steps new_steps : List (ℕ × ℕ)) (first : ℕ) (x : Extends found groups steps new new_groups new_steps first) where
+  module _ {found new : List S} {groups new_groups : List ℕ} {steps new_steps : List (ℕ × ℕ)} {first : ℕ} (x : Extends found groups steps new new_groups new_steps first) where
     pub in_kept : (s : S) (g : ℕ) → IsIn found groups s g → IsIn new new_groups s g
     in_kept s g (i, at, in_group) = (i, x.found_kept i s at, x.groups_kept i g in_group)
 
@@ -109,8 +105,8 @@ module _ {S : Type 0} where
             let same : there.0 ≡ s = same_Some there.0 s (sym (x.found_kept i there.0 there.1) ∙ at) in
             (i, subst (λ y. slice_get found i ≡ Some y) same there.1, old)
 
-    pub begins_kept : (place : ℕ) → BeginsAt groups place first → BeginsAt new_groups place first
-    begins_kept place begins = record {
+    pub begins_kept : {place : ℕ} → BeginsAt groups place first → BeginsAt new_groups place first
+    begins_kept begins = record {
       within = (let l = kept_longer groups new_groups x.groups_kept in let w = begins.within in omega arith);
       before = λ i g l h. elim (x.later i g h) [ inl old ↦ begins.before i g l old | inr late ↦ absurd (let w = begins.within in let m = late.0 in omega arith) ];
       after = λ i g l h. elim (x.later i g h) [ inl old ↦ begins.after i g l old | inr late ↦ late.1 ];
@@ -124,7 +120,7 @@ pub record Joined {S : Type 0} (P start : S → Type 0) (edge : S → Option ℕ
   pub there : (h : ℕ) × IsIn new new_groups s h × (h ≤ length steps)
 
 -- one more state at the end, in the last group
-module _ {S : Type 0} (P start : S → Type 0) (edge : S → Option ℕ → S → Type 0) (found : List S) (groups : List ℕ) (steps : List (ℕ × ℕ)) (closed : ℕ)
+module _ {S : Type 0} {P start : S → Type 0} {edge : S → Option ℕ → S → Type 0} {found : List S} {groups : List ℕ} {steps : List (ℕ × ℕ)} {closed : ℕ}
     (e : Reached P start edge found groups steps closed) (closed_within : closed ≤ length found) where
   module _ (more : List (ℕ × ℕ)) (are : AreSteps (steps ++ more)) (in_last : (i g : ℕ) → closed ≤ i → slice_get groups i ≡ Some g → g ≡ length (steps ++ more))
       (s : S) (valid : P s) (reached : (u : List ℕ) → Spells (steps ++ more) u (length (steps ++ more)) → IsReached start edge s (reverse u)) where
@@ -196,21 +192,21 @@ module _ {S : Type 0} (P start : S → Type 0) (edge : S → Option ℕ → S �
           (slice_get-push groups (length (steps ++ more))),
     )
 
-  pub joined : (new : List S) (new_groups : List ℕ) (s : S) → P s → ((u : List ℕ) → Spells steps u (length steps) → IsReached start edge s (reverse u))
+  pub joined : {new : List S} {new_groups : List ℕ} (s : S) → P s → ((u : List ℕ) → Spells steps u (length steps) → IsReached start edge s (reverse u))
       → Joins found new groups new_groups s (length steps) → Joined P start edge found groups steps closed new new_groups s
-  joined new new_groups s valid reached (inl old) =
+  joined {new = new} {new_groups = new_groups} s valid reached (inl old) =
       subst (λ xs. Joined P start edge found groups steps closed xs new_groups s) (sym old.same_found)
       (subst (λ ys. Joined P start edge found groups steps closed found ys s) (sym old.same_groups)
       (record {
         reached = e;
-        extends = extends-nothing found groups steps (length steps);
+        extends = extends-nothing;
         there = (
             let within = slice_get_within found old.place s old.at in
             let group = slice_get-some groups old.place (let c = e.count in omega arith) in
             (group.0, (old.place, old.at, group.1), e.owned old.place group.0 group.1)
             );
       }))
-  joined new new_groups s valid reached (inr fresh) =
+  joined {new = new} {new_groups = new_groups} s valid reached (inr fresh) =
       let whole : steps ++ [] ≡ steps = append-nil steps in
       let are = subst AreSteps (sym whole) e.are_steps in
       let in_last : (i g : ℕ) → closed ≤ i → slice_get groups i ≡ Some g → g ≡ length (steps ++ []) = λ i g l h. e.in_last i g l h ∙ ap length (sym whole) in
@@ -244,7 +240,7 @@ module _ {S : Type 0} (P start : S → Type 0) (edge : S → Option ℕ → S �
           (to.0, to.1, (let m = to.2 in omega arith))
 
 -- one more step from a group
-module _ (steps : List (ℕ × ℕ)) (are : AreSteps steps) (from letter : ℕ) (within : from ≤ length steps) (bounded : IsBounded steps from letter) where
+module _ {steps : List (ℕ × ℕ)} (are : AreSteps steps) {from letter : ℕ} (within : from ≤ length steps) (bounded : IsBounded steps from letter) where
   module _ (fresh : IsLast steps from letter → ⊥) where
     earlier : (k p b : ℕ) → slice_get steps k ≡ Some (p, b) → IsEarlier (p, b) from letter
     earlier k p b at = by (cases_eq (suc k) (length steps)) (bounded k p b at)
@@ -332,12 +328,12 @@ module _ (steps : List (ℕ × ℕ)) (are : AreSteps steps) (from letter : ℕ) 
       inr (k, refl, e.0.0, e.0.1, e.1, bounded k e.0.0 e.0.1 e.1)
 
 -- a state that is found by a step
-module _ {S : Type 0} (P start : S → Type 0) (edge : S → Option ℕ → S → Type 0) (found : List S) (groups : List ℕ) (steps : List (ℕ × ℕ))
+module _ {S : Type 0} {P start : S → Type 0} {edge : S → Option ℕ → S → Type 0} {found : List S} {groups : List ℕ} {steps : List (ℕ × ℕ)}
     (e : Reached P start edge found groups steps (length found)) (from letter : ℕ) (within : from ≤ length steps) (bounded : IsBounded steps from letter)
     (s : S) (valid : P s) (source : (t : S) × IsIn found groups t from × edge t (Some letter) s) where
   module _ (new_steps : List (ℕ × ℕ)) (last : HasLastStep steps new_steps from letter) where
-    more : (x : List (ℕ × ℕ)) × (new_steps ≡ steps ++ x) × Stepped steps e.are_steps from letter within bounded x
-    more = stepped steps e.are_steps from letter within bounded new_steps last
+    more : (x : List (ℕ × ℕ)) × (new_steps ≡ steps ++ x) × Stepped {steps = steps} e.are_steps {from = from} {letter = letter} within bounded x
+    more = stepped e.are_steps within bounded new_steps last
 
     in_last : (i g : ℕ) → length found ≤ i → slice_get groups i ≡ Some g → g ≡ length (steps ++ more.0)
     in_last i g l at = absurd (let m = slice_get_within groups i g at in let c = e.count in omega arith)
@@ -361,15 +357,13 @@ module _ {S : Type 0} (P start : S → Type 0) (edge : S → Option ℕ → S �
         (subst (λ ys. Found (found ++ s ∷ []) ys) (sym group_added)
         (record {
           reached = subst (λ k. Reached P start edge (found ++ s ∷ []) (groups ++ length k ∷ []) k (length found)) (sym more.1)
-              (grown P start edge found groups steps (length found) e (omega arith) more.0 more.2.are_steps in_last s valid is_reached);
+              (grown e (omega arith) more.0 more.2.are_steps in_last s valid is_reached);
           extends = subst (λ k. Extends found groups steps (found ++ s ∷ []) (groups ++ length k ∷ []) k (suc from)) (sym more.1)
-              (extends-weaker found (found ++ s ∷ []) groups (groups ++ length (steps ++ more.0) ∷ []) steps (steps ++ more.0) (length (steps ++ more.0)) (suc from)
-              (grown_extends P start edge found groups steps (length found) e (omega arith) more.0 more.2.are_steps in_last s valid is_reached)
-              (let a = more.2.above in omega arith));
+              (extends-weaker (grown_extends e (omega arith) more.0 more.2.are_steps in_last s valid is_reached) (let a = more.2.above in omega arith));
           above = subst (λ k. suc from ≤ length k) (sym more.1) (let a = more.2.above in omega arith);
           bounded_still = subst (λ k. IsBounded k from letter) (sym more.1) more.2.bounded_still;
           there = subst (λ k. IsIn (found ++ s ∷ []) (groups ++ length k ∷ []) s (length k)) (sym more.1)
-              (grown_in P start edge found groups steps (length found) e (omega arith) more.0 more.2.are_steps in_last s valid is_reached);
+              (grown_in e (omega arith) more.0 more.2.are_steps in_last s valid is_reached);
           not_after = subst (λ k. IsNotAfter k (length k) from letter) (sym more.1) more.2.not_after;
         }))
 
@@ -377,19 +371,19 @@ module _ {S : Type 0} (P start : S → Type 0) (edge : S → Option ℕ → S �
   pub found_old : (i : ℕ) → slice_get found i ≡ Some s → (h : ℕ) × IsIn found groups s h × IsNotAfter steps h from letter
   found_old i at =
       let group = slice_get-some groups i (let l = slice_get_within found i s at in let c = e.count in omega arith) in
-      (group.0, (i, at, group.1), not_after_bounded steps e.are_steps from letter within bounded group.0 (e.owned i group.0 group.1))
+      (group.0, (i, at, group.1), not_after_bounded e.are_steps within bounded group.0 (e.owned i group.0 group.1))
 
 -- all steps of a group were taken
-module _ {S : Type 0} (P start : S → Type 0) (edge : S → Option ℕ → S → Type 0) (goal : S → Bool) (found new : List S) (groups new_groups : List ℕ) (steps new_steps : List (ℕ × ℕ)) (from : ℕ)
-    (count : length groups ≡ length found) (d : Done start edge goal found groups steps from) (pending : List (ℕ × S)) (are : AreStepsOf P edge goal found groups from pending)
+module _ {S : Type 0} {P start : S → Type 0} {edge : S → Option ℕ → S → Type 0} {goal : S → Bool} {found new : List S} {groups new_groups : List ℕ} {steps new_steps : List (ℕ × ℕ)} {from : ℕ}
+    (count : length groups ≡ length found) (d : Done start edge goal found groups steps from) {pending : List (ℕ × S)} (are : AreStepsOf P edge goal found groups from pending)
     (x : Extends found groups steps new new_groups new_steps (suc from))
     (taken : (a : ℕ) (r : S) → Contains pending (a, r) → (h : ℕ) × IsIn new new_groups r h × IsNotAfter new_steps h from a) where
   old_one : (s : S) (g : ℕ) → IsIn new new_groups s g → g < suc from → IsIn found groups s g
-  old_one s g there l = in_old found new groups new_groups steps new_steps (suc from) x count s g there l
+  old_one s g there l = in_old x count s g there l
 
   pub done_more : Done start edge goal new new_groups new_steps (suc from)
   done_more = record {
-    starts = λ s begins. in_kept found new groups new_groups steps new_steps (suc from) x s 0 (d.starts s begins);
+    starts = λ s begins. in_kept x s 0 (d.starts s begins);
     done = λ s r g a there l goes. done s r g a (old_one s g there l) l goes (cases_eq g from);
     inside = λ s g there l. inside s g (old_one s g there l) l (cases_eq g from);
   }
@@ -400,7 +394,7 @@ module _ {S : Type 0} (P start : S → Type 0) (edge : S → Option ℕ → S �
           (to.0, to.1, subst (λ k. IsNotAfter new_steps to.0 k a) (sym same) to.2)
       done s r g a there l goes (inr other) =
           let to = d.done s r g a there (omega arith) goes in
-          (to.0, in_kept found new groups new_groups steps new_steps (suc from) x r to.0 to.1, not_after_kept found new groups new_groups steps new_steps (suc from) x to.0 g a to.2)
+          (to.0, in_kept x r to.0 to.1, not_after_kept x to.0 g a to.2)
 
       inside : (s : S) (g : ℕ) → IsIn found groups s g → g < suc from → (g ≡ from) ⊎ (g ≡ from → ⊥) → goal s ≡ false
       inside s g there l (inl same) = are.no_goal s (subst (IsIn found groups s) same there)

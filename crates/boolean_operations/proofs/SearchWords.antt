@@ -90,7 +90,7 @@ onto-reverse (a ∷ w) x =
     ∙ sym (append_assoc (reverse w) (a ∷ []) x)
     ∙ ap (λ y. y ++ x) (sym (reverse-append (a ∷ []) w))
 
-module _ {S : Type 0} (P start : S → Type 0) (edge : S → Option ℕ → S → Type 0) (goal : S → Bool) (found : List S) (groups : List ℕ) (steps : List (ℕ × ℕ)) (next : ℕ)
+module _ {S : Type 0} {P start : S → Type 0} {edge : S → Option ℕ → S → Type 0} {goal : S → Bool} {found : List S} {groups : List ℕ} {steps : List (ℕ × ℕ)} {next : ℕ}
     (e : Reached P start edge found groups steps (length found)) (d : Done start edge goal found groups steps next) where
   within_steps : (s : S) (g : ℕ) → IsIn found groups s g → g ≤ length steps
   within_steps s g (i, at, in_group) = e.owned i g in_group

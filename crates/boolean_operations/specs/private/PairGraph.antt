@@ -39,14 +39,20 @@ is_goal_pair n m wanted pair = is_accepting n.states pair.0 && is_wanted wanted 
 abbrev pub IsWordOfPairs : NondeterministicAutomaton → Automaton → Bool → List ℕ → Type 0
 IsWordOfPairs n m wanted w = Accepts n w × (accepts m w ≡ wanted)
 
--- what the first k starts or edges become
-abbrev pub IsStartAmong : Automaton → List ℕ → ℕ → ℕ × Option ℕ → Type 0
-IsStartAmong m starts k s = (i : ℕ) × (i < k) × (slice_get starts i ≡ Some s.0) × (s.1 ≡ start_of m.states)
+-- one of the first k elements leads to y
+pub record IsAmong {X Y : Type 0} (leads : X → Y → Type 0) (xs : List X) (k : ℕ) (y : Y) : Type 0 where
+  pub place : ℕ
+  pub below : place < k
+  pub source : X
+  pub at : slice_get xs place ≡ Some source
+  pub goes : leads source y
 
-abbrev pub IsSilentAmong : List Bool → Option ℕ → List (Option ℕ × ℕ) → ℕ → ℕ × Option ℕ → Type 0
-IsSilentAmong flags q edges k r = (i : ℕ) × (i < k) × (slice_get edges i ≡ Some (None, r.0)) × (r.1 ≡ q) × (slice_index_or flags r.0 false ≡ false)
+-- what a start becomes, and an edge without a letter and with one
+abbrev pub StartsAt : Automaton → ℕ → ℕ × Option ℕ → Type 0
+StartsAt m p s = (p ≡ s.0) × (s.1 ≡ start_of m.states)
 
-abbrev pub IsStepAmong : List Bool → Automaton → Option ℕ → List (Option ℕ × ℕ) → ℕ → ℕ × (ℕ × Option ℕ) → Type 0
-IsStepAmong flags m q edges k step =
-    (i : ℕ) × (i < k) × (slice_get edges i ≡ Some (Some step.0, step.1.0)) × (step.1.1 ≡ follow m q step.0)
-    × (slice_index_or flags step.1.0 false ≡ false)
+abbrev pub LeadsSilently : List Bool → Option ℕ → Option ℕ × ℕ → ℕ × Option ℕ → Type 0
+LeadsSilently flags q edge r = (edge ≡ (None, r.0)) × (r.1 ≡ q) × (slice_index_or flags r.0 false ≡ false)
+
+abbrev pub LeadsByLetter : List Bool → Automaton → Option ℕ → Option ℕ × ℕ → ℕ × (ℕ × Option ℕ) → Type 0
+LeadsByLetter flags m q edge step = (edge ≡ (Some step.0, step.1.0)) × (step.1.1 ≡ follow m q step.0) × (slice_index_or flags step.1.0 false ≡ false)

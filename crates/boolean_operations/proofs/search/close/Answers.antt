@@ -7,19 +7,16 @@ pub states-init : goal.states-init
 states-init g c = record {
   within = c.requires.within;
   reached = c.requires.before;
-  extends = extends-nothing c.args.found.now.states.items c.args.groups.now.items c.args.steps.now (length c.args.steps.now);
+  extends = extends-nothing;
 }
 
 pub states-preserved : goal.states-preserved
 states-preserved g c =
-    let steps = c.args.steps.now in
     let y = c.in_ok-close_state.ensures in
     record {
       within = omega (arith, kept_longer c.states.found.states.items c.close_state.new.found.states.items y.extends.found_kept, c.states-test.true, c.len.ensures);
       reached = y.reached;
-      extends = extends-trans c.args.found.now.states.items c.states.found.states.items c.close_state.new.found.states.items
-          c.args.groups.now.items c.states.groups.items c.close_state.new.groups.items steps steps steps
-          (length steps) (length steps) c.states.invariant.extends y.extends (omega arith);
+      extends = extends-trans c.states.invariant.extends y.extends (omega arith);
     }
 
 pub returns-clause-reached : goal.returns-clause-reached

@@ -1,4 +1,4 @@
-use Rattle.std.proofs.Common.{◌≡◌, [], Some, None, length, slice_get, refl, sym, subst, arith}
+use Rattle.std.proofs.Common.{[], None, length, refl, sym, subst, arith}
 use Rattle.std.proofs.lemmas.Option.{slice_get_read}
 use Rattle.boolean_operations.specs.private.Search.{Gathers}
 use Rattle.boolean_operations.proofs.SearchSteps.{extends-trans}
@@ -7,43 +7,29 @@ use Rattle.boolean_operations.proofs.search.close_state.Goals as goal
 
 pub targets-preserved : goal.targets-preserved
 targets-preserved g c =
-    let graph = c.args.graph.now in
+    let found = c.args.found.now.states.items in
     let t = g.T.Graph in
-    let steps = c.args.steps.now in
-    let state = c.index.result.now in
     let targets = c.deref-target-items.result.now in
-    let at : slice_get c.args.found.now.states.items c.args.place ≡ Some state =
-    slice_get_read c.args.found.now.states.items (length c.args.found.now.states.items) c.args.place state refl c.requires.within c.index.ensures in
-    let there : slice_get targets c.targets.target-index ≡ Some c.target-item.result =
-    slice_get_read targets (length targets) c.targets.target-index c.target-item.result refl (omega (arith, c.targets-test.true)) c.target-item.is in
+    let i = c.targets.target-index in
+    let at = slice_get_read found (length found) c.args.place c.index.result.now refl c.requires.within c.index.ensures in
+    let there = slice_get_read targets (length targets) i c.target-item.result refl (omega (arith, c.targets-test.true)) c.target-item.is in
     let x = c.targets.invariant in
-    let y = target_joined (t.is_state graph) (t.is_start graph) (t.edge graph) steps c.args.place c.args.found.now.states.items c.targets.found.states.items
-    c.args.groups.now.items c.targets.groups.items
-    x.reached c.requires.within x.extends
-    state at targets (subst (Gathers (t.is_state graph) (t.edge graph state None) []) (sym c.deref-target-items.ensures.value) c.in_ok-targets.ensures) c.join.new.found.states.items
-    c.join.new.groups.items c.targets.target-index _ there c.in_ok-join.ensures in
+    let y = target_joined x.reached c.requires.within x.extends c.index.result.now at targets
+    (subst (Gathers (t.is_state c.args.graph.now) (t.edge c.args.graph.now c.index.result.now None) []) (sym c.deref-target-items.ensures.value) c.in_ok-targets.ensures)
+    i c.target-item.result there c.in_ok-join.ensures in
     record {
       reached = y.reached;
-      extends = extends-trans c.args.found.now.states.items c.targets.found.states.items c.join.new.found.states.items
-          c.args.groups.now.items c.targets.groups.items c.join.new.groups.items steps steps steps
-          (length steps) (length steps) x.extends y.extends (omega arith);
-      there = are_found_more c.join.new.found.states.items c.join.new.groups.items (length steps) targets c.targets.target-index _ there
-          (are_found_kept c.targets.found.states.items c.join.new.found.states.items c.targets.groups.items c.join.new.groups.items steps steps (length steps) (length steps) y.extends targets
-          c.targets.target-index x.there) y.there;
+      extends = extends-trans x.extends y.extends (omega arith);
+      there = are_found_more c.join.new.found.states.items c.join.new.groups.items (length c.args.steps.now) targets i c.target-item.result there
+          (are_found_kept y.extends (length c.args.steps.now) targets i x.there) y.there;
     }
 
 pub returns-clause-reached : goal.returns-clause-reached
 returns-clause-reached g c =
-    let graph = c.args.graph.now in
+    let found = c.args.found.now.states.items in
     let t = g.T.Graph in
-    let steps = c.args.steps.now in
-    let state = c.index.result.now in
-    let targets = c.deref-target-items.result.now in
-    let at : slice_get c.args.found.now.states.items c.args.place ≡ Some state =
-    slice_get_read c.args.found.now.states.items (length c.args.found.now.states.items) c.args.place state refl c.requires.within c.index.ensures in
+    let at = slice_get_read found (length found) c.args.place c.index.result.now refl c.requires.within c.index.ensures in
     let x = c.targets.invariant in
-    targets_found (t.is_state graph) (t.is_start graph) (t.edge graph) steps c.args.place c.args.found.now.states.items c.targets.found.states.items
-    c.args.groups.now.items c.targets.groups.items x.reached
-    c.requires.within x.extends
-    state at targets (subst (Gathers (t.is_state graph) (t.edge graph state None) []) (sym c.deref-target-items.ensures.value) c.in_ok-targets.ensures) c.targets.target-index
-    (omega (arith, c.targets-test.false)) x.there
+    targets_found x.reached c.requires.within x.extends c.index.result.now at c.deref-target-items.result.now
+    (subst (Gathers (t.is_state c.args.graph.now) (t.edge c.args.graph.now c.index.result.now None) []) (sym c.deref-target-items.ensures.value) c.in_ok-targets.ensures)
+    c.targets.target-index (omega (arith, c.targets-test.false)) x.there

@@ -59,7 +59,7 @@ expand-requires-clause-pending g c =
     subst (λ ys. IsGathered (t.is_state graph) (t.edge graph) (t.goal graph) found ys group c.gather.new.pending.items (Some c.in-Some.end)) c.deref.ensures.value
     (subst (IsGathered (t.is_state graph) (t.edge graph) (t.goal graph) found c.deref.result.now group c.gather.new.pending.items) c.in-Some.is c.in_ok-end.ensures) in
     subst (AreStepsOf (t.is_state graph) (t.edge graph) (t.goal graph) found groups group) (sym c.deref-in-groups.ensures.value)
-    (steps_sorted (t.is_state graph) (t.edge graph) (t.goal graph) found groups group c.gather.new.pending.items c.sort.new.pending.items c.in_ok-sort.ensures.permutation gathered.1)
+    (steps_sorted gathered.1 c.sort.new.pending.items c.in_ok-sort.ensures.permutation)
 
 pub groups-preserved : goal.groups-preserved
 groups-preserved g c =
@@ -75,8 +75,7 @@ groups-preserved g c =
     record {
       reached = y.reached;
       done = y.done;
-      begins = begins_kept found c.expand.new.found.states.items groups c.expand.new.groups.items c.groups.steps.items c.expand.new.steps.items (group + 1) y.extends c.in-Some.end
-          (subst (BeginsAt groups c.in-Some.end) (let e : suc group ≡ group + 1 = omega arith in e) gathered.0);
+      begins = begins_kept y.extends (subst (BeginsAt groups c.in-Some.end) (let e : suc group ≡ group + 1 = omega arith in e) gathered.0);
       before = y.before;
     }
 
@@ -93,13 +92,8 @@ returns-in_default g c =
     let word = c.in_ok-word_of.field-0.items in
     let spells = subst (λ k. Spells k (reverse word) group) c.deref-in_default.ensures.value c.in_ok-word_of.ensures in
     subst (IsLeastWord (IsFound (t.is_start graph) (t.edge graph) (t.goal graph))) (reverse-reverse word)
-    (least_found (t.is_state graph) (t.is_start graph) (t.edge graph) (t.goal graph) found groups c.groups.steps.items group c.groups.invariant.reached c.groups.invariant.done
-    gathered.0 gathered.1 gathered.2 (reverse word) spells)
+    (least_found c.groups.invariant.reached c.groups.invariant.done gathered.0 gathered.1 gathered.2 (reverse word) spells)
 
 pub returns : goal.returns
 returns g c =
-    let t = g.T.Graph in
-    let graph = c.args.graph.now in
-    nothing_found (t.is_state graph) (t.is_start graph) (t.edge graph) (t.goal graph) c.groups.found.states.items c.groups.groups.items c.groups.steps.items c.groups.group
-    c.groups.invariant.reached c.groups.invariant.done
-    (omega (arith, c.groups-test.false, c.len.ensures, c.groups.steps.ok.0))
+    nothing_found c.groups.invariant.reached c.groups.invariant.done (omega (arith, c.groups-test.false, c.len.ensures, c.groups.steps.ok.0))

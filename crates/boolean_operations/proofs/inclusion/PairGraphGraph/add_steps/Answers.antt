@@ -4,7 +4,7 @@ use Rattle.std.proofs.lemmas.Option.{slice_get_read}
 use Rattle.word_automata.specs.Path.{edges_of}
 use Rattle.word_automata.specs.Automaton.{HasIncreasingLetters, find_target}
 use Rattle.boolean_operations.specs.private.Search.{Gathers}
-use Rattle.boolean_operations.specs.private.PairGraph.{IsPair, IsStepAmong}
+use Rattle.boolean_operations.specs.private.PairGraph.{IsPair, IsAmong, LeadsByLetter}
 use Rattle.boolean_operations.proofs.OptionalStates.{edges_at-increasing, follow-edges}
 use Rattle.boolean_operations.proofs.PairWalks.{gathers_none, step_more, step_other, steps_all}
 use Rattle.boolean_operations.proofs.ReadEdges.{read_at, read_all}
@@ -16,8 +16,9 @@ pub edges-init : goal.edges-init
 edges-init g c =
     let n = g.A.FiniteAutomaton.automaton c.args.self.now.left.now in
     let m = c.args.self.now.right.now in
-    gathers_none {X = ℕ × (ℕ × Option ℕ)} (λ step. IsPair n m step.1) (IsStepAmong c.args.self.now.dead.now m c.args.state.now.1 (edges_of n.states c.args.state.now.0) 0) c.args.steps.now.items
-    (λ x is. let l = is.1 in omega arith)
+    gathers_none {X = ℕ × (ℕ × Option ℕ)} (λ step. IsPair n m step.1) (IsAmong (LeadsByLetter c.args.self.now.dead.now m c.args.state.now.1) (edges_of n.states c.args.state.now.0) 0)
+    c.args.steps.now.items
+    (λ x is. let l = is.below in omega arith)
 
 -- the move that is read
 is_read : (g : Over) (c : After-read-letter g)
@@ -39,7 +40,7 @@ edges-preserved g c =
     let to = c.read-letter.result.1 in
     elim c.match-letter.branch [
       | in-Some+in_ok-push w ↦
-          subst (Gathers {X = ℕ × (ℕ × Option ℕ)} (λ step. IsPair n m step.1) (IsStepAmong flags m q (edges_of n.states p) (k + 1)) c.args.steps.now.items)
+          subst (Gathers {X = ℕ × (ℕ × Option ℕ)} (λ step. IsPair n m step.1) (IsAmong (LeadsByLetter flags m q) (edges_of n.states p) (k + 1)) c.args.steps.now.items)
           (sym (ap (λ steps. steps.items) w.steps-is ∙ w.in_ok-push.ensures.items))
           (step_more n m flags c.requires.0 c.requires.1 p q c.requires.3 c.args.steps.now.items c.edges.steps.items k w.in-Some.letter to
           w.seek-target.result.0
@@ -47,7 +48,8 @@ edges-preserved g c =
           (is_read g (goal.at.edges-preserved g c).After-read-letter ∙ ap (λ (l : Option ℕ). Some (l, to)) w.in-Some.is)
           (sym c.has_flag.ensures ∙ c.if-has_flag.false) c.edges.invariant)
       | in_default w ↦
-          subst (Gathers {X = ℕ × (ℕ × Option ℕ)} (λ step. IsPair n m step.1) (IsStepAmong flags m q (edges_of n.states p) (k + 1)) c.args.steps.now.items) (sym (ap (λ steps. steps.items) w.steps-is))
+          subst (Gathers {X = ℕ × (ℕ × Option ℕ)} (λ step. IsPair n m step.1) (IsAmong (LeadsByLetter flags m q) (edges_of n.states p) (k + 1)) c.args.steps.now.items)
+          (sym (ap (λ steps. steps.items) w.steps-is))
           (step_other n m flags c.requires.0 c.requires.1 p q c.requires.3 c.args.steps.now.items c.edges.steps.items k None to
           (is_read g (goal.at.edges-preserved g c).After-read-letter ∙ ap (λ (l : Option ℕ). Some (l, to)) w.in_default.is)
           (λ a is. absurd (no_letter a is)) c.edges.invariant)

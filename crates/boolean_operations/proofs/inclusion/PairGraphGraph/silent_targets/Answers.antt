@@ -4,7 +4,7 @@ use Rattle.std.proofs.lemmas.Bool.{true≢false}
 use Rattle.std.proofs.lemmas.Option.{slice_get_read}
 use Rattle.word_automata.specs.Path.{edges_of}
 use Rattle.boolean_operations.specs.private.Search.{Gathers}
-use Rattle.boolean_operations.specs.private.PairGraph.{IsPair, IsSilentAmong}
+use Rattle.boolean_operations.specs.private.PairGraph.{IsPair, IsAmong, LeadsSilently}
 use Rattle.sequence.proofs.ForCallers.{none_from_test}
 use Rattle.boolean_operations.proofs.PairWalks.{gathers_none, silent_more, silent_other, silent_all}
 use Rattle.boolean_operations.proofs.ReadEdges.{read_at, read_all}
@@ -18,8 +18,8 @@ edges-init g c =
     let m = c.args.self.now.right.now in
     let p = c.args.state.now.0 in
     let q = c.args.state.now.1 in
-    subst (Gathers (IsPair n m) (IsSilentAmong c.args.self.now.dead.now q (edges_of n.states p) 0) []) (sym c.new-targets.ensures.items)
-    (gathers_none (IsPair n m) (IsSilentAmong c.args.self.now.dead.now q (edges_of n.states p) 0) [] (λ x is. let l = is.1 in omega arith))
+    subst (Gathers (IsPair n m) (IsAmong (LeadsSilently c.args.self.now.dead.now q) (edges_of n.states p) 0) []) (sym c.new-targets.ensures.items)
+    (gathers_none (IsPair n m) (IsAmong (LeadsSilently c.args.self.now.dead.now q) (edges_of n.states p) 0) [] (λ x is. let l = is.below in omega arith))
 
 -- the move that is read
 is_read : (g : Over) (c : After-read-letter g)
@@ -38,7 +38,7 @@ edges-preserved g c =
     let q = c.args.state.now.1 in
     let to = c.read-letter.result.1 in
     let silent : c.read-letter.result.0 ≡ None = none_from_test c.read-letter.result.0 true (sym c.is_some.ensures ∙ c.if-is_some.false) refl in
-    subst (Gathers (IsPair n m) (IsSilentAmong c.args.self.now.dead.now q (edges_of n.states p) (c.edges.edge-index + 1)) []) (sym c.in_ok-push.ensures.items)
+    subst (Gathers (IsPair n m) (IsAmong (LeadsSilently c.args.self.now.dead.now q) (edges_of n.states p) (c.edges.edge-index + 1)) []) (sym c.in_ok-push.ensures.items)
     (silent_more n m c.args.self.now.dead.now c.requires.0 c.requires.1 p q c.requires.3 c.edges.targets.items c.edges.edge-index to
     (is_read g (goal.at.edges-preserved g c).After-read-letter ∙ ap (λ (l : Option ℕ). Some (l, to)) silent)
     (sym c.has_flag.ensures ∙ c.if-has_flag.false) c.edges.invariant)
