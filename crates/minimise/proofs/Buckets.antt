@@ -13,8 +13,8 @@ first_within least r h = elim (cases_lt r (length least)) [
 ]
 
 -- what comes before a first state in its bucket is less
-pub before_lower : (n : ℕ) (classes heads links least : List ℕ) → AreInBuckets n classes heads links least → (p : ℕ) → IsFirst least p → slice_index links p ≤ p
-before_lower n classes heads links least s p f = by (slice_index links p) refl
+pub before_lower : {n : ℕ} {classes heads links least : List ℕ} → AreInBuckets n classes heads links least → (p : ℕ) → IsFirst least p → slice_index links p ≤ p
+before_lower {links = links} s p f = by (slice_index links p) refl
   where
     by : (k : ℕ) → slice_index links p ≡ k → slice_index links p ≤ p
     by zero e = omega arith
@@ -46,7 +46,7 @@ module _ (least : List ℕ) (c q : ℕ) (count : length least ≡ q) where
   pub first_old : (c ≡ suc q → ⊥) → (r : ℕ) → IsFirst (least ++ c ∷ []) r → IsFirst least r
   first_old known r h = elim (first_before r h) [ inl new ↦ absurd (known new.1) | inr old ↦ old.1 ]
 
-  module _ (classes : List ℕ) (numbered : AreNumbered classes least) where
+  module _ {classes : List ℕ} (numbered : AreNumbered classes least) where
     pub numbered_more : (slice_index classes q ≡ 0 → c ≡ 0)
         → ((slice_index classes q ≡ 0 → ⊥) → (k : ℕ) × (c ≡ suc k) × (k ≤ q) × IsFirst (least ++ c ∷ []) k × (slice_index classes k ≡ slice_index classes q))
         → (c ≡ suc q → (r : ℕ) → IsFirst least r → slice_index classes r ≡ slice_index classes q → ⊥)
@@ -85,7 +85,7 @@ module _ (least : List ℕ) (c q : ℕ) (count : length least ≡ q) where
         one p r e (inr h) (inl k) = absurd (new k.1 p h.1 (e ∙ ap (slice_index classes) k.0))
         one p r e (inr h) (inr k) = numbered.one p r h.1 k.1 e
 
-  module _ (n : ℕ) (classes heads links : List ℕ) (s : AreInBuckets n classes heads links least) where
+  module _ {n : ℕ} {classes heads links : List ℕ} (s : AreInBuckets n classes heads links least) where
     pub buckets_same : (c ≡ suc q → ⊥) → AreInBuckets n classes heads links (least ++ c ∷ [])
     buckets_same known = record {
       some = s.some;
@@ -173,14 +173,6 @@ module _ (least : List ℕ) (c q : ℕ) (count : length least ≡ q) where
           subst (λ i. AreInBuckets (length (set heads i c)) classes (set heads i c) (set links q link) (least ++ c ∷ [])) (sym b)
           (subst (λ i. AreInBuckets (length (set heads own c)) classes (set heads own c) (set links q i) (least ++ c ∷ [])) (sym l)
           (subst (λ n. AreInBuckets n classes heads_more links_more (least ++ c ∷ [])) (sym (length-set heads own c ∙ s.heads_count)) buckets_more))
-
--- at first there is no state
-pub numbered_none : (classes least : List ℕ) → least ≡ [] → AreNumbered classes least
-numbered_none classes least e = record {
-  dead = λ r l z. absurd (let c = ap length e in omega arith);
-  live = λ r l ne. absurd (let c = ap length e in omega arith);
-  one = λ p r f g same. absurd (let c = ap length e in let l = first_within least p f in omega arith);
-}
 
 pub buckets_none : (classes heads links least : List ℕ) → least ≡ [] → 0 < length heads → ((b : ℕ) → slice_index heads b ≡ 0) → length links ≡ length classes
     → AreInBuckets (length heads) classes heads links least

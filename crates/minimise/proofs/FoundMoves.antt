@@ -18,9 +18,6 @@ pub record IsFinding (chains : Chains) (classes : List ℕ) (class : ℕ) (state
       → Contains old move ⊎ ((q : ℕ) × (slice_index classes q ≡ class) × IsInto chains q move)
 
 module _ (chains : Chains) (classes : List ℕ) (class : ℕ) (states : List ℕ) (old : List (ℕ × ℕ)) where
-  pub finding_none : IsFinding chains classes class states old old 0
-  finding_none = record { added = λ k move l. absurd (omega arith); only = λ move there. inl there }
-
   module _ (found : List (ℕ × ℕ)) (i : ℕ) (so_far : IsFinding chains classes class states old found i) where
     pub finding_same : (slice_index classes (slice_index states i) ≡ class → ⊥) → IsFinding chains classes class states old found (i + 1)
     finding_same other = record {
@@ -52,18 +49,6 @@ module _ (chains : Chains) (classes : List ℕ) (class : ℕ) (states : List ℕ
           (subst (λ x. IsInto chains x move) (sym is) into);
       only = so_far.only;
     }
-
--- no move leads into a class where none was found
-pub moves_none : (chains : Chains) (classes : List ℕ) (class : ℕ) (moves : List (ℕ × ℕ)) → moves ≡ []
-    → AreMovesInto chains classes class moves
-moves_none chains classes class moves none = record {
-  some = λ move there. absurd (nothing move there);
-  complete = λ move other q there. absurd (nothing other there);
-  sound = λ move there. absurd (nothing move there);
-}
-  where
-    nothing : (move : ℕ × ℕ) → Contains moves move → ⊥
-    nothing move there = Contains-none move (subst (λ xs. Contains xs move) none there)
 
 -- those into all states of the class, in any order
 pub moves_of : (chains : Chains) (classes : List ℕ) (class : ℕ) (states : List ℕ) (old found sorted : List (ℕ × ℕ)) → (class ≡ 0 → ⊥)

@@ -19,16 +19,6 @@ use Rattle.minimise.specs.private.BreadthFirst.{ArePlaces, NumbersLeast, AreExpl
 use Rattle.minimise.proofs.Refining.{index-zeros}
 use Rattle.minimise.proofs.LeastStates.{least_edge, least_state-is, least_successors, least_edge_more, no_edge_more}
 
--- no state has a place at first
-pub places_none : (n : ℕ) (found numbers : List ℕ) → found ≡ [] → numbers ≡ replicate n 0 → ArePlaces found numbers
-places_none n found numbers e f = record {
-  placed = λ r k h. absurd (let z : slice_index numbers r ≡ 0 = ap (λ xs. slice_index xs r) f ∙ index-zeros n r in omega arith);
-  numbered = λ k r h. absurd (nowhere k r (subst (λ ks. slice_get ks k ≡ Some r) e h));
-}
-  where
-    nowhere : (k r : ℕ) → slice_get {X = ℕ} [] k ≡ Some r → ⊥
-    nowhere k r h = cc
-
 module _ (found numbers : List ℕ) (places : ArePlaces found numbers) (state : ℕ) (free : slice_index numbers state ≡ 0) where
   -- a state without a place was not found
   pub not_found : (k : ℕ) → slice_get found k ≡ Some state → ⊥
@@ -66,22 +56,6 @@ module _ (found numbers : List ℕ) (places : ArePlaces found numbers) (state : 
       subst (λ ks. ArePlaces ks (set numbers state (number + 1))) (sym f)
       (subst (λ k. ArePlaces (found ++ state ∷ []) (set numbers state (k + 1))) (sym e) (places_more within))
 
-  pub numbers_new : (m : Automaton) (classes new : List ℕ) (before after : Automaton) (number : ℕ) (flag : Bool) → flag ≡ is_accepting m.states state
-      → number ≡ length found → new ≡ found ++ state ∷ [] → after ≡ with_state before flag → NumbersLeast m classes found new before after state number
-  numbers_new m classes new before after number flag f e g h = inr (record {
-    flag = flag;
-    flag_is = (λ t. sym f ∙ t, λ t. f ∙ t);
-    absent = not_found;
-    found = g;
-    automaton = h;
-    number_is = e;
-  })
-
--- a state with a place has its number
-pub numbers_known : (m : Automaton) (classes found numbers : List ℕ) (built : Automaton) (state number : ℕ) → ArePlaces found numbers
-    → slice_index numbers state ≡ suc number → NumbersLeast m classes found found built built state number
-numbers_known m classes found numbers built state number places e = inl (record { same_found = refl; same_automaton = refl; at = places.placed state number e })
-
 -- what a deterministic system accepts starts with its start state
 starts : (t : DeterministicSystem ℕ) (o : Option ℕ) → t.start ≡ o → StartsWith (λ w. IsTrue (accepts_by t w)) (λ s w. IsTrue (accepts_by_from t s w)) o
 starts t None e = λ w h. true≢false (sym h ∙ ap (λ o. elim o as (λ o. Bool) [ None ↦ false | Some s ↦ accepts_by_from t s w ]) e)
@@ -107,11 +81,20 @@ rest_with classes edges i l o e =
     ap (filter_map (least_edge classes)) (drop_more edges i (0, 0) l)
     ∙ ap (λ o. cons_option (option_map (λ r. ((get_or edges i (0, 0)).0, r)) o) (filter_map (least_edge classes) (drop (i + 1) edges))) e
 
--- the first i edges of a least state that was found are gone through
+-- some edges of a least state that was found are gone through, and others are left
+abbrev AreGone : Automaton → List ℕ → List ℕ → Automaton → ℕ → List (ℕ × ℕ) → List (ℕ × ℕ) → Type 0
+AreGone m classes = Expands m.letters (λ w. IsTrue (accepts_by (quotient m classes) w)) (λ s w. IsTrue (accepts_by_from (quotient m classes) s w)) (IsLeastState m classes)
+
+-- its first i edges are
 abbrev pub AreFollowed : Automaton → List ℕ → List ℕ → Automaton → ℕ → List (ℕ × ℕ) → ℕ → Type 0
-AreFollowed m classes found built from edges i =
-    Expands m.letters (λ w. IsTrue (accepts_by (quotient m classes) w)) (λ s w. IsTrue (accepts_by_from (quotient m classes) s w)) (IsLeastState m classes)
-    found built from (filter_map (least_edge classes) (take i edges)) (filter_map (least_edge classes) (drop i edges))
+AreFollowed m classes found built from edges i = AreGone m classes found built from (filter_map (least_edge classes) (take i edges)) (filter_map (least_edge classes) (drop i edges))
+
+-- what holds of the edge that leads to a class, once the least state of the class has a number
+pub record IsNext (m : Automaton) (classes new : List ℕ) (after : Automaton) (from : ℕ) (edges : List (ℕ × ℕ)) (i number : ℕ) : Type 0 where
+  pub in_range : IsEdgeInRange after from (get_or edges i (0, 0)).0 number
+  pub absent : target after from (get_or edges i (0, 0)).0 ≡ None
+  pub last : (q a : ℕ) → from < q → target after q a ≡ None
+  pub followed : (more : Automaton) → AddsEdge after more from (get_or edges i (0, 0)).0 number → AreFollowed m classes new more from edges (i + 1)
 
 module _ (m : Automaton) (classes : List ℕ) (count : length classes ≡ length m.states) (least : HasLeastStates classes) (valid : IsValid m) where
   -- the least state of a class is there
@@ -124,15 +107,13 @@ module _ (m : Automaton) (classes : List ℕ) (count : length classes ≡ length
   nothing_begun found built e f g =
       subst (λ ks. AreExplored m classes ks built 0 []) (sym f)
       (subst (λ x. AreExplored m classes [] x 0 []) (sym g)
-      (begun_without m.letters (λ w. IsTrue (accepts_by (quotient m classes) w)) (λ s w. IsTrue (accepts_by_from (quotient m classes) s w)) (IsLeastState m classes)
-      (starts (quotient m classes) None (ap least_state e))))
+      (begun_without _ _ _ _ (starts (quotient m classes) None (ap least_state e))))
 
   -- with it the first number is given
   pub first_begun : (r number : ℕ) (old new : List ℕ) (before after : Automaton) → slice_index classes 0 ≡ suc r → old ≡ [] → before ≡ empty_automaton m.letters
       → NumbersLeast m classes old new before after r number → AreExplored m classes new after 0 []
   first_begun r number old new before after e f g numbers =
-      begun_numbered m.letters (λ w. IsTrue (accepts_by (quotient m classes) w)) (λ s w. IsTrue (accepts_by_from (quotient m classes) s w)) (IsLeastState m classes)
-      old new before after r number f g (starts (quotient m classes) (Some r) (ap least_state e)) (least_there 0 r e) numbers
+      begun_numbered _ _ _ _ old new before after r number f g (starts (quotient m classes) (Some r) (ap least_state e)) (least_there 0 r e) numbers
 
   pub none_followed : (found : List ℕ) (built : Automaton) (from state : ℕ) (edges : List (ℕ × ℕ)) → slice_get found from ≡ Some state
       → edges ≡ edges_of m.states state → AreExplored m classes found built from [] → AreFollowed m classes found built from edges 0
@@ -148,53 +129,36 @@ module _ (m : Automaton) (classes : List ℕ) (count : length classes ≡ length
   pub all_followed : (found : List ℕ) (built : Automaton) (from : ℕ) (edges : List (ℕ × ℕ)) (i : ℕ) → length edges ≤ i → AreFollowed m classes found built from edges i
       → AreExplored m classes found built (from + 1) []
   all_followed found built from edges i l followed =
+      let gone = filter_map (least_edge classes) (take i edges) in
       subst (λ n. AreExplored m classes found built n []) (sym (add-one from))
-      (expanded_all m.letters (λ w. IsTrue (accepts_by (quotient m classes) w)) (λ s w. IsTrue (accepts_by_from (quotient m classes) s w)) (IsLeastState m classes)
-      found built from (filter_map (least_edge classes) (take i edges))
-      (subst (λ xs. Expands m.letters (λ w. IsTrue (accepts_by (quotient m classes) w)) (λ s w. IsTrue (accepts_by_from (quotient m classes) s w)) (IsLeastState m classes)
-      found built from (filter_map (least_edge classes) (take i edges)) (filter_map (least_edge classes) xs)) (drop_all i edges l) followed))
+      (expanded_all _ _ _ _ found built from gone (subst (λ xs. AreGone m classes found built from gone (filter_map (least_edge classes) xs)) (drop_all i edges l) followed))
 
   module _ (found : List ℕ) (built : Automaton) (from : ℕ) (edges : List (ℕ × ℕ)) (i : ℕ) (l : i < length edges) (followed : AreFollowed m classes found built from edges i) where
+    abbrev gone : List (ℕ × ℕ)
+    gone = filter_map (least_edge classes) (take i edges)
+
+    abbrev left : List (ℕ × ℕ)
+    left = filter_map (least_edge classes) (drop (i + 1) edges)
+
     -- an edge to class 0 is none
     pub dead_followed : slice_index classes (get_or edges i (0, 0)).1 ≡ 0 → AreFollowed m classes found built from edges (i + 1)
     dead_followed e =
-        subst (λ xs. Expands m.letters (λ w. IsTrue (accepts_by (quotient m classes) w)) (λ s w. IsTrue (accepts_by_from (quotient m classes) s w)) (IsLeastState m classes)
-        found built from xs (filter_map (least_edge classes) (drop (i + 1) edges)))
-        (no_edge_more classes edges i l (filter_map (least_edge classes) (take i edges)) refl (sym (ap least_state e)))
-        (subst (λ xs. Expands m.letters (λ w. IsTrue (accepts_by (quotient m classes) w)) (λ s w. IsTrue (accepts_by_from (quotient m classes) s w)) (IsLeastState m classes)
-        found built from (filter_map (least_edge classes) (take i edges)) xs) (rest_with classes edges i l None (ap least_state e)) followed)
+        subst (λ xs. AreGone m classes found built from xs left) (no_edge_more classes edges i l gone refl (sym (ap least_state e)))
+        (subst (AreGone m classes found built from gone) (rest_with classes edges i l None (ap least_state e)) followed)
 
-    module _ (r number : ℕ) (new : List ℕ) (after : Automaton) (e : slice_index classes (get_or edges i (0, 0)).1 ≡ suc r)
-        (numbers : NumbersLeast m classes found new built after r number) where
-      at_edge : Expands m.letters (λ w. IsTrue (accepts_by (quotient m classes) w)) (λ s w. IsTrue (accepts_by_from (quotient m classes) s w)) (IsLeastState m classes)
-          found built from (filter_map (least_edge classes) (take i edges)) (((get_or edges i (0, 0)).0, r) ∷ filter_map (least_edge classes) (drop (i + 1) edges))
-      at_edge =
-          subst (λ xs. Expands m.letters (λ w. IsTrue (accepts_by (quotient m classes) w)) (λ s w. IsTrue (accepts_by_from (quotient m classes) s w)) (IsLeastState m classes)
-          found built from (filter_map (least_edge classes) (take i edges)) xs) (rest_with classes edges i l (Some r) (ap least_state e)) followed
-
-      pub edge_may_be : IsEdgeInRange after from (get_or edges i (0, 0)).0 number
-      edge_may_be = edge_in_range m.letters (λ w. IsTrue (accepts_by (quotient m classes) w)) (λ s w. IsTrue (accepts_by_from (quotient m classes) s w)) (IsLeastState m classes)
-          found built from (filter_map (least_edge classes) (take i edges)) (filter_map (least_edge classes) (drop (i + 1) edges)) (get_or edges i (0, 0)).0 r at_edge
-          new after number numbers
-
-      pub edge_is_new : target after from (get_or edges i (0, 0)).0 ≡ None
-      edge_is_new = none_after m.letters (λ w. IsTrue (accepts_by (quotient m classes) w)) (λ s w. IsTrue (accepts_by_from (quotient m classes) s w)) (IsLeastState m classes)
-          found built from (filter_map (least_edge classes) (take i edges)) (filter_map (least_edge classes) (drop (i + 1) edges)) (get_or edges i (0, 0)).0 r at_edge
-          new after number numbers
-
-      pub edge_is_last : (q a : ℕ) → from < q → target after q a ≡ None
-      edge_is_last = none_later m.letters (λ w. IsTrue (accepts_by (quotient m classes) w)) (λ s w. IsTrue (accepts_by_from (quotient m classes) s w)) (IsLeastState m classes)
-          found built from (filter_map (least_edge classes) (take i edges)) (filter_map (least_edge classes) (drop (i + 1) edges)) (get_or edges i (0, 0)).0 r at_edge
-          new after number numbers
-
-      pub edge_followed : (more : Automaton) → AddsEdge after more from (get_or edges i (0, 0)).0 number → AreFollowed m classes new more from edges (i + 1)
-      edge_followed more adds =
-          subst (λ xs. Expands m.letters (λ w. IsTrue (accepts_by (quotient m classes) w)) (λ s w. IsTrue (accepts_by_from (quotient m classes) s w)) (IsLeastState m classes)
-          new more from xs (filter_map (least_edge classes) (drop (i + 1) edges)))
-          (least_edge_more classes edges i l (filter_map (least_edge classes) (take i edges)) refl r (sym (ap least_state e)))
-          (expanded m.letters (λ w. IsTrue (accepts_by (quotient m classes) w)) (λ s w. IsTrue (accepts_by_from (quotient m classes) s w)) (IsLeastState m classes)
-          found built from (filter_map (least_edge classes) (take i edges)) (filter_map (least_edge classes) (drop (i + 1) edges)) (get_or edges i (0, 0)).0 r at_edge
-          new after number numbers more adds)
+    pub edge_next : (r number : ℕ) (new : List ℕ) (after : Automaton) → slice_index classes (get_or edges i (0, 0)).1 ≡ suc r
+        → NumbersLeast m classes found new built after r number → IsNext m classes new after from edges i number
+    edge_next r number new after e numbers =
+        let letter = (get_or edges i (0, 0)).0 in
+        let at_edge : AreGone m classes found built from gone ((letter, r) ∷ left) =
+        subst (AreGone m classes found built from gone) (rest_with classes edges i l (Some r) (ap least_state e)) followed in
+        record {
+          in_range = edge_in_range _ _ _ _ found built from gone left letter r at_edge new after number numbers;
+          absent = none_after _ _ _ _ found built from gone left letter r at_edge new after number numbers;
+          last = none_later _ _ _ _ found built from gone left letter r at_edge new after number numbers;
+          followed = λ more adds. subst (λ xs. AreGone m classes new more from xs left) (least_edge_more classes edges i l gone refl r (sym (ap least_state e)))
+              (expanded _ _ _ _ found built from gone left letter r at_edge new after number numbers more adds);
+        }
 
 same_truth : (a b : Bool) → (IsTrue a ↔ IsTrue b) → a ≡ b
 same_truth true b h = sym (h.0 refl)
@@ -202,22 +166,16 @@ same_truth false true h = h.1 refl
 same_truth false false h = refl
 
 -- when every least state that was found has its edges
-module _ (m : Automaton) (classes found : List ℕ) (built : Automaton) (next : ℕ) (explored : AreExplored m classes found built next []) (all : length found ≤ next) where
+module _ {m : Automaton} {classes found : List ℕ} {built : Automaton} {next : ℕ} (explored : AreExplored m classes found built next []) (all : length found ≤ next) where
   pub built_language : (w : List ℕ) → accepts built w ≡ accepts_by (quotient m classes) w
-  built_language w =
-      same_truth (accepts built w) (accepts_by (quotient m classes) w)
-      (finished_language m.letters (λ w. IsTrue (accepts_by (quotient m classes) w)) (λ s w. IsTrue (accepts_by_from (quotient m classes) s w)) (IsLeastState m classes)
-      found built next explored all w)
+  built_language w = same_truth (accepts built w) (accepts_by (quotient m classes) w) (finished_language _ _ _ _ found built next explored all w)
 
   pub built_breadth_first : IsBreadthFirst built
-  built_breadth_first =
-      finished_breadth_first m.letters (λ w. IsTrue (accepts_by (quotient m classes) w)) (λ s w. IsTrue (accepts_by_from (quotient m classes) s w)) (IsLeastState m classes)
-      found built next explored all
+  built_breadth_first = finished_breadth_first _ _ _ _ found built next explored all
 
   pub built_states : StandsFor (quotient m classes) (IsLeastState m classes) built
   built_states =
-      let stands = finished_states m.letters (λ w. IsTrue (accepts_by (quotient m classes) w)) (λ s w. IsTrue (accepts_by_from (quotient m classes) s w)) (IsLeastState m classes)
-      found built next explored all in
+      let stands = finished_states _ _ _ _ found built next explored all in
       record {
         found = stands.found;
         count = stands.count;

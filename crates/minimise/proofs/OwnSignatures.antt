@@ -1,23 +1,12 @@
 -- Signatures without a class: of numbers that are no state, and of states whose class is stable.
-use Rattle.std.proofs.Common.{◌≡◌, ◌<◌, ◌≤◌, ℕ, zero, suc, List, length, replicate, slice_index, refl, sym, ap, ◌∙◌, inl, inr, arith}
+use Rattle.std.proofs.Common.{◌≡◌, ◌<◌, ◌≤◌, ℕ, zero, suc, List, length, slice_index, refl, sym, ap, ◌∙◌, inl, inr, arith}
 use Rattle.std.proofs.lemmas.Bool.{cases_lt}
 use Rattle.std.proofs.lemmas.List.{get_or_past}
 use Rattle.word_automata.specs.Automaton.{Automaton}
 use Rattle.word_automata.proofs.ForCallers.{is_accepting-past}
 use Rattle.minimise.specs.Refinement.{no_word}
-use Rattle.minimise.specs.private.Rounds.{AreToldApart, outgoing, IsLikeLeast, AreAlike}
+use Rattle.minimise.specs.private.Rounds.{outgoing, IsLikeLeast, AreAlike}
 use Rattle.minimise.proofs.Edges.{live_edges_past}
-use Rattle.minimise.proofs.Refining.{index-zeros}
-
--- at first all states are in class 0
-pub apart_first : (m : Automaton) (classes : List ℕ) → classes ≡ replicate (length m.states) 0 → length classes ≡ length m.states → AreToldApart m classes
-apart_first m classes e count = record {
-  count = count;
-  told_apart = λ p q ne. absurd (ne (zero_at p ∙ sym (zero_at q)));
-}
-  where
-    zero_at : (q : ℕ) → slice_index classes q ≡ 0
-    zero_at q = ap (λ xs. slice_index xs q) e ∙ index-zeros (length m.states) q
 
 -- a number that is no state has the signature of no word
 pub outgoing-past : (m : Automaton) (classes : List ℕ) (q : ℕ) → length m.states ≤ q → outgoing m classes q ≡ no_word

@@ -48,9 +48,6 @@ module _ {K : Type 0} (key : ℕ → K) (none : K) (decide : (s t : K) → (s �
     pub known : (s : K) (c : ℕ) → firsts s ≡ Some c → (r : ℕ) × (c ≡ suc r) × (r < q) × (key r ≡ s)
     pub done : (r : ℕ) → r < q → HasClass firsts finer r
 
-  pub splitting_none : (firsts : K → Option ℕ) → ((s : K) → firsts s ≡ None) → (finer : List ℕ) → finer ≡ [] → IsSplitting firsts finer 0
-  splitting_none firsts empty finer e = record { count = ap length e; known = λ s c h. let n = empty s in cc; done = λ r l. absurd (omega arith) }
-
   module _ (firsts more : K → Option ℕ) (finer : List ℕ) (q c : ℕ) (s : IsSplitting firsts finer q) where
     -- classes that were found stay
     kept_class : ((t : K) (k : ℕ) → firsts t ≡ Some k → more t ≡ Some k) → (r : ℕ) → r < q → HasClass more (finer ++ c ∷ []) r

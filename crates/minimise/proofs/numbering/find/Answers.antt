@@ -23,5 +23,5 @@ pub firsts-smaller : goal.firsts-smaller
 firsts-smaller c =
     let t = c.firsts-test.true in
     let first = c.firsts.invariant.in_bucket (c.firsts.number - 1) (omega arith) in
-    let lower = before_lower (length c.args.heads.now) c.args.classes.now c.args.heads.now c.args.links.now c.args.least.now c.requires.buckets (c.firsts.number - 1) first.0 in
+    let lower = before_lower c.requires.buckets (c.firsts.number - 1) first.0 in
     omega arith
