@@ -29,8 +29,14 @@ pub record IsDecoded (s : SystemData) (word : List ℕ) (index offset : ℕ) (li
 pub decoded_none : (s : SystemData) (word : List ℕ) → IsDecoded s word 0 0 [] (Some word)
 decoded_none s word = record { counted = zero-add (total_letters s.sections); onward = λ later h. h; only = λ all h. (all, (refl, h)) }
 
-module _ (s : SystemData) (word : List ℕ) (index offset : ℕ) (lists : List (List ℕ)) (rest : Option (List ℕ)) (section : Section)
-    (within : index < length s.sections) (is : section ≡ get_or s.sections index section) (decoded : IsDecoded s word index offset lists rest) where
+module _ {s : SystemData} {word : List ℕ} {index offset : ℕ} {lists : List (List ℕ)} {rest : Option (List ℕ)} {section : Section} {items : List Section}
+    (same : items ≡ s.sections) (there : index < length items) (item : section ≡ get_or items index section) (decoded : IsDecoded s word index offset lists rest) where
+  within : index < length s.sections
+  within = subst (λ xs. index < length xs) same there
+
+  is : section ≡ get_or s.sections index section
+  is = subst (λ xs. section ≡ get_or xs index section) same item
+
   next : drop index s.sections ≡ section ∷ drop (index + 1) s.sections
   next = next_section s.sections index section within is
 
@@ -130,16 +136,16 @@ none_later s index offset past = record {
 }
 
 -- with the lists of all sections
-pub decoded_all : (s : SystemData) (word : List ℕ) (index offset : ℕ) (lists : List (List ℕ)) → length s.sections ≤ index
+pub decoded_all : {s : SystemData} {word : List ℕ} {index offset : ℕ} {lists : List (List ℕ)} → length s.sections ≤ index
     → IsDecoded s word index offset lists None → (lists_fit s.sections lists ≡ true) × (word ≡ joined (separator_of s) (raised_lists 0 s.sections lists))
-decoded_all s word index offset lists past decoded =
+decoded_all {s = s} {word = word} {index = index} {offset = offset} {lists = lists} past decoded =
     let all = subst (AreLater s 0 0 (Some word)) (append-nil lists) (decoded.onward [] (none_later s index offset past)) in
     (all.fitting, joined_is (separator_of s) word (raised_lists 0 s.sections lists) all.spelled)
 
 -- and no others
-pub decoded_only : (s : SystemData) (word : List ℕ) (index offset : ℕ) (lists : List (List ℕ)) (rest : Option (List ℕ)) → length s.sections ≤ index
+pub decoded_only : {s : SystemData} {word : List ℕ} {index offset : ℕ} {lists : List (List ℕ)} {rest : Option (List ℕ)} → length s.sections ≤ index
     → IsDecoded s word index offset lists rest → (all : List (List ℕ)) → AreLater s 0 0 (Some word) all → (all ≡ lists) × (rest ≡ None)
-decoded_only s word index offset lists rest past decoded all h =
+decoded_only {s = s} {index = index} {offset = offset} {lists = lists} {rest = rest} past decoded all h =
     let rests = decoded.only all h in
     let none = drop_all index s.sections past in
     let later = by rests.0 (subst (λ sections. lists_fit sections rests.0 ≡ true) none rests.1.1.fitting) in (

@@ -53,8 +53,14 @@ fitting_within section more lists index = by (drop index lists) refl
     by [] e h = absurd (true≢false (sym h))
     by (list ∷ later) e h = omega (arith, length-drop index lists, ap length e)
 
-module _ (s : SystemData) (lists : List (List ℕ)) (index offset : ℕ) (word : List ℕ) (section : Section)
-    (within : index < length s.sections) (is : section ≡ get_or s.sections index section) (encoded : IsEncoded s lists index offset word) where
+module _ {s : SystemData} {lists : List (List ℕ)} {index offset : ℕ} {word : List ℕ} {section : Section} {items : List Section}
+    (same : items ≡ s.sections) (there : index < length items) (item : section ≡ get_or items index section) (encoded : IsEncoded s lists index offset word) where
+  within : index < length s.sections
+  within = subst (λ xs. index < length xs) same there
+
+  is : section ≡ get_or s.sections index section
+  is = subst (λ xs. section ≡ get_or xs index section) same item
+
   fits_on : lists_fit (section ∷ drop (index + 1) s.sections) (drop index lists) ≡ true
   fits_on = subst (λ sections. lists_fit sections (drop index lists) ≡ true) (next_section s.sections index section within is) encoded.fitting
 
@@ -67,7 +73,10 @@ module _ (s : SystemData) (lists : List (List ℕ)) (index offset : ℕ) (word :
   counted_on =
       omega (arith, sum_by-drop_more letter_count s.sections index section within, ap letter_count is, encoded.counted)
 
-  module _ (list : List ℕ) (is_list : list ≡ get_or lists index list) where
+  module _ {list : List ℕ} {all : List (List ℕ)} (same_lists : all ≡ lists) (list_item : list ≡ get_or all index list) where
+    is_list : list ≡ get_or lists index list
+    is_list = subst (λ xs. list ≡ get_or xs index list) same_lists list_item
+
     next_list : drop index lists ≡ list ∷ drop (index + 1) lists
     next_list = drop_more lists index list list_within ∙ ap (λ x. x ∷ drop (index + 1) lists) (sym is_list)
 
@@ -96,9 +105,9 @@ module _ (s : SystemData) (lists : List (List ℕ)) (index offset : ℕ) (word :
         }
 
 -- with the lists of all sections
-pub encoded_all : (s : SystemData) (lists : List (List ℕ)) (index offset : ℕ) (word : List ℕ) → length s.sections ≤ index
+pub encoded_all : {s : SystemData} {lists : List (List ℕ)} {index offset : ℕ} {word : List ℕ} → length s.sections ≤ index
     → IsEncoded s lists index offset word → word ≡ joined (separator_of s) (raised_lists 0 s.sections lists)
-encoded_all s lists index offset word past encoded =
+encoded_all {s = s} {lists = lists} {index = index} {offset = offset} {word = word} past encoded =
     let separator = separator_of s in
     sym (
     encoded.spelled
@@ -116,11 +125,11 @@ lead_some separator zero h = absurd (omega arith)
 lead_some separator (suc index) h = refl
 
 -- the same, told by what was written
-pub encoded_next : (s : SystemData) (lists : List (List ℕ)) (index offset : ℕ) (word : List ℕ) (section : Section) → index < length s.sections
-    → section ≡ get_or s.sections index section → IsEncoded s lists index offset word → (list : List ℕ) → list ≡ get_or lists index list
+pub encoded_next : {s : SystemData} {lists : List (List ℕ)} {index offset : ℕ} {word : List ℕ} {section : Section} {items : List Section} → items ≡ s.sections → index < length items
+    → section ≡ get_or items index section → IsEncoded s lists index offset word → {list : List ℕ} {all : List (List ℕ)} → all ≡ lists → list ≡ get_or all index list
     → (begun after : List ℕ) (count : ℕ) → begun ≡ word ++ lead (separator_of s) index → after ≡ begun ++ raised offset list
     → count ≡ letter_count section → IsEncoded s lists (index + 1) (offset + count) after
-encoded_next s lists index offset word section within is encoded list is_list begun after count led raises counts =
+encoded_next {s = s} {lists = lists} {index = index} {offset = offset} {section = section} same there item encoded {list = list} same_lists list_item begun after count led raises counts =
     subst (λ n. IsEncoded s lists (index + 1) (offset + n) after) (sym counts)
     (subst (IsEncoded s lists (index + 1) (offset + letter_count section)) (sym (raises ∙ ap (λ xs. xs ++ raised offset list) led))
-    (encoded_more s lists index offset word section within is encoded list is_list))
+    (encoded_more same there item encoded same_lists list_item))

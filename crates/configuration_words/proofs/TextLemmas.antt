@@ -46,8 +46,14 @@ pub record IsWritten (s : SystemData) (lists : List (List ℕ)) (index : ℕ) (t
 pub written_none : (s : SystemData) (lists : List (List ℕ)) → lists_fit s.sections lists ≡ true → IsWritten s lists 0 []
 written_none s lists h = record { spelled = refl; fitting = h }
 
-module _ (s : SystemData) (lists : List (List ℕ)) (index : ℕ) (text : List ℕ) (section : Section)
-    (within : index < length s.sections) (is : section ≡ get_or s.sections index section) (written : IsWritten s lists index text) where
+module _ {s : SystemData} {lists : List (List ℕ)} {index : ℕ} {text : List ℕ} {section : Section} {items : List Section}
+    (same : items ≡ s.sections) (there : index < length items) (item : section ≡ get_or items index section) (written : IsWritten s lists index text) where
+  within : index < length s.sections
+  within = subst (λ xs. index < length xs) same there
+
+  is : section ≡ get_or s.sections index section
+  is = subst (λ xs. section ≡ get_or xs index section) same item
+
   fits_on : lists_fit (section ∷ drop (index + 1) s.sections) (drop index lists) ≡ true
   fits_on = subst (λ sections. lists_fit sections (drop index lists) ≡ true) (next_section s.sections index section within is) written.fitting
 
@@ -55,7 +61,10 @@ module _ (s : SystemData) (lists : List (List ℕ)) (index : ℕ) (text : List �
   pub list_within : index < length lists
   list_within = fitting_within section (drop (index + 1) s.sections) lists index fits_on
 
-  module _ (list : List ℕ) (is_list : list ≡ get_or lists index list) where
+  module _ {list : List ℕ} {all : List (List ℕ)} (same_lists : all ≡ lists) (list_item : list ≡ get_or all index list) where
+    is_list : list ≡ get_or lists index list
+    is_list = subst (λ xs. list ≡ get_or xs index list) same_lists list_item
+
     next_list : drop index lists ≡ list ∷ drop (index + 1) lists
     next_list = drop_more lists index list list_within ∙ ap (λ x. x ∷ drop (index + 1) lists) (sym is_list)
 

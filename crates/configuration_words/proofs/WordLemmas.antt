@@ -1,14 +1,14 @@
 -- Joined words, and lists of letters that are raised.
-use Rattle.std.proofs.Common.{◌≡◌, ◌<◌, ◌≤◌, ◌+◌, ℕ, true, List, [], ◌∷◌, ◌++◌, Option, None, Some, All, length, get_or, refl, sym, ap, subst, ◌∙◌}
-use Rattle.std.proofs.Common.{arith, nat_lt, ltb-true, ◌||◌, ◌==◌}
+use Rattle.std.proofs.Common.{◌≡◌, ◌<◌, ◌≤◌, ◌+◌, ℕ, true, List, [], ◌∷◌, ◌++◌, Option, None, Some, All, get_or, refl, sym, ap, subst, ◌∙◌}
+use Rattle.std.proofs.Common.{arith, nat_lt, ltb-true}
 use Rattle.std.specs.List.{list_all}
-use Rattle.std.proofs.lemmas.Bool.{and_parts, and_from}
-use Rattle.std.proofs.lemmas.List.{append-nil, length-map}
+use Rattle.std.proofs.lemmas.Bool.{and_parts}
+use Rattle.std.proofs.lemmas.List.{append-nil}
 use Rattle.std.proofs.lemmas.List.Sums.{AllPass-from_list_all}
 use Rattle.std.proofs.lemmas.Option.{same_Some}
 use Rattle.protocol_model.specs.declared.system.Section.{Section}
 use Rattle.protocol_model.specs.System.{letter_count}
-use Rattle.protocol_model.specs.Patterns.{list_fits, has_any_length}
+use Rattle.protocol_model.specs.Patterns.{list_fits}
 use Rattle.protocol_model.specs.Words.{raised, joined}
 use Rattle.configuration_words.specs.private.Cuts.{Lacks, IsCut}
 use Rattle.sequence.proofs.ForCallers.{cut_unique, no_cut}
@@ -95,19 +95,3 @@ fitting_below section list offset limit h fits = λ k d within.
     ltb-true (get_or list k d) (letter_count section)
     (AllPass-from_list_all (λ a. nat_lt a (letter_count section)) list (fitting_letters section list h) k d within) in
     omega arith
-
-length-raised : (offset : ℕ) (list : List ℕ) → length (raised offset list) ≡ length list
-length-raised offset list = length-map list (λ a. a + offset)
-
--- a list is raised to as many letters
-pub raised_length : (section : Section) (offset : ℕ) (letters list : List ℕ) → list_fits section list ≡ true → letters ≡ raised offset list
-    → (has_any_length section.kind || (length letters == 1)) ≡ true
-raised_length section offset letters list h e =
-    ap (λ n. has_any_length section.kind || (n == 1)) (ap length e ∙ length-raised offset list)
-    ∙ (and_parts (list_all (λ a. nat_lt a (letter_count section)) list) (has_any_length section.kind || (length list == 1)) h).1
-
-pub raised_fits : (section : Section) (offset : ℕ) (letters list : List ℕ) → list_all (λ a. nat_lt a (letter_count section)) list ≡ true
-    → (has_any_length section.kind || (length letters == 1)) ≡ true → letters ≡ raised offset list → list_fits section list ≡ true
-raised_fits section offset letters list below any e =
-    and_from (list_all (λ a. nat_lt a (letter_count section)) list) (has_any_length section.kind || (length list == 1)) below
-    (ap (λ n. has_any_length section.kind || (n == 1)) (sym (ap length e ∙ length-raised offset list)) ∙ any)

@@ -1,4 +1,4 @@
-use Rattle.std.proofs.Common.{◌≡◌, ◌<◌, ◌≤◌, ◌+◌, ◌^◌, ◌++◌, ◌∷◌, [], All, length, get_or, subst, sym, ap, ◌∙◌, arith}
+use Rattle.std.proofs.Common.{◌≡◌, ◌<◌, ◌≤◌, ◌+◌, ◌^◌, ◌++◌, ◌∷◌, [], All, length, subst, sym, ap, ◌∙◌, arith}
 use Rattle.std.proofs.lemmas.List.{append-nil}
 use Rattle.protocol_model.specs.Words.{raised, separator_of}
 use Rattle.configuration_words.proofs.WordLemmas.{fitting_below}
@@ -11,9 +11,6 @@ sections-preserved c =
     let s = c.args.system.now in
     let index = c.sections.index in
     let sections = c.as_slice-section-items.ensures ∙ ap (λ d. d.sections) c.system.view_is in
-    let within = subst (λ xs. index < length xs) sections c.sections-test.true in
-    let is = subst (λ xs. c.section-item.result ≡ get_or xs index c.section-item.result) sections c.section-item.is in
-    let is_list = subst (λ xs. c.index-lists-index.result ≡ get_or xs index c.index-lists-index.result) c.as_slice-lists.ensures c.index-lists-index.is in
     let begun : c.if-index-gt0.word.items ≡ c.sections.word.items ++ lead (separator_of s) index =
     elim c.if-index-gt0.branch [
       | then-index-gt0+in_ok-push w ↦
@@ -24,8 +21,8 @@ sections-preserved c =
           ap (λ v. v.items) w.word-is ∙ sym (append-nil c.sections.word.items)
           ∙ ap (λ xs. c.sections.word.items ++ xs) (sym (lead_none (separator_of s) index w.if-index-gt0.false))
     ] in
-    encoded_next s c.args.configuration.now.lists index c.sections.offset c.sections.word.items c.section-item.result within is c.sections.invariant
-    c.index-lists-index.result is_list c.if-index-gt0.word.items c.push_raised.new.word.items c.letter_count-offset.result begun
+    encoded_next sections c.sections-test.true c.section-item.is c.sections.invariant
+    c.as_slice-lists.ensures c.index-lists-index.is c.if-index-gt0.word.items c.push_raised.new.word.items c.letter_count-offset.result begun
     (c.in_ok-push_raised.ensures ∙ ap (λ xs. c.if-index-gt0.word.items ++ raised c.sections.offset xs) c.as_slice.ensures) c.letter_count-offset.ensures
 
 pub sections-init : goal.sections-init
@@ -35,47 +32,26 @@ sections-init c =
 
 pub bounds-lists-index : goal.bounds-lists-index
 bounds-lists-index c =
-    let s = c.args.system.now in
-    let lists = c.args.configuration.now.lists in
     let index = c.sections.index in
     let sections = c.as_slice-section-items.ensures ∙ ap (λ d. d.sections) c.system.view_is in
-    let within = subst (λ xs. index < length xs) sections c.sections-test.true in
-    let is = subst (λ xs. c.section-item.result ≡ get_or xs index c.section-item.result) sections c.section-item.is in
     subst (λ xs. index < length xs) (sym c.as_slice-lists.ensures)
-    (list_within s lists index c.sections.offset c.sections.word.items c.section-item.result within is c.sections.invariant)
+    (list_within sections c.sections-test.true c.section-item.is c.sections.invariant)
 
 pub push_raised-requires : goal.push_raised-requires
 push_raised-requires c =
-    let s = c.args.system.now in
-    let lists = c.args.configuration.now.lists in
-    let index = c.sections.index in
     let sections = c.as_slice-section-items.ensures ∙ ap (λ d. d.sections) c.system.view_is in
-    let within = subst (λ xs. index < length xs) sections c.sections-test.true in
-    let is = subst (λ xs. c.section-item.result ≡ get_or xs index c.section-item.result) sections c.section-item.is in
-    let is_list = subst (λ xs. c.index-lists-index.result ≡ get_or xs index c.index-lists-index.result) c.as_slice-lists.ensures c.index-lists-index.is in
-    let counted = counted_on s lists index c.sections.offset c.sections.word.items c.section-item.result within is c.sections.invariant in
-    let fitting = list_fitting s lists index c.sections.offset c.sections.word.items c.section-item.result within is c.sections.invariant c.index-lists-index.result is_list in
+    let counted = counted_on sections c.sections-test.true c.section-item.is c.sections.invariant in
+    let fitting = list_fitting sections c.sections-test.true c.section-item.is c.sections.invariant c.as_slice-lists.ensures c.index-lists-index.is in
     subst (λ xs. All (λ a. a + c.sections.offset < 2 ^ 32) xs) (sym c.as_slice.ensures)
     (fitting_below c.section-item.result c.index-lists-index.result c.sections.offset (2 ^ 32) fitting
     (omega (arith, counted, c.separator-separator.ensures.valid.limits.letters_limit)))
 
 pub overflow_add-offset : goal.overflow_add-offset
 overflow_add-offset c =
-    let s = c.args.system.now in
-    let lists = c.args.configuration.now.lists in
-    let index = c.sections.index in
     let sections = c.as_slice-section-items.ensures ∙ ap (λ d. d.sections) c.system.view_is in
-    let within = subst (λ xs. index < length xs) sections c.sections-test.true in
-    let is = subst (λ xs. c.section-item.result ≡ get_or xs index c.section-item.result) sections c.section-item.is in
-    omega (
-      arith,
-      counted_on s lists index c.sections.offset c.sections.word.items c.section-item.result within is c.sections.invariant,
-      c.letter_count-offset.ensures,
-      c.separator-separator.ensures.valid.limits.letters_limit,
-    )
+    omega (arith, counted_on sections c.sections-test.true c.section-item.is c.sections.invariant, c.letter_count-offset.ensures, c.separator-separator.ensures.valid.limits.letters_limit)
 
 pub returns : goal.returns
 returns c =
     let sections = c.as_slice-section-items.ensures ∙ ap (λ d. d.sections) c.system.view_is in
-    encoded_all c.args.system.now c.args.configuration.now.lists c.sections.index c.sections.offset c.sections.word.items
-    (subst (λ xs. length xs ≤ c.sections.index) sections c.sections-test.false) c.sections.invariant
+    encoded_all (subst (λ xs. length xs ≤ c.sections.index) sections c.sections-test.false) c.sections.invariant

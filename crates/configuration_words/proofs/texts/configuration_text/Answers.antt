@@ -1,4 +1,4 @@
-use Rattle.std.proofs.Common.{◌≡◌, ◌<◌, ◌≤◌, ◌++◌, All, length, get_or, subst, sym, ap, ◌∙◌}
+use Rattle.std.proofs.Common.{◌≡◌, ◌<◌, ◌≤◌, ◌++◌, All, length, subst, sym, ap, ◌∙◌}
 use Rattle.std.proofs.lemmas.List.{append-nil}
 use Rattle.protocol_model.specs.System.{IsValid, letter_count}
 use Rattle.configuration_words.specs.Texts.{part_text}
@@ -10,12 +10,8 @@ use Rattle.configuration_words.proofs.texts.configuration_text.Goals.{then-index
 
 pub sections-preserved : goal.sections-preserved
 sections-preserved c =
-    let s = c.args.system.now in
     let index = c.sections.index in
     let sections = c.as_slice-section-items.ensures ∙ ap (λ d. d.sections) c.system.view_is in
-    let within = subst (λ xs. index < length xs) sections c.sections-test.true in
-    let is = subst (λ xs. c.section-item.result ≡ get_or xs index c.section-item.result) sections c.section-item.is in
-    let is_list = subst (λ xs. c.index-lists-index.result ≡ get_or xs index c.index-lists-index.result) c.as_slice-lists.ensures c.index-lists-index.is in
     let begun : c.if-index-gt0.text.items ≡ c.sections.text.items ++ lead index =
     elim c.if-index-gt0.branch [
       | then-index-gt0+in_ok-extend_from_slice w ↦
@@ -25,8 +21,7 @@ sections-preserved c =
           ap (λ v. v.items) w.text-is ∙ sym (append-nil c.sections.text.items)
           ∙ ap (λ xs. c.sections.text.items ++ xs) (sym (lead_none index w.if-index-gt0.false))
     ] in
-    written_more s c.args.configuration.now.lists index c.sections.text.items c.section-item.result within is c.sections.invariant
-    c.index-lists-index.result is_list c.if-index-gt0.text.items c.push_part.new.text.items begun
+    written_more sections c.sections-test.true c.section-item.is c.sections.invariant c.as_slice-lists.ensures c.index-lists-index.is c.if-index-gt0.text.items c.push_part.new.text.items begun
     (c.in_ok-push_part.ensures ∙ ap (λ xs. c.if-index-gt0.text.items ++ part_text c.section-item.result xs) c.as_slice.ensures)
 
 pub returns-clause-read_back : goal.returns-clause-read_back
@@ -45,26 +40,16 @@ sections-init c =
 
 pub bounds-lists-index : goal.bounds-lists-index
 bounds-lists-index c =
-    let s = c.args.system.now in
-    let lists = c.args.configuration.now.lists in
     let index = c.sections.index in
     let sections = c.as_slice-section-items.ensures ∙ ap (λ d. d.sections) c.system.view_is in
-    let within = subst (λ xs. index < length xs) sections c.sections-test.true in
-    let is = subst (λ xs. c.section-item.result ≡ get_or xs index c.section-item.result) sections c.section-item.is in
     subst (λ xs. index < length xs) (sym c.as_slice-lists.ensures)
-    (list_within s lists index c.sections.text.items c.section-item.result within is c.sections.invariant)
+    (list_within sections c.sections-test.true c.section-item.is c.sections.invariant)
 
 pub push_part-requires : goal.push_part-requires
 push_part-requires c =
-    let s = c.args.system.now in
-    let lists = c.args.configuration.now.lists in
-    let index = c.sections.index in
     let sections = c.as_slice-section-items.ensures ∙ ap (λ d. d.sections) c.system.view_is in
-    let within = subst (λ xs. index < length xs) sections c.sections-test.true in
-    let is = subst (λ xs. c.section-item.result ≡ get_or xs index c.section-item.result) sections c.section-item.is in
-    let is_list = subst (λ xs. c.index-lists-index.result ≡ get_or xs index c.index-lists-index.result) c.as_slice-lists.ensures c.index-lists-index.is in
     subst (λ xs. All (λ a. a < letter_count c.section-item.result) xs) (sym c.as_slice.ensures)
-    (letters_below s lists index c.sections.text.items c.section-item.result within is c.sections.invariant c.index-lists-index.result is_list)
+    (letters_below sections c.sections-test.true c.section-item.is c.sections.invariant c.as_slice-lists.ensures c.index-lists-index.is)
 
 pub returns-clause-text : goal.returns-clause-text
 returns-clause-text c =
