@@ -1,5 +1,5 @@
 -- Words with a property, and the configurations that they are of.
-use Rattle.std.proofs.Common.{◌≡◌, ◌↔◌, ◌<◌, ℕ, Bool, List, All, IsTrue, refl, sym, subst, ◌∙◌}
+use Rattle.std.proofs.Common.{◌≡◌, ◌↔◌, ◌<◌, ℕ, Bool, List, Option, None, Some, MatchOption, All, IsTrue, refl, sym, subst, ◌∙◌}
 use Rattle.sequence.specs.WordOrder.{is_before, IsLeastWord}
 use Rattle.word_automata.specs.Automaton.{Automaton, accepts}
 use Rattle.word_automata.specs.Nondeterministic.{Accepts, as_nondeterministic}
@@ -12,12 +12,7 @@ use Rattle.protocol_model.specs.Words.{word_of, automata_letters}
 use Rattle.configuration_words.proofs.ForCallers.{word_of-in_range, word_of-injective}
 use Rattle.section_patterns.specs.ConfigurationWords.{IsWordOf, IsConfigurationWord}
 use Rattle.certificate_checker.specs.Answers.{IsLeastConfiguration, HasNone}
-
--- the words with the first property are those of the configurations with the second, which fit
-pub record AreWordsOf (s : SystemData) (P : List ℕ → Type 0) (Q : Configuration → Type 0) : Type 0 where
-  pub fitting : (c : Configuration) → Q c → IsTrue (fits s c)
-  pub spelled : (c : Configuration) → Q c → P (word_of s c)
-  pub read : (w : List ℕ) → P w → (c : Configuration) × Q c × (w ≡ word_of s c)
+use Rattle.certificate_checker.specs.private.Parts.{AreWordsOf}
 
 module _ (s : SystemData) (P : List ℕ → Type 0) (Q : Configuration → Type 0) (are : AreWordsOf s P Q) where
   pub none-of : ((w : List ℕ) → P w → ⊥) → HasNone Q
@@ -42,6 +37,13 @@ module _ (s : SystemData) (P : List ℕ → Type 0) (Q : Configuration → Type 
           subst Q is found.1,
           λ d has before. least.1 (word_of s d) (are.spelled d has) (subst (λ (x : List ℕ). IsTrue (is_before (word_of s d) x)) (sym spells) before),
         )
+
+-- a least word of a language is one of each language with the same words
+pub least-alike : {X : Type 0} (items : X → List ℕ) (P Q : List ℕ → Type 0) → ((w : List ℕ) → P w ↔ Q w) → (o : Option X)
+    → MatchOption o ((w : List ℕ) → P w → ⊥) (λ w. IsLeastWord P (items w))
+    → MatchOption o ((w : List ℕ) → Q w → ⊥) (λ w. IsLeastWord Q (items w))
+least-alike items P Q same None none = λ w is. none w ((same w).1 is)
+least-alike items P Q same (Some w) least = ((same (items w)).0 least.0, λ v is. least.1 v ((same v).1 is))
 
 -- of configurations that pass a test, whose words an automaton accepts, those with a second property of their words
 pub tested : (s : SystemData) (test : Configuration → Bool) → ((c : Configuration) → IsTrue (test c) → IsTrue (fits s c))

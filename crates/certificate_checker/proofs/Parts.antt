@@ -3,7 +3,7 @@ use Rattle.std.proofs.Common.{◌≡◌, ℕ, Bool, true, false, List, Option, N
 use Rattle.std.proofs.lemmas.Bool.{both_ways}
 use Rattle.sequence.specs.WordOrder.{IsLeastWord}
 use Rattle.word_automata.specs.Automaton.{Automaton, accepts}
-use Rattle.word_automata.specs.Nondeterministic.{NondeterministicAutomaton, Accepts}
+use Rattle.word_automata.specs.Nondeterministic.{NondeterministicAutomaton}
 use Rattle.transducers.specs.Transducer.{Transducer, Relates}
 use Rattle.protocol_model.specs.declared.system.Configuration.{Configuration}
 use Rattle.protocol_model.specs.System.{SystemData}
@@ -11,43 +11,38 @@ use Rattle.protocol_model.specs.Patterns.{fits, is_initial}
 use Rattle.protocol_model.specs.Steps.{IsStep}
 use Rattle.protocol_model.specs.Words.{word_of}
 use Rattle.step_compiler.specs.Rules.{IsRuleStep}
-use Rattle.image_preimage.specs.Images.{IsImage, IsPreimage}
 use Rattle.boolean_operations.specs.Inclusion.{IsOutside, IsIncluded}
-use Rattle.boolean_operations.specs.CommonWords.{IsCommonWord}
 use Rattle.configuration_words.proofs.ForCallers.{word_of-injective}
 use Rattle.certificate_checker.specs.Proof.{Proves}
 use Rattle.certificate_checker.specs.Answers.{IsMissing, IsHeld, IsExit, IsAcceptedBefore, HasNone}
-use Rattle.certificate_checker.specs.private.Parts.{IsBefore}
-use Rattle.certificate_checker.proofs.Least.{AreWordsOf}
+use Rattle.certificate_checker.specs.private.Parts.{AreWordsOf, IsReached, IsSource, IsBefore}
 
--- the words of the automaton before a word are those that it has in common with the preimage of this word alone
-module _ (t : Transducer) (m : Automaton) (word : List ℕ) (last : Automaton) (sources : NondeterministicAutomaton)
-    (is_last : (w : List ℕ) → IsTrue (accepts last w) ↔ (w ≡ word)) (preimage : (w : List ℕ) → Accepts sources w ↔ IsPreimage t last w) where
-  related : (w : List ℕ) → IsCommonWord sources m w → IsBefore t m word w
-  related w both =
-      let found = (preimage w).0 both.0 in
-      (subst (λ x. Relates t w x) ((is_last found.0).0 found.1) found.2, both.1)
-
-  common : (w : List ℕ) → IsBefore t m word w → IsCommonWord sources m w
-  common w before = ((preimage w).1 (word, (is_last word).1 refl, before.0), before.1)
-
-  pub least-before : {X : Type 0} (items : X → List ℕ) (o : Option X)
-      → MatchOption o ((w : List ℕ) → IsCommonWord sources m w → ⊥) (λ w. IsLeastWord (IsCommonWord sources m) (items w))
-      → MatchOption o ((w : List ℕ) → IsBefore t m word w → ⊥) (λ w. IsLeastWord (IsBefore t m word) (items w))
-  least-before items None none = λ w before. none w (common w before)
-  least-before items (Some w) least = (related (items w) least.0, λ v before. least.1 v (common v before))
+-- the sources of the one word that an automaton accepts are the words before it
+pub source-alike : (t : Transducer) (m : Automaton) (word : List ℕ) (last : Automaton) → ((w : List ℕ) → IsTrue (accepts last w) ↔ (w ≡ word))
+    → (w : List ℕ) → IsSource t m last w ↔ IsBefore t m word w
+source-alike t m word last is_last w = (
+  λ is. (subst (λ x. Relates t w x) ((is_last is.0.0).0 is.0.1) is.0.2, is.1),
+  λ is. ((word, (is_last word).1 refl, is.0), is.1),
+)
 
 pub none-outside : (n : NondeterministicAutomaton) (m : Automaton) → IsIncluded n m → (w : List ℕ) → IsOutside n m w → ⊥
 none-outside n m included w outside = both_ways (accepts m w) outside.1 (included w outside.0)
 
+-- where no word is outside, the inclusion says it in another form
+pub outside-or-none : {X : Type 0} (items : X → List ℕ) (n : NondeterministicAutomaton) (m : Automaton) (o : Option X)
+    → MatchOption o (IsIncluded n m) (λ w. IsLeastWord (IsOutside n m) (items w))
+    → MatchOption o ((w : List ℕ) → IsOutside n m w → ⊥) (λ w. IsLeastWord (IsOutside n m) (items w))
+outside-or-none items n m None included = none-outside n m included
+outside-or-none items n m (Some w) least = least
+
 module _ (s : SystemData) (m : Automaton) where
   module _ (r : ℕ) (t : Transducer) (compiled : (u w : List ℕ) → Relates t u w ↔ IsRuleStep s r u w) where
-    -- the words outside the automaton to which the rule leads are those of the configurations that are left
-    pub outside : (n : NondeterministicAutomaton) → ((w : List ℕ) → Accepts n w ↔ IsImage t m w) → AreWordsOf s (IsOutside n m) (IsExit s m r)
-    outside n image = record {
+    -- the refused words to which the rule leads from accepted ones are those of the configurations that are left
+    pub outside : AreWordsOf s (IsReached t m) (IsExit s m r)
+    outside = record {
       fitting = λ d left. left.1.1.1.fits_after;
       spelled = λ d left. (
-        (image (word_of s d)).1 (
+        (
           word_of s left.1.0,
           left.1.1.0,
           (compiled (word_of s left.1.0) (word_of s d)).1
@@ -56,7 +51,7 @@ module _ (s : SystemData) (m : Automaton) where
         left.0,
       );
       read = λ w out.
-          let found = (image w).0 out.0 in
+          let found = out.0 in
           let step : IsRuleStep s r found.0 w = (compiled found.0 w).0 found.2 in (
             step.new,
             (

@@ -4,13 +4,16 @@
 
 ghost use Rattle.std.specs.Prelude.{◌≡◌, ◌↔◌, ◌<◌, ℕ, List, All, IfOk, IsOk, MatchOption, length};
 ghost use Rattle.sequence.specs.WordOrder.{IsLeastWord};
+ghost use Rattle.word_automata.specs.Nondeterministic.{as_nondeterministic};
+ghost use Rattle.boolean_operations.specs.Inclusion.{IsOutside};
+ghost use Rattle.boolean_operations.specs.CommonWords.{IsCommonWord};
 ghost use Rattle.transducers.specs.Transducer.{Relates};
 ghost use Rattle.protocol_model.specs.Words.{automata_letters};
 ghost use Rattle.step_compiler.specs.Rules.{IsRuleStep};
 ghost use Rattle.section_patterns.specs.ConfigurationWords.{IsWordOf, IsConfigurationWord};
 ghost use Rattle.certificate_checker.specs.Answers.{IsAnswer, IsAutomatonAnswer, IsAnswerToRun, HasLetters, IsLeastConfiguration};
 ghost use Rattle.certificate_checker.specs.Answers.{IsMissing, IsHeld, IsExit, IsLeastExit, HasNone};
-ghost use Rattle.certificate_checker.specs.private.Parts.{IsBefore, IsLeastExitBy};
+ghost use Rattle.certificate_checker.specs.private.Parts.{AreWordsOf, IsReached, IsSource, IsBefore, IsLeastExitBy};
 
 use crate::answer::Answer;
 use boolean_operations::{included, least_common_word, single_word};
@@ -123,7 +126,23 @@ fn least_missing(
         (IsLeastConfiguration system.now (IsMissing system.now automaton.now))) }
 {
     let initial = initial_words(alloc, system)?;
-    let Some(word) = included(alloc, initial.as_dfa(), automaton)? else {
+    least_refused(alloc, system, initial.as_dfa(), automaton)
+}
+
+/// The least initial configuration that the automaton refuses, where the other one accepts the words of the initial ones.
+fn least_refused(
+    alloc: Global,
+    system: &System,
+    initial: &Dfa,
+    automaton: &Dfa,
+) -> Result<Option<Configuration>, AllocError>
+    requires letters { initial.now.letters ≡ automaton.now.letters }
+    requires words { AreWordsOf system.now (IsOutside (as_nondeterministic initial.now) automaton.now)
+        (IsMissing system.now automaton.now) }
+    ensures { IfOk result (λ found. MatchOption found (HasNone (IsMissing system.now automaton.now))
+        (IsLeastConfiguration system.now (IsMissing system.now automaton.now))) }
+{
+    let Some(word) = included(alloc, initial, automaton)? else {
         return Ok(None);
     };
     Ok(Some(configuration_of(alloc, system, word.as_slice())?))
@@ -140,7 +159,22 @@ fn least_held(
         (IsLeastConfiguration system.now (IsHeld system.now automaton.now))) }
 {
     let bad = bad_words(alloc, system)?;
-    let Some(word) = least_common_word(alloc, bad.as_dfa(), automaton)? else {
+    least_accepted(alloc, system, bad.as_dfa(), automaton)
+}
+
+/// The least bad configuration that the automaton accepts, where the other one accepts the words of the bad ones.
+fn least_accepted(
+    alloc: Global,
+    system: &System,
+    bad: &Dfa,
+    automaton: &Dfa,
+) -> Result<Option<Configuration>, AllocError>
+    requires letters { bad.now.letters ≡ automaton.now.letters }
+    requires words { AreWordsOf system.now (IsCommonWord (as_nondeterministic bad.now) automaton.now) (IsHeld system.now automaton.now) }
+    ensures { IfOk result (λ found. MatchOption found (HasNone (IsHeld system.now automaton.now))
+        (IsLeastConfiguration system.now (IsHeld system.now automaton.now))) }
+{
+    let Some(word) = least_common_word(alloc, bad, automaton)? else {
         return Ok(None);
     };
     Ok(Some(configuration_of(alloc, system, word.as_slice())?))
@@ -187,17 +221,62 @@ fn exit_by(
     ensures { IfOk result (λ found. MatchOption found (HasNone (IsExit system.now automaton.now rule))
         (λ exit. IsLeastExitBy system.now automaton.now rule exit.0 exit.1)) }
 {
-    let _rule = rule;
-    let reached = image_automaton(alloc, step, automaton)?;
-    let Some(target) = included(alloc, &reached, automaton)? else {
+    let Some(target) = least_reached(alloc, automaton, step)? else {
         return Ok(None);
     };
-    let Some(source) = least_before(alloc, automaton, step, target.as_slice())? else {
+    Ok(Some(exit_to(alloc, system, automaton, rule, step, target.as_slice())?))
+}
+
+/// The configuration of the word, the least refused one to which the rule leads from an accepted one, after the least of these.
+fn exit_to(
+    alloc: Global,
+    system: &System,
+    automaton: &Dfa,
+    rule: u32,
+    step: &Transducer,
+    target: &[u32],
+) -> Result<(Configuration, Configuration), AllocError>
+    requires automaton { automaton.now.letters ≡ automata_letters system.now }
+    requires step { step.now.letters ≡ automata_letters system.now }
+    requires compiled { (u w : List ℕ) → Relates step.now u w ↔ IsRuleStep system.now rule u w }
+    requires least { IsLeastWord (IsReached step.now automaton.now) target.now }
+    ensures { IfOk result (λ exit. IsLeastExitBy system.now automaton.now rule exit.0 exit.1) }
+{
+    let _rule = rule;
+    let Some(source) = least_before(alloc, automaton, step, target)? else {
         unreachable!();
     };
-    let before = configuration_of(alloc, system, source.as_slice())?;
-    let after = configuration_of(alloc, system, target.as_slice())?;
-    Ok(Some((before, after)))
+    both_configurations(alloc, system, source.as_slice(), target)
+}
+
+/// The configurations of two words, each of which is that of some configuration.
+fn both_configurations(
+    alloc: Global,
+    system: &System,
+    first: &[u32],
+    second: &[u32],
+) -> Result<(Configuration, Configuration), AllocError>
+    requires first { IsConfigurationWord system.now first.now }
+    requires second { IsConfigurationWord system.now second.now }
+    ensures { IfOk result (λ both. IsWordOf system.now first.now both.0 × IsWordOf system.now second.now both.1) }
+{
+    let first = configuration_of(alloc, system, first)?;
+    let second = configuration_of(alloc, system, second)?;
+    Ok((first, second))
+}
+
+/// The least word that the automaton refuses and to which the transducer relates one that it accepts.
+fn least_reached(
+    alloc: Global,
+    automaton: &Dfa,
+    step: &Transducer,
+) -> Result<Option<Vec<u32>>, AllocError>
+    requires { step.now.letters ≡ automaton.now.letters }
+    ensures { IfOk result (λ found. MatchOption found ((w : List ℕ) → IsReached step.now automaton.now w → ⊥)
+        (λ w. IsLeastWord (IsReached step.now automaton.now) w.items)) }
+{
+    let reached = image_automaton(alloc, step, automaton)?;
+    included(alloc, &reached, automaton)
 }
 
 /// The least word that the automaton accepts and the transducer relates to the given one.
@@ -213,6 +292,21 @@ fn least_before(
         (λ w. IsLeastWord (IsBefore step.now automaton.now word.now) w.items)) }
 {
     let last = single_word(alloc, automaton.letters(), word)?;
-    let sources = preimage_automaton(alloc, step, &last)?;
-    Ok(least_common_word(alloc, &sources, automaton)?)
+    least_source(alloc, automaton, step, &last)
+}
+
+/// The least word that the automaton accepts and the transducer relates to one that the other accepts.
+fn least_source(
+    alloc: Global,
+    automaton: &Dfa,
+    step: &Transducer,
+    last: &Dfa,
+) -> Result<Option<Vec<u32>>, AllocError>
+    requires step { step.now.letters ≡ automaton.now.letters }
+    requires last { last.now.letters ≡ automaton.now.letters }
+    ensures { IfOk result (λ found. MatchOption found ((w : List ℕ) → IsSource step.now automaton.now last.now w → ⊥)
+        (λ w. IsLeastWord (IsSource step.now automaton.now last.now) w.items)) }
+{
+    let sources = preimage_automaton(alloc, step, last)?;
+    least_common_word(alloc, &sources, automaton)
 }

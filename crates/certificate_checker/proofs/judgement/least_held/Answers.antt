@@ -2,31 +2,12 @@ use Rattle.std.proofs.Common.{IsTrue}
 use Rattle.word_automata.specs.Automaton.{accepts}
 use Rattle.protocol_model.specs.Patterns.{is_bad}
 use Rattle.protocol_model.proofs.ForCallers.{bad_fits}
-use Rattle.certificate_checker.proofs.Least.{none-of, some-of, least-of, tested}
+use Rattle.certificate_checker.proofs.Least.{tested}
 use Rattle.certificate_checker.proofs.judgement.least_held.Goals as goal
 
-pub returns-in_default : goal.returns-in_default
-returns-in_default c =
+pub least_accepted-requires-clause-words : goal.least_accepted-requires-clause-words
+least_accepted-requires-clause-words c =
     let s = c.args.system.now in
     let m = c.args.automaton.now in
-    none-of s _ _ (tested s (is_bad s) (bad_fits s) c.in_ok-bad.bad c.as_dfa.result.now c.as_dfa.ensures.same c.in_ok-bad.ensures.canonical
-    c.in_ok-bad.ensures.language (λ w. IsTrue (accepts m w)))
-    (rw c.in_default.is at c.in_ok-word.ensures)
-
-pub configuration_of-requires : goal.configuration_of-requires
-configuration_of-requires c =
-    let s = c.args.system.now in
-    let m = c.args.automaton.now in
-    let least = rw c.in-Some.is at c.in_ok-word.ensures in
-    some-of s _ _ (tested s (is_bad s) (bad_fits s) c.in_ok-bad.bad c.as_dfa.result.now c.as_dfa.ensures.same c.in_ok-bad.ensures.canonical
-    c.in_ok-bad.ensures.language (λ w. IsTrue (accepts m w)))
-    c.in-Some.word.items c.as_slice.result.now c.as_slice.ensures.value least.0
-
-pub returns : goal.returns
-returns c =
-    let s = c.args.system.now in
-    let m = c.args.automaton.now in
-    least-of s _ _ (tested s (is_bad s) (bad_fits s) c.in_ok-bad.bad c.as_dfa.result.now c.as_dfa.ensures.same c.in_ok-bad.ensures.canonical
-    c.in_ok-bad.ensures.language (λ w. IsTrue (accepts m w)))
-    c.in-Some.word.items c.as_slice.result.now c.as_slice.ensures.value c.in_ok-configuration_of.field-0
-    (rw c.in-Some.is at c.in_ok-word.ensures) c.in_ok-configuration_of.ensures
+    tested s (is_bad s) (bad_fits s) c.in_ok-bad.bad c.as_dfa.result.now c.as_dfa.ensures.same c.in_ok-bad.ensures.canonical
+    c.in_ok-bad.ensures.language (λ w. IsTrue (accepts m w))
