@@ -1,6 +1,7 @@
-//! The letters of a system's automata, found by their texts.
-//! The texts of all letters are made once, and a hash map says where one of them stands: a letter is found in constant expected time. What
-//! the map says is compared with the text that stands there, and a text that it does not have is searched for among all.
+//! The letters of a system's automata, and how they are found by their texts.
+//! The texts of all letters are made once, and for reading a map says where one of them stands, by its hash (FNV-1a): a letter is found in
+//! constant expected time. What the map says is compared with the text that stands there, and a text that it does not have is searched for
+//! among all.
 
 ghost use Rattle.std.specs.Prelude.{◌≡◌, ◌++◌, ◌<◌, IfOk, OnOk, codes, length, position};
 ghost use Rattle.std.specs.Str.{bytes_eq};
@@ -21,8 +22,10 @@ use std::marker::Model;
 pub struct Alphabet<'a> {
     system: &'a System,
     texts: Vec<Text>,
-    places: HashMap<Vec<u8>, usize>,
 }
+
+/// Where texts of letters stand, by their hashes.
+pub(crate) type Places = HashMap<u64, usize>;
 
 impl<'a> Model for Alphabet<'a> {
     ghost use Rattle.protocol_model.specs.System.{SystemData};
@@ -42,12 +45,7 @@ impl<'a> Alphabet<'a> {
         ensures valid { OnOk result (IsValid system.now) }
     {
         let texts = letter_texts(alloc, system)?;
-        let places = places_of(alloc, texts.as_slice())?;
-        Ok(Alphabet {
-            system,
-            texts,
-            places,
-        })
+        Ok(Alphabet { system, texts })
     }
 
     /// The system.
@@ -74,11 +72,20 @@ impl<'a> Alphabet<'a> {
         text.as_str().as_bytes()
     }
 
+    /// Where the texts of the letters stand.
+    pub(crate) fn places(&self, alloc: Global) -> Result<Places, AllocError> {
+        let mut places = HashMap::new(alloc);
+        'texts: for place in 0..self.texts.len() {
+            places.insert(hash_of(self.texts[place].as_str().as_bytes()), place)?;
+        }
+        Ok(places)
+    }
+
     /// The number of the letter with this text, if there is one.
-    pub fn letter(&self, text: &[u8]) -> Option<usize>
+    pub(crate) fn letter(&self, places: &Places, text: &[u8]) -> Option<usize>
         ensures { result ≡ position (bytes_eq text.now) (letter_texts self.now.sections) }
     {
-        if let Some(place) = self.places.get(text).copied() {
+        if let Some(place) = places.get(&hash_of(text)).copied() {
             if place < self.texts.len() && is(text, self.texts[place].as_str().as_bytes()) {
                 return Some(place);
             }
@@ -118,14 +125,11 @@ fn joined(alloc: Global, section: &str, letter: &str) -> Result<Text, AllocError
     Ok(Text::from_string(text))
 }
 
-/// The place of each text.
-fn places_of(alloc: Global, texts: &[Text]) -> Result<HashMap<Vec<u8>, usize>, AllocError> {
-    let mut places = HashMap::new(alloc);
-    'texts: for place in 0..texts.len() {
-        places.insert(
-            Vec::from_slice(alloc, texts[place].as_str().as_bytes())?,
-            place,
-        )?;
+/// The hash of a text.
+fn hash_of(text: &[u8]) -> u64 {
+    let mut hash: u64 = 0xcbf2_9ce4_8422_2325;
+    'bytes: for byte in text {
+        hash = (hash ^ u64::from(*byte)).wrapping_mul(0x100_0000_01b3);
     }
-    Ok(places)
+    hash
 }

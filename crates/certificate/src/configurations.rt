@@ -4,15 +4,12 @@
 ghost use Rattle.std.specs.Prelude.{◌≡◌, ◌∷◌, [], IfOk, false, map, position, true};
 ghost use Rattle.std.specs.Str.{bytes_eq};
 ghost use Rattle.lines.specs.Reading.{IsReading};
-ghost use Rattle.protocol_model.specs.System.{letter_count};
 ghost use Rattle.protocol_model.specs.Patterns.{has_any_length};
 ghost use Rattle.certificate.specs.Configurations.{configuration, list, of_section, part};
 
 use crate::alphabet::Alphabet;
 use crate::words::{Name, is, place_among};
-use lines::{
-    Case, Cut, Fields, Form, FormOf, Means, Meant, Names, NoLine, Numbered, OrEmpty, read_each,
-};
+use lines::{Case, Cut, Fields, Form, FormOf, Names, NoLine, Numbered, OrEmpty, read_each};
 use protocol_model::{Configuration, Rule, Section};
 use sequence::Sequence;
 use std::alloc::{AllocError, Global};
@@ -20,7 +17,7 @@ use std::marker::PhantomData;
 use std::slice::from_ref;
 
 /// The letters of a section.
-#[derive(Clone, Copy)]
+#[derive(Drop)]
 struct Letters<'a>(&'a Section);
 
 impl<'a> Names for Letters<'a> {
@@ -36,7 +33,7 @@ impl<'a> Names for Letters<'a> {
 }
 
 /// The name of a section.
-#[derive(Clone, Copy)]
+#[derive(Drop)]
 struct Called<'a>(&'a Section);
 
 impl<'a> Names for Called<'a> {
@@ -52,7 +49,7 @@ impl<'a> Names for Called<'a> {
 }
 
 /// The names of a system's rules.
-#[derive(Clone, Copy)]
+#[derive(Drop)]
 pub struct Rules<'a>(pub &'a Alphabet<'a>);
 
 impl<'a> Names for Rules<'a> {
@@ -77,26 +74,8 @@ fn rule_place(rules: &[Rule], name: &[u8]) -> Option<usize>
         .position(|rule| is(name, rule.name.as_str().as_bytes()))
 }
 
-/// One letter is a list.
-#[derive(Clone, Copy)]
-struct Alone;
-
-impl Meant for Alone {
-    type From = u32;
-
-    type To = Sequence<u32>;
-
-    ghost means = { λ _ a. a ∷ [] };
-
-    fn meant(&self, alloc: Global, from: u32) -> Result<Sequence<u32>, AllocError> {
-        let mut letters = Vec::new(alloc);
-        letters.push(from)?;
-        Ok(Sequence::from_vec(letters))
-    }
-}
-
 /// The list of a section: one letter of a cell, else any number of letters, or `empty`.
-#[derive(Clone, Copy)]
+#[derive(Drop)]
 struct List<'a>(&'a Section);
 
 impl<'a> Form for List<'a> {
@@ -132,45 +111,41 @@ fn read_letter(
 ) -> Result<Option<Sequence<u32>>, AllocError>
     ensures { IfOk result (IsReading (list false section.now.letters) bytes.now) }
 {
-    let letter = Numbered(Letters(section), Name);
-    Means(letter, Alone).read(alloc, bytes)
-}
-
-/// A list is that of the section whose part it stands in.
-#[derive(Clone, Copy)]
-struct OfSection<'a>(&'a Section);
-
-impl<'a> Meant for OfSection<'a> {
-    type From = (u32, Sequence<u32>);
-
-    type To = Sequence<u32>;
-
-    ghost means = { λ x part. of_section x.0.now part };
-
-    fn meant(
-        &self,
-        alloc: Global,
-        (name, letters): (u32, Sequence<u32>),
-    ) -> Result<Sequence<u32>, AllocError> {
-        if name == 0 {
-            return Ok(letters);
-        }
-        no_list(alloc, self.0)
+    match Numbered(Letters(section), Name).read(alloc, bytes)? {
+        Some(letter) => Ok(Some(one_letter(alloc, letter)?)),
+        None => Ok(None),
     }
 }
 
-/// A list with a letter that the section does not have.
-fn no_list(alloc: Global, section: &Section) -> Result<Sequence<u32>, AllocError>
-    ensures { IfOk result (λ letters. letters ≡ letter_count section.now ∷ []) }
+/// A list of one letter.
+fn one_letter(alloc: Global, letter: u32) -> Result<Sequence<u32>, AllocError>
+    ensures { IfOk result (λ letters. letters ≡ letter ∷ []) }
 {
-    let count = u32::try_from(section.letters.len()).map_err(|_| AllocError)?;
     let mut letters = Vec::new(alloc);
-    letters.push(count)?;
+    letters.push(letter)?;
     Ok(Sequence::from_vec(letters))
 }
 
+/// The list of a part with a name; where this is not the section's, a list with a letter that the section does not have.
+fn list_of(
+    alloc: Global,
+    section: &Section,
+    name: u32,
+    letters: Sequence<u32>,
+) -> Result<Sequence<u32>, AllocError>
+    ensures { IfOk result (λ list. list ≡ of_section section.now (name, letters)) }
+{
+    if name == 0 {
+        return Ok(letters);
+    }
+    match u32::try_from(section.letters.len()) {
+        Ok(count) => one_letter(alloc, count),
+        Err(_) => Err(AllocError),
+    }
+}
+
 /// A part for a section.
-#[derive(Clone, Copy)]
+#[derive(Drop)]
 struct Parts;
 
 impl FormOf for Parts {
@@ -187,13 +162,16 @@ impl FormOf for Parts {
         bytes: &[u8],
     ) -> Result<Option<Sequence<u32>>, AllocError> {
         let name = Numbered(Called(section), Name);
-        let parts = Cut(b':', name, Case(b" ", List(section), NoLine(PhantomData)));
-        Means(parts, OfSection(section)).read(alloc, bytes)
+        let part = Cut(b':', name, Case(b" ", List(section), NoLine(PhantomData)));
+        match part.read(alloc, bytes)? {
+            Some((name, letters)) => Ok(Some(list_of(alloc, section, name, letters)?)),
+            None => Ok(None),
+        }
     }
 }
 
 /// A configuration of a system: a part for each section.
-#[derive(Clone, Copy)]
+#[derive(Drop)]
 pub struct Configurations<'a>(pub &'a Alphabet<'a>);
 
 impl<'a> Form for Configurations<'a> {

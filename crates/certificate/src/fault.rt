@@ -1,15 +1,13 @@
 //! Why a text is refused.
-//! What the program prints of a fault is made by the program; here it shows as its variant.
+//! What the program prints of a fault is made by the program.
 
 ghost use Rattle.std.specs.Prelude.{◌≡◌};
 ghost use Rattle.certificate.specs.declared.fault.CertFault.TheVariants.{Memory};
 
 use std::alloc::AllocError;
-use std::error::Error;
-use std::fmt;
 
 /// Why a text is no certificate, with the number of the first line that has a fault. Lines are counted from 1.
-#[derive(Clone, Copy, Debug)]
+#[derive(Clone, Copy)]
 pub enum CertFault {
     /// The first line is that of another version.
     Version {
@@ -67,11 +65,3 @@ impl From<AllocError> for CertFault {
         CertFault::Memory
     }
 }
-
-impl fmt::Display for CertFault {
-    fn fmt<W: fmt::Write>(&self, f: &mut fmt::Formatter<W>) -> fmt::Result {
-        fmt::Debug::fmt(self, f)
-    }
-}
-
-impl Error for CertFault {}

@@ -6,7 +6,7 @@ ghost use Rattle.lines.specs.Reading.{IsReading};
 ghost use Rattle.certificate.specs.Lines.{line_at};
 ghost use Rattle.certificate.specs.declared.said.Said.TheVariants as S;
 
-use crate::alphabet::Alphabet;
+use crate::alphabet::{Alphabet, Places};
 use crate::configurations::{Configurations, Rules};
 use crate::said::{Kind, Place, Said};
 use crate::words::{Letter, Name};
@@ -22,7 +22,7 @@ const STATE: Number = Number { limit: 1_000_000 };
 /// The number of states.
 const COUNT: Number = Number { limit: 1_000_001 };
 
-#[derive(Clone, Copy)]
+#[derive(Drop)]
 struct SaysTitle;
 
 impl Meant for SaysTitle {
@@ -32,12 +32,12 @@ impl Meant for SaysTitle {
 
     ghost means = { λ _ p. S.Title p.0 p.1 };
 
-    fn meant(&self, _alloc: Global, (version, kind): (u32, Kind)) -> Result<Said, AllocError> {
-        Ok(Said::Title(version, kind))
+    fn meant(&self, (version, kind): (u32, Kind)) -> Said {
+        Said::Title(version, kind)
     }
 }
 
-#[derive(Clone, Copy)]
+#[derive(Drop)]
 struct SaysLetter;
 
 impl Meant for SaysLetter {
@@ -47,12 +47,12 @@ impl Meant for SaysLetter {
 
     ghost means = { λ _ x. S.Letter x };
 
-    fn meant(&self, _alloc: Global, letter: u32) -> Result<Said, AllocError> {
-        Ok(Said::Letter(letter))
+    fn meant(&self, letter: u32) -> Said {
+        Said::Letter(letter)
     }
 }
 
-#[derive(Clone, Copy)]
+#[derive(Drop)]
 struct SaysStates;
 
 impl Meant for SaysStates {
@@ -62,12 +62,12 @@ impl Meant for SaysStates {
 
     ghost means = { λ _ x. S.States x };
 
-    fn meant(&self, _alloc: Global, count: u32) -> Result<Said, AllocError> {
-        Ok(Said::States(count))
+    fn meant(&self, count: u32) -> Said {
+        Said::States(count)
     }
 }
 
-#[derive(Clone, Copy)]
+#[derive(Drop)]
 struct SaysFinal;
 
 impl Meant for SaysFinal {
@@ -77,12 +77,12 @@ impl Meant for SaysFinal {
 
     ghost means = { λ _ x. S.Final x };
 
-    fn meant(&self, _alloc: Global, state: u32) -> Result<Said, AllocError> {
-        Ok(Said::Final(state))
+    fn meant(&self, state: u32) -> Said {
+        Said::Final(state)
     }
 }
 
-#[derive(Clone, Copy)]
+#[derive(Drop)]
 struct SaysEdge;
 
 impl Meant for SaysEdge {
@@ -92,16 +92,12 @@ impl Meant for SaysEdge {
 
     ghost means = { λ _ p. S.Edge p.0 p.1.0 p.1.1 };
 
-    fn meant(
-        &self,
-        _alloc: Global,
-        (from, (letter, to)): (u32, (u32, u32)),
-    ) -> Result<Said, AllocError> {
-        Ok(Said::Edge(from, letter, to))
+    fn meant(&self, (from, (letter, to)): (u32, (u32, u32))) -> Said {
+        Said::Edge(from, letter, to)
     }
 }
 
-#[derive(Clone, Copy)]
+#[derive(Drop)]
 struct SaysEdges;
 
 impl Meant for SaysEdges {
@@ -111,16 +107,12 @@ impl Meant for SaysEdges {
 
     ghost means = { λ _ p. S.Edges p.0 p.1.0 p.1.1 };
 
-    fn meant(
-        &self,
-        _alloc: Global,
-        (from, (to, indices)): (u32, (u32, Sequence<u32>)),
-    ) -> Result<Said, AllocError> {
-        Ok(Said::Edges(from, to, indices))
+    fn meant(&self, (from, (to, indices)): (u32, (u32, Sequence<u32>))) -> Said {
+        Said::Edges(from, to, indices)
     }
 }
 
-#[derive(Clone, Copy)]
+#[derive(Drop)]
 struct SaysEnd;
 
 impl Meant for SaysEnd {
@@ -130,12 +122,12 @@ impl Meant for SaysEnd {
 
     ghost means = { λ _ nothing. S.End };
 
-    fn meant(&self, _alloc: Global, _from: ()) -> Result<Said, AllocError> {
-        Ok(Said::End)
+    fn meant(&self, _from: ()) -> Said {
+        Said::End
     }
 }
 
-#[derive(Clone, Copy)]
+#[derive(Drop)]
 struct SaysStart;
 
 impl Meant for SaysStart {
@@ -145,12 +137,12 @@ impl Meant for SaysStart {
 
     ghost means = { λ _ x. S.Start x };
 
-    fn meant(&self, _alloc: Global, parts: Configuration) -> Result<Said, AllocError> {
-        Ok(Said::Start(parts))
+    fn meant(&self, parts: Configuration) -> Said {
+        Said::Start(parts)
     }
 }
 
-#[derive(Clone, Copy)]
+#[derive(Drop)]
 struct SaysStep;
 
 impl Meant for SaysStep {
@@ -160,12 +152,8 @@ impl Meant for SaysStep {
 
     ghost means = { λ _ p. S.Step p.0 p.1 };
 
-    fn meant(
-        &self,
-        _alloc: Global,
-        (rule, parts): (u32, Configuration),
-    ) -> Result<Said, AllocError> {
-        Ok(Said::Step(rule, parts))
+    fn meant(&self, (rule, parts): (u32, Configuration)) -> Said {
+        Said::Step(rule, parts)
     }
 }
 
@@ -173,16 +161,16 @@ impl Meant for SaysStep {
 pub fn read_line<'a>(
     alloc: Global,
     alphabet: &'a Alphabet<'a>,
+    places: &'a Places,
     place: Place,
     line: &[u8],
 ) -> Result<Option<Said>, AllocError>
     ensures { IfOk result (IsReading (line_at alphabet.now place) line.now) }
 {
-    let letter = Letter(alphabet);
+    let letter = Letter(alphabet, places);
     let configuration = Configurations(alphabet);
     let states = Case(b"states ", Means(COUNT, SaysStates), NoLine(PhantomData));
     let end = Means(Just(b"end", (), NoLine(PhantomData)), SaysEnd);
-    let others = Case(b"final ", Means(STATE, SaysFinal), end);
     match place {
         Place::Title => {
             let unknown = Just(b"unknown", Kind::Unknown, NoLine(PhantomData));
@@ -194,10 +182,12 @@ pub fn read_line<'a>(
         Place::States => states.read(alloc, line),
         Place::Letters => { Case(b"letter ", Means(letter, SaysLetter), states).read(alloc, line) }
         Place::NamedEdges => {
+            let others = Case(b"final ", Means(STATE, SaysFinal), end);
             let edge = Cut(b' ', STATE, Cut(b' ', letter, STATE));
             Case(b"edge ", Means(edge, SaysEdge), others).read(alloc, line)
         }
         Place::IndexedEdges => {
+            let others = Case(b"final ", Means(STATE, SaysFinal), end);
             let edge = Cut(b' ', STATE, Cut(b' ', STATE, Fields(b' ', STATE)));
             Case(b"edge ", Means(edge, SaysEdges), others).read(alloc, line)
         }

@@ -10,7 +10,7 @@ ghost use Rattle.certificate.specs.declared.said.Said.TheVariants as S;
 ghost use Rattle.certificate.specs.Stages.{Stage, after_states, certificate, titled, with_edge, with_edges};
 ghost use Rattle.certificate.specs.private.Kept.{HasLines, IsKept, IsTitled, Takes};
 
-use crate::alphabet::Alphabet;
+use crate::alphabet::{Alphabet, Places};
 use crate::line_forms::read_line;
 use crate::said::{Kind, Place, Said, What};
 use lines::{Next, TextForm};
@@ -39,8 +39,8 @@ pub struct Reading {
 }
 
 /// Certificates for the system of an alphabet.
-#[derive(Clone, Copy)]
-pub struct Certificates<'a>(pub &'a Alphabet<'a>);
+#[derive(Drop)]
+pub struct Certificates<'a>(pub &'a Alphabet<'a>, pub &'a Places);
 
 impl<'a> TextForm for Certificates<'a> {
     type Said = Said;
@@ -56,7 +56,7 @@ impl<'a> TextForm for Certificates<'a> {
     ghost IsAt = { λ x t read. IsKept x.0.now t read };
 
     fn says(&self, alloc: Global, read: &Reading, line: &[u8]) -> Result<Option<Said>, AllocError> {
-        read_line(alloc, self.0, read.place, line)
+        read_line(alloc, self.0, self.1, read.place, line)
     }
 
     fn take(

@@ -40,6 +40,7 @@ pub fn read(alloc: Global, text: &[u8], system: &System) -> Result<Certificate, 
     ensures refused { (c : Certificate) → IsCertificateOf system.now text.now c → IfErr result (λ fault. fault ≡ Memory) }
 {
     let alphabet = Alphabet::new(alloc, system)?;
+    let places = alphabet.places(alloc)?;
     let start = Reading {
         place: Place::Title,
         letters: Vec::new(alloc),
@@ -49,7 +50,7 @@ pub fn read(alloc: Global, text: &[u8], system: &System) -> Result<Certificate, 
         },
         steps: Vec::new(alloc),
     };
-    match read_text(alloc, &Certificates(&alphabet), start, text) {
+    match read_text(alloc, &Certificates(&alphabet, &places), start, text) {
         Ok(read) => Ok(certificate_of(read)),
         Err(fault) => Err(cert_fault(fault)),
     }

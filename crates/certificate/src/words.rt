@@ -6,7 +6,7 @@ ghost use Rattle.std.specs.Str.{bytes_eq};
 ghost use Rattle.lines.specs.Grammar.{just};
 ghost use Rattle.certificate.specs.Words.{a_name, a_word, is_name_of_any_length, letter, letter_layout, letter_texts};
 
-use crate::alphabet::Alphabet;
+use crate::alphabet::{Alphabet, Places};
 use lines::{Cut, Form, Just, Means, Meant, Names, Numbered};
 use protocol_lexer::are_word_bytes;
 use protocol_model::is_word;
@@ -15,7 +15,7 @@ use sequence::Text;
 use std::alloc::{AllocError, Global};
 
 /// A word, reserved or not.
-#[derive(Clone, Copy)]
+#[derive(Drop)]
 struct Word;
 
 impl Form for Word {
@@ -32,7 +32,7 @@ impl Form for Word {
 }
 
 /// A name of any length.
-#[derive(Clone, Copy)]
+#[derive(Drop)]
 pub struct Name;
 
 impl Form for Name {
@@ -56,7 +56,7 @@ fn is_name_of_any_length(text: &[u8]) -> bool
 }
 
 /// Two words mean nothing more.
-#[derive(Clone, Copy)]
+#[derive(Drop)]
 struct Nothing;
 
 impl Meant for Nothing {
@@ -66,13 +66,11 @@ impl Meant for Nothing {
 
     ghost means = { λ _ words. tt };
 
-    fn meant(&self, _alloc: Global, _from: ((), ())) -> Result<(), AllocError> {
-        Ok(())
-    }
+    fn meant(&self, _from: ((), ())) {}
 }
 
 /// The layout of a letter's name.
-#[derive(Clone, Copy)]
+#[derive(Drop)]
 struct LetterLayout;
 
 impl Form for LetterLayout {
@@ -86,14 +84,14 @@ impl Form for LetterLayout {
 }
 
 /// The names of the letters of a system's automata.
-#[derive(Clone, Copy)]
-struct Letters<'a>(&'a Alphabet<'a>);
+#[derive(Drop)]
+struct Letters<'a>(&'a Alphabet<'a>, &'a Places);
 
 impl<'a> Names for Letters<'a> {
     ghost names = { λ x. letter_texts x.0.now.sections };
 
     fn place_of(&self, bytes: &[u8]) -> Option<usize> {
-        self.0.letter(bytes)
+        self.0.letter(self.1, bytes)
     }
 
     fn count(&self) -> usize {
@@ -102,8 +100,8 @@ impl<'a> Names for Letters<'a> {
 }
 
 /// A letter of a system's automata, which means its number.
-#[derive(Clone, Copy)]
-pub struct Letter<'a>(pub &'a Alphabet<'a>);
+#[derive(Drop)]
+pub struct Letter<'a>(pub &'a Alphabet<'a>, pub &'a Places);
 
 impl<'a> Form for Letter<'a> {
     type Meaning = u32;
@@ -111,7 +109,7 @@ impl<'a> Form for Letter<'a> {
     ghost grammar = { λ x. letter x.0.now };
 
     fn read(&self, alloc: Global, bytes: &[u8]) -> Result<Option<u32>, AllocError> {
-        Numbered(Letters(self.0), LetterLayout).read(alloc, bytes)
+        Numbered(Letters(self.0, self.1), LetterLayout).read(alloc, bytes)
     }
 }
 

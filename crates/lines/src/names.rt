@@ -22,7 +22,7 @@ pub trait Names {
 }
 
 /// One of the names, which means its place; other bytes are a line of the form, and mean the number of names.
-#[derive(Clone, Copy)]
+#[derive(Drop)]
 pub struct Numbered<N, X>(pub N, pub X);
 
 impl<N: Names, X: Form> Form for Numbered<N, X> {

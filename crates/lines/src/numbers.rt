@@ -10,7 +10,7 @@ use crate::form::Form;
 use std::alloc::{AllocError, Global};
 
 /// A number. One that is past the limit means the limit.
-#[derive(Clone, Copy)]
+#[derive(Drop)]
 pub struct Number {
     pub limit: u32,
 }

@@ -13,7 +13,7 @@ use std::alloc::{AllocError, Global};
 use std::marker::PhantomData;
 
 /// These bytes and then the one form; lines that begin otherwise are of the other.
-#[derive(Clone, Copy)]
+#[derive(Drop)]
 pub struct Case<'a, X, Y>(pub &'a [u8], pub X, pub Y);
 
 impl<'a, X: Form, Y: Form<Meaning = X::Meaning>> Form for Case<'a, X, Y> {
@@ -30,7 +30,7 @@ impl<'a, X: Form, Y: Form<Meaning = X::Meaning>> Form for Case<'a, X, Y> {
 }
 
 /// Just these bytes, with this meaning; other bytes are a line of the form.
-#[derive(Clone, Copy)]
+#[derive(Drop)]
 pub struct Just<'a, A, X>(pub &'a [u8], pub A, pub X);
 
 impl<'a, A: Copy, X: Form<Meaning = A>> Form for Just<'a, A, X> {
@@ -64,7 +64,7 @@ impl<'a, T: Drop, X: Form<Meaning = Sequence<T>>> Form for OrEmpty<'a, X> {
 }
 
 /// No line at all.
-#[derive(Clone, Copy)]
+#[derive(Drop)]
 pub struct NoLine<A>(pub PhantomData<A>);
 
 impl<A: Drop> Form for NoLine<A> {
@@ -78,14 +78,8 @@ impl<A: Drop> Form for NoLine<A> {
 }
 
 /// The one form before the first separator, and the other after it.
-#[derive(Copy)]
+#[derive(Drop)]
 pub struct Cut<X, Y>(pub u8, pub X, pub Y);
-
-impl<X: Copy, Y: Copy> Clone for Cut<X, Y> {
-    fn clone(&self) -> Result<Self, AllocError> {
-        Ok(*self)
-    }
-}
 
 impl<X: Form, Y: Form> Form for Cut<X, Y> {
     type Meaning = (X::Meaning, Y::Meaning);
@@ -114,13 +108,13 @@ pub trait Meant {
 
     ghost means: { Self → Self.From → Self.To };
 
-    /// What this is taken to mean. The only error is that memory ran out.
-    fn meant(&self, alloc: Global, from: Self::From) -> Result<Self::To, AllocError>
-        ensures { IfOk result (λ to. to ≡ means self.now from) };
+    /// What this is taken to mean.
+    fn meant(&self, from: Self::From) -> Self::To
+        ensures { result ≡ means self.now from };
 }
 
 /// The form, whose meaning is taken to mean another thing.
-#[derive(Clone, Copy)]
+#[derive(Drop)]
 pub struct Means<X, M>(pub X, pub M);
 
 impl<M: Meant, X: Form<Meaning = M::From>> Form for Means<X, M> {
@@ -129,19 +123,15 @@ impl<M: Meant, X: Form<Meaning = M::From>> Form for Means<X, M> {
     ghost grammar = { λ x. means (M.means x.1) (X.grammar x.0) };
 
     fn read(&self, alloc: Global, bytes: &[u8]) -> Result<Option<M::To>, AllocError> {
-        let found = self.0.read(alloc, bytes)?;
-        match found {
-            Some(found) => {
-                let meant = self.1.meant(alloc, found)?;
-                Ok(Some(meant))
-            }
+        match self.0.read(alloc, bytes)? {
+            Some(found) => Ok(Some(self.1.meant(found))),
             None => Ok(None),
         }
     }
 }
 
 /// One or more of the form, with the separator between neighbours.
-#[derive(Clone, Copy)]
+#[derive(Drop)]
 pub struct Fields<X>(pub u8, pub X);
 
 impl<X: Form> Form for Fields<X> {
@@ -154,11 +144,7 @@ impl<X: Form> Form for Fields<X> {
         alloc: Global,
         bytes: &[u8],
     ) -> Result<Option<Sequence<X::Meaning>>, AllocError> {
-        let found = read_fields(alloc, self.0, &self.1, bytes)?;
-        match found {
-            Some(found) => Ok(Some(Sequence::from_vec(found))),
-            None => Ok(None),
-        }
+        read_fields(alloc, self.0, &self.1, bytes)
     }
 }
 
@@ -168,9 +154,8 @@ fn read_fields<X: Form>(
     separator: u8,
     form: &X,
     bytes: &[u8],
-) -> Result<Option<Vec<X::Meaning>>, AllocError>
-    ensures { IfOk result (λ found. IsReading (fields separator (X.grammar form.now)) bytes.now
-        (option_map (λ values. values.items) found)) }
+) -> Result<Option<Sequence<X::Meaning>>, AllocError>
+    ensures { IfOk result (IsReading (fields separator (X.grammar form.now)) bytes.now) }
 {
     let mut values = Vec::new(alloc);
     let mut rest = bytes;
@@ -187,7 +172,7 @@ fn read_fields<X: Form>(
         return Ok(None);
     };
     values.push(last)?;
-    Ok(Some(values))
+    Ok(Some(Sequence::from_vec(values)))
 }
 
 /// A form for each value of a type.

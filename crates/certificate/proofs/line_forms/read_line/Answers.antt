@@ -24,3 +24,11 @@ returns-in-Start c =
 pub returns-in-Steps : goal.returns-in-Steps
 returns-in-Steps c =
     subst (λ at. IfOk c.read-in-Steps.result (IsReading (line_at c.args.alphabet.now at) c.args.line.now)) (sym c.in-Steps.is) c.read-in-Steps.ensures
+
+pub returns-in-States : goal.returns-in-States
+returns-in-States c =
+    subst (λ at. IfOk c.read-in-States.result (IsReading (line_at c.args.alphabet.now at) c.args.line.now)) (sym c.in-States.is) c.read-in-States.ensures
+
+pub returns-in-Letters : goal.returns-in-Letters
+returns-in-Letters c =
+    subst (λ at. IfOk c.read-in-Letters.result (IsReading (line_at c.args.alphabet.now at) c.args.line.now)) (sym c.in-Letters.is) c.read-in-Letters.ensures
