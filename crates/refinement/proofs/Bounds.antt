@@ -15,8 +15,7 @@ use Rattle.search_history.specs.declared.log.LogEnd.{LogEnd}
 use Rattle.search_history.specs.declared.log.LogEnd.TheVariants as log_end
 use Rattle.fixpoint.proofs.ForCallers.{merged_keeps}
 use Rattle.refinement.specs.Laws.{LeadsToBad}
-use Rattle.refinement.proofs.RoundLemmas.{closed-proof}
-use Rattle.refinement.proofs.DecisionLemmas.{closed-round}
+use Rattle.refinement.proofs.RoundLemmas.{closed-proof, closed-round}
 
 module _ (t : Task) (budget larger : ℕ) (more : budget ≤ larger) where
   end-larger : (m : Automaton) (z : ℕ) (e : RoundEnd) → e ≢ Spent → IsEndAt t budget m z e → IsEndAt t larger m z e

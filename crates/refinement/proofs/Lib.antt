@@ -1,6 +1,5 @@
 pub mod ForCallers
 pub mod RoundLemmas
-pub mod DecisionLemmas
 pub mod Uniqueness
 pub mod OneVerdict
 pub mod Bounds

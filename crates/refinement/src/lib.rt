@@ -2,8 +2,8 @@
 //! (Bouajjani, Habermehl and Vojnar, Abstract Regular Model Checking, CAV 2004).
 #![tactic(auto)]
 
-mod decision;
 mod laws;
+mod logs;
 mod rounds;
 mod verdict;
 
