@@ -1,9 +1,9 @@
 //! Deterministic automata from nondeterministic ones, by the subset construction (M. O. Rabin and D. Scott, 1959) of what a reduction
 //! leaves: no states from which no word is accepted and, where sets are many, nor edges and states that others simulate. It costs time
-//! linear in the edges that leave the sets. The sets are lists of states at first and, where there are many of them, sets of bits, which
-//! are merged without being sorted. Where there are more, sets of one language become one state, told apart by atoms (J. A. Brzozowski
-//! and H. Tamm, 2014), if these are found: the sets go on being found in turns with the search for atoms, which looks at so many edges
-//! and sets for each state of the sets that were found.
+//! linear in the edges that leave the sets. The sets are lists of states at first and, where there are many and the lists are long, sets
+//! of bits, which are merged without being sorted. Of more than 4,096 states, where there are many lists, sets of one language become one
+//! state, told apart by atoms (J. A. Brzozowski and H. Tamm, 2014), if these are found: the lists go on being found in turns with the
+//! search for atoms, which looks at so many edges and sets for each state of the lists that were found.
 #![tactic(auto)]
 
 mod maximal;
@@ -28,7 +28,7 @@ use crate::silent::{has_true, silent_flags};
 use crate::subsets::Subsets;
 use crate::turns::Turns;
 use bit_subsets::BitSubsets;
-use exploration::Exploration;
+use exploration::{Exploration, explore_languages};
 use reduction::{StatePairs, live_part, pruned, simulation};
 pub use state_set::StateSet;
 use std::alloc::{AllocError, Global};
@@ -40,29 +40,33 @@ const UNCOMPARED_STATES: usize = 4_096;
 /// so many sets for each are found at first without comparing states.
 const SETS_PER_STATE: usize = 2;
 
-/// So many sets of states are found as lists.
+/// So many sets of states are found as lists before their length is looked at.
 const FEW_SETS: usize = 512;
 
-/// Where there are more, and at most so many states, none with an edge without a letter, sets are bits from then on.
+/// Of at most so many states, none with an edge without a letter, sets are bits where lists are long, and atoms are not looked for.
 const BIT_STATES: usize = 4_096;
 
-/// Where there are more sets of states, and as lists more than twice as many as states, the atoms of the states are looked for.
+/// Lists are long that have on average a state for so many words of a set of bits.
+const WORDS_PER_STATE: usize = 4;
+
+/// The length of lists is looked at again with so many of them. Of more states, where there are more lists, and more than twice as many as
+/// states, the atoms of the states are looked for.
 const FIRST_SETS: usize = 16_384;
 
 /// There are then so many turns, each with twice as many sets and more work for the atoms, before the sets are found to the end.
 const TURNS: usize = 8;
 
-/// So many edges and words of sets are looked at for the atoms for each state of the lists that were found, an eighth of what finding these
-/// has cost. For sets of bits it is one for each of their words and each letter.
+/// So many edges and words of sets are looked at for the atoms for each state of the lists that were found.
 const WORK_PER_STATE: usize = 16;
 
 /// The deterministic automaton of the sets of states that words lead to (M. O. Rabin and D. Scott, 1959), which accepts the same
 /// words. States are numbered breadth first, which is no clause here. States from which no word is accepted stand in no set. Of at most
 /// 4,096 states, two sets for each are found at first; where there are more sets or states, states are compared, and where some simulate
 /// others it begins anew: those that others of it simulate stand in no set, and edges whose targets are simulated by those of edges beside
-/// them go. A set is a list of states; with more than 512 sets, and at most 4,096 states, none with an edge without a letter, a bit for
-/// each state. With more than 16,384 sets, and as lists more than twice as many as states, atoms of the states are looked for, by which
-/// sets that accept the same words become one where a sample tells that many do.
+/// them go. A set is a list of states. Of at most 4,096 states, none with an edge without a letter, it is a bit for each state from more
+/// than 512 sets on, or from more than 16,384, if the lists have a state for four words of a set of bits. Of more states, with more than
+/// 16,384 lists, and more than twice as many as states, atoms of the states are looked for, by which sets that accept the same words
+/// become one where a sample tells that many do.
 /// The time is linear in the edges of the automaton and in those that leave the sets' states, up to sorting, on average. Where a letter
 /// leads from one state to two, at most 2 to the 18 pairs of states are compared in at most 16 rounds, and a set may take its square.
 pub fn determinise(alloc: Global, automaton: &Nfa) -> Result<Dfa, AllocError>
@@ -178,10 +182,40 @@ fn subsets_from<'a>(
     if few.is_done() || has_true(silent) {
         return few.finish();
     }
-    if automaton.states() <= BIT_STATES {
-        return bit_subsets_of(alloc, automaton, pairs, lists);
+    if automaton.states() > BIT_STATES {
+        return list_subsets_of(alloc, automaton, lists, few);
     }
-    list_subsets_of(alloc, automaton, lists, few)
+    lists_or_bits(alloc, automaton, pairs, few)
+}
+
+/// The same of few states: as bits where the lists are long, by those that were found or by the first 16,384.
+fn lists_or_bits<'a>(
+    alloc: Global,
+    automaton: &Nfa,
+    pairs: &StatePairs,
+    few: Exploration<'a, Subsets<'a>>,
+) -> Result<Dfa, AllocError>
+    requires included { AreIncluded automaton.now pairs.now }
+    requires plain { (p : ℕ) → IsPlain automaton.now p }
+    requires few { few.automaton.now ≡ automaton.now }
+    ensures language { IfOk result (λ dfa. (w : List ℕ) → IsTrue (accepts dfa w) ↔ Accepts automaton.now w) }
+    ensures letters { IfOk result (λ dfa. dfa.letters ≡ automaton.now.letters) }
+    ensures valid { IfOk result IsValid }
+{
+    if are_long(few.states(), automaton.states()) {
+        return bit_subsets_of(alloc, automaton, pairs);
+    }
+    let found = few.advance(FIRST_SETS)?;
+    if found.is_done() || !are_long(found.states(), automaton.states()) {
+        return found.finish();
+    }
+    bit_subsets_of(alloc, automaton, pairs)
+}
+
+/// Whether sets of bits of so many states have few words for what the lists have of states.
+fn are_long(lists: &[StateSet], states: usize) -> bool {
+    let words = lists.len().saturating_mul(states / 64 + 1);
+    states_in(lists).saturating_mul(WORDS_PER_STATE) >= words
 }
 
 /// The deterministic automaton of the sets of states, of which some were found as lists, or of the languages of these.
@@ -255,85 +289,15 @@ fn states_in(sets: &[StateSet]) -> usize {
     count
 }
 
-/// The deterministic automaton of the sets of states, as bits, or of the languages of the sets, whose states are listed for these.
-fn bit_subsets_of(
-    alloc: Global,
-    automaton: &Nfa,
-    pairs: &StatePairs,
-    lists: &Subsets,
-) -> Result<Dfa, AllocError>
+/// The deterministic automaton of the sets of states, as bits.
+fn bit_subsets_of(alloc: Global, automaton: &Nfa, pairs: &StatePairs) -> Result<Dfa, AllocError>
     requires included { AreIncluded automaton.now pairs.now }
-    requires same { lists.now.automaton.now ≡ automaton.now }
     requires plain { (p : ℕ) → IsPlain automaton.now p }
     ensures language { IfOk result (λ dfa. (w : List ℕ) → IsTrue (accepts dfa w) ↔ Accepts automaton.now w) }
     ensures letters { IfOk result (λ dfa. dfa.letters ≡ automaton.now.letters) }
     ensures valid { IfOk result IsValid }
 {
     let sets = BitSubsets::new(alloc, automaton, pairs)?;
-    explored_bits(alloc, automaton, lists, &sets)
-}
-
-/// The deterministic automaton of these sets of bits, or of the languages of the sets.
-fn explored_bits(
-    alloc: Global,
-    automaton: &Nfa,
-    lists: &Subsets,
-    sets: &BitSubsets,
-) -> Result<Dfa, AllocError>
-    requires bits { sets.now.automaton.now ≡ automaton.now }
-    requires same { lists.now.automaton.now ≡ automaton.now }
-    requires plain { (p : ℕ) → IsPlain automaton.now p }
-    ensures language { IfOk result (λ dfa. (w : List ℕ) → IsTrue (accepts dfa w) ↔ Accepts automaton.now w) }
-    ensures letters { IfOk result (λ dfa. dfa.letters ≡ automaton.now.letters) }
-    ensures valid { IfOk result IsValid }
-{
-    let begun = Exploration::begin(alloc, sets)?;
-    let first = begun.advance(FIRST_SETS)?;
-    if first.is_done() {
-        return first.finish();
-    }
-    bits_in_turns(alloc, automaton, lists, sets, first)
-}
-
-/// The same, of which some sets were found, in turns with the search for atoms.
-fn bits_in_turns<'a>(
-    alloc: Global,
-    automaton: &'a Nfa,
-    lists: &Subsets,
-    sets: &'a BitSubsets<'a>,
-    found: Exploration<'a, BitSubsets<'a>>,
-) -> Result<Dfa, AllocError>
-    requires bits { sets.now.automaton.now ≡ automaton.now }
-    requires same { lists.now.automaton.now ≡ automaton.now }
-    requires plain { (p : ℕ) → IsPlain automaton.now p }
-    requires found { found ≡ sets.now }
-    ensures language { IfOk result (λ dfa. (w : List ℕ) → IsTrue (accepts dfa w) ↔ Accepts automaton.now w) }
-    ensures letters { IfOk result (λ dfa. dfa.letters ≡ automaton.now.letters) }
-    ensures valid { IfOk result IsValid }
-{
-    let mut turns = Turns::begin(alloc, automaton, found)?;
-    'turns: for turn in 0..TURNS {
-        if turns.is_over() {
-            break;
-        }
-        turns = turn_of_bits(alloc, automaton, turns, FIRST_SETS << (turn + 1))?;
-    }
-    turns.finish(alloc, automaton, lists)
-}
-
-/// A turn in which the construction goes on until more than so many sets of bits are found.
-fn turn_of_bits<'a>(
-    alloc: Global,
-    automaton: &Nfa,
-    turns: Turns<'a, BitSubsets<'a>>,
-    sets: usize,
-) -> Result<Turns<'a, BitSubsets<'a>>, AllocError>
-    ensures found { IfOk result (λ later. later.found ≡ turns.entry.found) }
-    ensures search { IfOk result (λ later. later.search ≡ turns.entry.search) }
-{
-    let found = turns.found.states();
-    let words = found.len().saturating_mul(automaton.states() / 64 + 1);
-    let work = words.saturating_mul(automaton.letters() as usize);
-    let sample = sample_of(alloc, found)?;
-    turns.next(alloc, work, &sample, sets)
+    let dfa = explore_languages(alloc, &sets)?;
+    Ok(dfa)
 }

@@ -2,42 +2,20 @@
 //! states of the sample. Nothing is promised of it.
 
 use crate::state_set::StateSet;
-use bit_set::BitSet;
 use std::alloc::{AllocError, Global};
 
 /// A sample has at most so many sets.
 const SAMPLED: usize = 1_024;
 
-/// A set whose states can be listed.
-pub trait ListedStates {
-    /// Its states.
-    fn list(&self, alloc: Global) -> Result<Vec<usize>, AllocError>;
-}
-
-impl ListedStates for StateSet {
-    fn list(&self, alloc: Global) -> Result<Vec<usize>, AllocError> {
-        Vec::from_slice(alloc, self.as_slice())
-    }
-}
-
-impl ListedStates for BitSet {
-    fn list(&self, alloc: Global) -> Result<Vec<usize>, AllocError> {
-        self.numbers(alloc)
-    }
-}
-
 /// A sample of the sets.
-pub fn sample_of<S: ListedStates>(
-    alloc: Global,
-    sets: &[S],
-) -> Result<Vec<Vec<usize>>, AllocError> {
+pub fn sample_of(alloc: Global, sets: &[StateSet]) -> Result<Vec<Vec<usize>>, AllocError> {
     let mut sample = Vec::with_capacity(alloc, SAMPLED)?;
     'sample: for number in 0..SAMPLED {
         let place = place_of(number, sets.len());
         if place >= sets.len() {
             continue;
         }
-        let states = sets[place].list(alloc)?;
+        let states = Vec::from_slice(alloc, sets[place].as_slice())?;
         sample.push(states)?;
     }
     Ok(sample)
