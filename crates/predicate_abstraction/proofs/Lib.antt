@@ -6,5 +6,4 @@ pub mod Edges
 pub mod Marks
 pub mod Parts
 pub mod Sharing
-pub mod SourceLists
 pub mod SignatureLaws

@@ -1,21 +1,20 @@
 -- The search for pairs of states that share a word, pair by pair.
-use Rattle.std.proofs.Common.{◌≡◌, ◌<◌, ◌≤◌, ◌+◌, ◌⊎◌, ℕ, Vec, List, [], ◌∷◌, ◌++◌, All, None, Some, Contains, IsTrue, length, get_or, slice_get, sym, ap, subst, ◌∙◌, inl, inr, arith}
+use Rattle.std.proofs.Common.{◌≡◌, ◌<◌, ◌≤◌, ◌+◌, ◌⊎◌, ℕ, Vec, List, [], ◌∷◌, ◌++◌, All, Some, Contains, IsTrue, length, get_or, slice_get, sym, ap, subst, ◌∙◌, inl, inr, arith}
 use Rattle.std.proofs.lemmas.Bool.{cases_lt}
 use Rattle.std.proofs.lemmas.List.{get_or_append_left, get_or_default, length-append, length_push}
 use Rattle.std.proofs.lemmas.List.Elements.{Contains-append_left, Contains-get_or}
+use Rattle.std.specs.List.Sorted.{IsPermutation, IsNonDecreasingBy}
+use Rattle.std.proofs.lemmas.List.Sorted.{Contains-permutation, IsPermutation-sym}
 use Rattle.std.proofs.lemmas.Option.{slice_get-get_or, slice_get_within}
 use Rattle.word_automata.specs.Path.{edges_of}
 use Rattle.word_automata.specs.Automaton.{Automaton, accepts_from, IsValid}
-use Rattle.word_automata.specs.Nondeterministic.{NondeterministicAutomaton}
 use Rattle.word_automata.proofs.ForCallers.{accepting_within, Contains-none, All-from_contains}
 use Rattle.exploration.specs.Incoming.{Chains, AreIncoming, AddsMoves}
 use Rattle.exploration.proofs.ForCallers.{slice_get-push_cases}
 use Rattle.predicate_abstraction.specs.Predicates.{SharesWord}
 use Rattle.predicate_abstraction.specs.private.Pairs.{Pairs, AddsPairs}
-use Rattle.predicate_abstraction.specs.private.Sources.{AreSourcesByLetter}
 use Rattle.predicate_abstraction.specs.private.SharedWords.{AreShared, SharesWords, AreAccepting, AreSources, AreEdgesInto, AreEdgesByTarget}
 use Rattle.predicate_abstraction.proofs.Edges.{accepts_along, accepts_first, edge_within}
-use Rattle.predicate_abstraction.proofs.SourceLists.{letter_within}
 
 -- the pairs of accepting states
 pub shares_accepting : (a b : Automaton) (old new : Pairs) → old.rows ≡ length a.states → old.columns ≡ length b.states → old.pairs ≡ [] → (i : ℕ) → length a.states ≤ i
@@ -32,16 +31,19 @@ shares_accepting a b old new rows columns empty i all adds = record {
   led = λ k letter p s below. absurd (omega arith);
 }
 
--- what is put into an empty list
-pub list_into : (a : Automaton) (chains : Chains) → AreIncoming a chains → (q : ℕ) (none moves : List (ℕ × ℕ)) → none ≡ []
-    → AddsMoves chains q none moves → AreEdgesInto a q moves
-list_into a chains incoming q none moves empty adds move = (
-  λ there. elim (adds.only move there) [
-    | inl before ↦ absurd (Contains-none move (subst (λ xs. Contains xs move) empty before))
-    | inr into ↦ incoming.sound q move into
-  ],
-  λ edge. adds.added move (incoming.complete move.1 move.0 q edge),
-)
+-- what is put into an empty list, sorted by letters
+pub list_into : (a : Automaton) (chains : Chains) → AreIncoming a chains → (q : ℕ) (none moves sorted : List (ℕ × ℕ)) → none ≡ []
+    → AddsMoves chains q none moves → IsPermutation moves sorted → IsNonDecreasingBy (λ (move : ℕ × ℕ). move.0) sorted → AreEdgesInto a q sorted
+list_into a chains incoming q none moves sorted empty adds reordered rises = record {
+  same = λ move. (
+    λ there. elim (adds.only move (Contains-permutation sorted moves move (IsPermutation-sym moves sorted reordered) there)) [
+      | inl before ↦ absurd (Contains-none move (subst (λ xs. Contains xs move) empty before))
+      | inr into ↦ incoming.sound q move into
+    ],
+    λ edge. Contains-permutation moves sorted move reordered (adds.added move (incoming.complete move.1 move.0 q edge)),
+  );
+  ordered = rises;
+}
 
 -- one more list
 pub lists_none : {A : Type 0} → (a : Automaton) → IsValid a → (lists : List (Vec (ℕ × ℕ) A)) → lists ≡ [] → AreEdgesByTarget a lists 0
@@ -74,24 +76,17 @@ list_at a lists n each p list moves within read same =
     subst (AreEdgesInto a p) (sym same)
     (each.each p list (slice_get-get_or lists p list (let c = each.count in omega arith) ∙ ap Some (sym read)))
 
--- their sources are states, and their letters those of the automaton
+-- their sources are states
 pub sources_within : (a : Automaton) (size : ℕ) → size ≡ length a.states → (q : ℕ) (moves : List (ℕ × ℕ)) → AreEdgesInto a q moves
     → All (λ move. move.1 < size) moves
 sources_within a size same q moves are =
     All-from_contains (λ (move : ℕ × ℕ). move.1 < size) moves
-    (λ move there. let l = edge_within a move.1 move.0 q ((are move).0 there) in omega arith)
-
-pub letters_within : (a : Automaton) → IsValid a → (letters : ℕ) → letters ≡ a.letters → (q : ℕ) (moves : List (ℕ × ℕ))
-    → AreEdgesInto a q moves → All (λ move. move.0 < letters) moves
-letters_within a valid letters same q moves are =
-    All-from_contains (λ (move : ℕ × ℕ). move.0 < letters) moves
-    (λ move there. let l = letter_within a valid move.1 move.0 q ((are move).0 there) in omega arith)
+    (λ move there. let l = edge_within a move.1 move.0 q ((are.same move).0 there) in omega arith)
 
 -- one more pair
-module _ (a b : Automaton) (valid : IsValid a) (into_b : NondeterministicAutomaton) (rev_b : AreSourcesByLetter b into_b)
-    (same_letters : b.letters ≡ a.letters) (old new : Pairs) (next : ℕ) (pair : ℕ × ℕ) (moves : List (ℕ × ℕ))
-    (are : AreEdgesInto a pair.0 moves) (there : next < length old.pairs) (read : get_or old.pairs next (0, 0) ≡ pair)
-    (adds : AddsPairs (AreSources moves into_b.states b.letters pair.1) old new) (before : SharesWords a b old next) where
+module _ (a b : Automaton) (valid_a : IsValid a) (valid_b : IsValid b) (old new : Pairs) (next : ℕ) (pair : ℕ × ℕ) (into_p into_s : List (ℕ × ℕ))
+    (are_p : AreEdgesInto a pair.0 into_p) (are_s : AreEdgesInto b pair.1 into_s) (there : next < length old.pairs) (read : get_or old.pairs next (0, 0) ≡ pair)
+    (adds : AddsPairs (AreSources into_p into_s) old new) (before : SharesWords a b old next) where
   kept : (x : ℕ × ℕ) → Contains old.pairs x → Contains new.pairs x
   kept x contained = subst (λ xs. Contains xs x) (sym adds.begins.1) (Contains-append_left old.pairs adds.begins.0 x contained)
 
@@ -104,14 +99,12 @@ module _ (a b : Automaton) (valid : IsValid a) (into_b : NondeterministicAutomat
   word : SharesWord a pair.0 b pair.1
   word = before.sound pair.0 pair.1 (subst (Contains old.pairs) read (Contains-get_or old.pairs next (0, 0) there))
 
-  sources : (p s : ℕ) → AreSources moves into_b.states b.letters pair.1 (p, s) → SharesWord a p b s
-  sources p s (letter, left, label, right) =
-      let edge = (are (letter, p)).0 left in
-      let small = letter_within a valid p letter pair.0 edge in (
-        letter ∷ word.0,
-        accepts_along a valid p letter pair.0 word.0 edge word.1,
-        accepts_along b rev_b.valid s letter pair.1 word.0 (rev_b.only s letter pair.1 label (omega arith) right) word.2,
-      )
+  sources : (p s : ℕ) → AreSources into_p into_s (p, s) → SharesWord a p b s
+  sources p s (letter, left, right) = (
+    letter ∷ word.0,
+    accepts_along a valid_a p letter pair.0 word.0 ((are_p.same (letter, p)).0 left) word.1,
+    accepts_along b valid_b s letter pair.1 word.0 ((are_s.same (letter, s)).0 right) word.2,
+  )
 
   pub shares_more : SharesWords a b new (next + 1)
   shares_more = record {
@@ -129,9 +122,8 @@ module _ (a b : Automaton) (valid : IsValid a) (into_b : NondeterministicAutomat
           let e : get_or new.pairs k (0, 0) ≡ pair = ap (λ j. get_or new.pairs j (0, 0)) {x = k} {y = next} (omega arith) ∙ same next there ∙ read in
           adds.added (p, s) (
             letter,
-            (are (letter, p)).1 (subst (λ (x : ℕ × ℕ). Contains (edges_of a.states p) (letter, x.0)) e left),
-            None,
-            rev_b.turned s letter pair.1 (subst (λ (x : ℕ × ℕ). Contains (edges_of b.states s) (letter, x.1)) e right),
+            (are_p.same (letter, p)).1 (subst (λ (x : ℕ × ℕ). Contains (edges_of a.states p) (letter, x.0)) e left),
+            (are_s.same (letter, s)).1 (subst (λ (x : ℕ × ℕ). Contains (edges_of b.states s) (letter, x.1)) e right),
           )
     ];
   }

@@ -1,5 +1,5 @@
 -- Two states that share a word share a short one, so states are related by predicates exactly where their signatures are equal.
-use Rattle.std.specs.Prelude.{◌≡◌, ◌↔◌, ◌⊎◌, ◌<◌, ◌≤◌, ◌+◌, ◌*◌, ◌++◌, ◌&&◌, ℕ, zero, suc, Bool, true}
+use Rattle.std.specs.Prelude.{◌≡◌, ◌⊎◌, ◌<◌, ◌≤◌, ◌+◌, ◌*◌, ◌++◌, ◌&&◌, ℕ, zero, suc, Bool, true}
 use Rattle.std.specs.Prelude.{false, nat_eq, List, [], ◌∷◌, IsTrue, Contains, map, take, length, get_or}
 use Rattle.std.specs.List.{IsDistinct, flat_map, list_any, range_with_len, sum_by}
 use Rattle.std.proofs.Common.{refl, sym, ap, subst, ◌∙◌, inl, inr, arith}
@@ -13,10 +13,9 @@ use Rattle.std.proofs.lemmas.List.Sums.{sum_by-cons}
 use Rattle.std.proofs.lemmas.List.FromFn.{length-map-range_with_len, get_or-map-range_with_len}
 use Rattle.word_automata.proofs.ForCallers.{Contains-here, Contains-there, accepting_within, leads_within}
 use Rattle.std.proofs.lemmas.Map.Steps.{length-le_from_distinct_below}
-use Rattle.word_automata.specs.Automaton.{Automaton, accepts_from, IsValid}
+use Rattle.word_automata.specs.Automaton.{Automaton, accepts_from}
 use Rattle.abstraction.specs.BoundedWords.{words_up_to}
 use Rattle.abstraction.proofs.ForCallers.{distinct_more, some_passes, contains_accepted}
-use Rattle.predicate_abstraction.specs.Predicates.{SharesWord}
 use Rattle.predicate_abstraction.specs.Signatures.{shares_word, TestsSharedWords, RelatedBySignature}
 use Rattle.predicate_abstraction.specs.PredicateLaws.{accepts_first, accepts_along}
 

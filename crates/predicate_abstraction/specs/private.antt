@@ -2,5 +2,4 @@
 pub mod Codes
 pub mod Pairs
 pub mod SharedWords
-pub mod Sources
 pub mod Splitting

@@ -11,7 +11,6 @@ mod predicate;
 mod predicates;
 mod shared_words;
 mod shares;
-mod sources;
 mod splitting;
 
 pub use laws::related_by_signature;

@@ -50,13 +50,6 @@ impl PairSet {
         self.rows
     }
 
-    /// The number of columns.
-    pub fn columns(&self) -> usize
-        ensures { result ≡ self.now.columns }
-    {
-        self.columns
-    }
-
     /// The number of pairs in the set.
     pub fn len(&self) -> usize
         ensures { result ≡ length self.now.pairs }

@@ -1,44 +1,43 @@
 //! Which states of two automata share a word: from the pairs of accepting states backward over edges with the same letter. Each pair
-//! is visited once, so that it takes time linear in the pairs of edges with the same letter, in the pairs of states, and in the letters
-//! at each state of the second automaton.
+//! is visited once, and the edges into its two states are merged by their letters: time linear in the pairs of edges with the same letter
+//! and in the pairs of a state of one automaton and a state or an edge of the other.
 
-ghost use Rattle.std.specs.Prelude.{◌≡◌, ◌<◌, All, IfOk, OnOk, length};
+ghost use Rattle.std.specs.Prelude.{◌≡◌, ◌<◌, ℕ, All, IfOk, OnOk, length, slice_index_or};
+ghost use Rattle.std.specs.List.Sorted.{IsNonDecreasingBy};
 ghost use Rattle.predicate_abstraction.specs.private.Pairs.{AddsPairs};
-ghost use Rattle.predicate_abstraction.specs.private.Sources.{AreSourcesByLetter};
-ghost use Rattle.predicate_abstraction.specs.private.SharedWords.{AreShared, SharesWords, IsAcceptingIn, IsSource, AreSources, AreEdgesByTarget};
+ghost use Rattle.predicate_abstraction.specs.private.SharedWords.{AreShared, SharesWords, IsAcceptingIn, IsPlaceOf, IsSource, AreSources, AreEdgesByTarget};
 
 use crate::pair_set::PairSet;
-use crate::place::place;
 use exploration::Incoming;
 use std::alloc::{AllocError, Global};
-use word_automata::{Dfa, Nfa};
+use word_automata::Dfa;
 
-/// The pairs of a state of `a`, whose edges are listed by their targets, and one of `b`, whose edges are kept by their targets and letters,
-/// that share a word.
+/// The pairs of a state of `a` and one of `b` that share a word. The edges of both are listed by their targets.
 pub fn shared_words(
     alloc: Global,
     a: &Dfa,
     into_a: &[Vec<(u32, usize)>],
     b: &Dfa,
-    into_b: &Nfa,
+    into_b: &[Vec<(u32, usize)>],
 ) -> Result<PairSet, AllocError>
-    requires letters { b.now.letters ≡ a.now.letters }
-    requires edges { AreEdgesByTarget a.now into_a.now (length a.now.states) }
-    requires sources { AreSourcesByLetter b.now into_b.now }
+    requires a { AreEdgesByTarget a.now into_a.now (length a.now.states) }
+    requires b { AreEdgesByTarget b.now into_b.now (length b.now.states) }
     ensures { IfOk result (AreShared a.now b.now) }
 {
     let mut shared = accepting_pairs(alloc, a, b)?;
     let mut next = 0;
     'pairs: while next < shared.len() {
         let (p, s) = shared.pair(next);
-        let edges: &Vec<(u32, usize)> = &into_a[p];
-        add_predecessors(&mut shared, edges, b, into_b, s)?;
+        let into_p: &Vec<(u32, usize)> = &into_a[p];
+        let into_s: &Vec<(u32, usize)> = &into_b[s];
+        add_predecessors(&mut shared, into_p, into_s)?;
         next += 1;
     }
     Ok(shared)
 }
 
-/// For each state a list of the edges into it, each its letter with its source: a state is asked for them once for each pair that has it.
+/// For each state a list of the edges into it, each its letter with its source, sorted by letters: a state is asked for them once for each
+/// pair that has it.
 pub fn edges_into(alloc: Global, a: &Dfa) -> Result<Vec<Vec<(u32, usize)>>, AllocError>
     ensures { IfOk result (λ lists. AreEdgesByTarget a.now lists.items (length a.now.states)) }
 {
@@ -47,6 +46,7 @@ pub fn edges_into(alloc: Global, a: &Dfa) -> Result<Vec<Vec<(u32, usize)>>, Allo
     'states: for state in 0..a.states() {
         let mut edges = Vec::new(alloc);
         incoming.put_into(state, &mut edges)?;
+        edges.sort_unstable_by_key(|&(letter, _)| letter);
         lists.push(edges)?;
     }
     Ok(lists)
@@ -79,42 +79,58 @@ fn add_accepting(shared: &mut PairSet, b: &Dfa, row: usize) -> Result<(), AllocE
     Ok(())
 }
 
-/// Adds the pairs from which edges with the same letter lead to a pair of states. Those into the first of the two states are told by
-/// their letters and sources `into_a`, and the second state is `s`.
+/// Adds the pairs from which edges with the same letter lead to a pair of states. The edges into each of the two are told by their letters
+/// and sources, and sorted by letters.
 fn add_predecessors(
     shared: &mut PairSet,
     into_a: &[(u32, usize)],
-    b: &Dfa,
-    into_b: &Nfa,
-    s: usize,
+    into_b: &[(u32, usize)],
 ) -> Result<(), AllocError>
-    requires state { s < length b.now.states }
     requires rows { All (λ move. move.1 < shared.old.rows) into_a.now }
-    requires letters { All (λ move. move.0 < b.now.letters) into_a.now }
-    requires columns { shared.old.columns ≡ length b.now.states }
-    requires sources { AreSourcesByLetter b.now into_b.now }
-    ensures { OnOk result (AddsPairs (AreSources into_a.now into_b.now.states b.now.letters s) shared.old shared.new) }
+    requires columns { All (λ move. move.1 < shared.old.columns) into_b.now }
+    requires order_a { IsNonDecreasingBy (λ move. move.0) into_a.now }
+    requires order_b { IsNonDecreasingBy (λ move. move.0) into_b.now }
+    ensures { OnOk result (AddsPairs (AreSources into_a.now into_b.now) shared.old shared.new) }
 {
-    let _places = into_b.states(); // there are few enough
+    let mut from = 0;
     'edges: for &(letter, row) in into_a {
-        let at = place(b.states(), b.letters() as usize, s, letter as usize);
-        add_sources(shared, row, into_b.edges_from(at))?;
+        from = place_of(into_b, from, letter);
+        add_sources(shared, row, into_b, from, letter)?;
     }
     Ok(())
 }
 
-/// Adds the pairs of the row and the targets of the edges.
+/// The place of the first edge with the letter or a greater one, which is looked for from a place on.
+fn place_of(edges: &[(u32, usize)], from: usize, letter: u32) -> usize
+    requires order { IsNonDecreasingBy (λ move. move.0) edges.now }
+    requires less { (k : ℕ) → k < from → (slice_index_or edges.now k (0, 0)).0 < letter }
+    ensures { IsPlaceOf letter edges.now result }
+{
+    let mut at = from;
+    'edges: while at < edges.len() && edges[at].0 < letter {
+        at += 1;
+    }
+    at
+}
+
+/// Adds the pairs of the row and the sources of the edges with the letter, whose place is known.
 fn add_sources(
     shared: &mut PairSet,
     row: usize,
-    edges: &[(Option<u32>, usize)],
+    edges: &[(u32, usize)],
+    place: usize,
+    letter: u32,
 ) -> Result<(), AllocError>
     requires row { row < shared.old.rows }
-    requires columns { All (λ edge. edge.1 < shared.old.columns) edges.now }
-    ensures { OnOk result (AddsPairs (IsSource row edges.now) shared.old shared.new) }
+    requires columns { All (λ move. move.1 < shared.old.columns) edges.now }
+    requires order { IsNonDecreasingBy (λ move. move.0) edges.now }
+    requires place { IsPlaceOf letter edges.now place }
+    ensures { OnOk result (AddsPairs (IsSource row letter edges.now) shared.old shared.new) }
 {
-    'edges: for &(_, column) in edges {
-        shared.insert(row, column)?;
+    let mut at = place;
+    'edges: while at < edges.len() && edges[at].0 == letter {
+        shared.insert(row, edges[at].1)?;
+        at += 1;
     }
     Ok(())
 }

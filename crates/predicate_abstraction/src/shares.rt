@@ -1,12 +1,12 @@
 //! Classes of states by a list of predicate automata. The list is cut into shares, one for each worker; a thread splits the states by
 //! the automata of its share alone, and the classes of all shares are put together.
 
-ghost use Rattle.std.specs.Prelude.{◌≡◌, All, IfOk};
+ghost use Rattle.std.specs.Prelude.{IfOk};
 ghost use Rattle.predicate_abstraction.specs.private.Splitting.{AreClassesBy, AreClassesOfAllButLast};
 
 use crate::common_classes::common_classes;
 use crate::predicate::Predicate;
-use crate::sources::sources_by_letter;
+use crate::shared_words::edges_into;
 use crate::splitting::split_by_predicate;
 use abstraction::{are_single, first_states};
 use minimise::Canon;
@@ -24,7 +24,6 @@ pub fn classes_in_threads<R: Threads>(
     a: &Canon,
     predicates: &[Predicate],
 ) -> Result<Vec<usize>, AllocError>
-    requires { All (λ m. m.letters ≡ a.now.letters) predicates.now }
     ensures { IfOk result (λ classes. AreClassesBy predicates.now a.now classes.items) }
 {
     let worth = states(predicates).saturating_mul(a.size()) / PAIRS_OF_A_SHARE;
@@ -49,7 +48,6 @@ fn classes_in_shares<R: Threads>(
     a: &Canon,
     predicates: &[Predicate],
 ) -> Result<Vec<usize>, AllocError>
-    requires { All (λ m. m.letters ≡ a.now.letters) predicates.now }
     ensures { IfOk result (λ classes. AreClassesBy predicates.now a.now classes.items) }
 {
     if shares < 2 {
@@ -60,11 +58,9 @@ fn classes_in_shares<R: Threads>(
     let (first, rest) = join(
         runtime,
         || -> Result<Vec<usize>, AllocError>
-            requires { All (λ m. m.letters ≡ a.now.letters) share.now }
             ensures { IfOk result (λ classes. AreClassesBy share.entry.now a.entry.now classes.items) }
         { classes_in_turn(alloc, a, share) },
         || -> Result<Vec<usize>, AllocError>
-            requires { All (λ m. m.letters ≡ a.now.letters) others.now }
             ensures { IfOk result (λ classes. AreClassesBy others.entry.now a.entry.now classes.items) }
         { classes_in_shares(alloc, runtime, other_shares, a, others) },
     );
@@ -77,11 +73,10 @@ fn classes_in_turn(
     a: &Canon,
     predicates: &[Predicate],
 ) -> Result<Vec<usize>, AllocError>
-    requires { All (λ m. m.letters ≡ a.now.letters) predicates.now }
     ensures { IfOk result (λ classes. AreClassesBy predicates.now a.now classes.items) }
 {
     let automaton = a.as_dfa();
-    let into = sources_by_letter(alloc, automaton)?;
+    let into = edges_into(alloc, automaton)?;
     let mut classes = vec![in alloc; 0; a.size()]?;
     'predicates: for predicate in predicates {
         if are_single(&classes) {
@@ -99,8 +94,7 @@ pub fn split_by_last(
     a: &Canon,
     before: &[usize],
 ) -> Result<Vec<usize>, AllocError>
-    requires letters { All (λ m. m.letters ≡ a.now.letters) predicates.now }
-    requires before { AreClassesOfAllButLast predicates.now a.now before.now }
+    requires { AreClassesOfAllButLast predicates.now a.now before.now }
     ensures { IfOk result (λ classes. AreClassesBy predicates.now a.now classes.items) }
 {
     let classes = first_states(alloc, before)?;
@@ -108,6 +102,6 @@ pub fn split_by_last(
         return Ok(classes);
     };
     let automaton = a.as_dfa();
-    let into = sources_by_letter(alloc, automaton)?;
+    let into = edges_into(alloc, automaton)?;
     split_by_predicate(alloc, &classes, automaton, &into, &predicates[last])
 }

@@ -1,9 +1,9 @@
 //! Classes of states, split by which states of a predicate automaton share a word with them. A split costs the walk that finds the pairs
 //! of states that share a word, and time linear in the table of these pairs, whose rows it goes through until each state is alone.
 
-ghost use Rattle.std.specs.Prelude.{◌≡◌, ◌+◌, ◌^◌, ◌<◌, IsTrue, IfOk, length};
+ghost use Rattle.std.specs.Prelude.{◌+◌, ◌^◌, ◌<◌, IsTrue, IfOk, length};
 ghost use Rattle.abstraction.specs.Partitions.{AreNumbers};
-ghost use Rattle.predicate_abstraction.specs.private.Sources.{AreSourcesByLetter};
+ghost use Rattle.predicate_abstraction.specs.private.SharedWords.{AreEdgesByTarget};
 ghost use Rattle.predicate_abstraction.specs.private.Splitting.{IsSplit, IsSplitByRows};
 
 use crate::codes::{codes, have_same_marks};
@@ -12,19 +12,18 @@ use crate::predicate::Predicate;
 use crate::shared_words::shared_words;
 use abstraction::{are_single, first_states};
 use std::alloc::{AllocError, Global};
-use word_automata::{Dfa, Nfa};
+use word_automata::Dfa;
 
 /// Splits the classes of the states of `a`: those that were in one class stay in one where they share words with the same states of the
-/// predicate automaton `b`. The edges of `a` are kept by their targets and letters.
+/// predicate automaton `b`. The edges of `a` are listed by their targets.
 pub fn split_by_predicate(
     alloc: Global,
     classes: &[usize],
     a: &Dfa,
-    into_a: &Nfa,
+    into_a: &[Vec<(u32, usize)>],
     b: &Predicate,
 ) -> Result<Vec<usize>, AllocError>
-    requires letters { b.now.letters ≡ a.now.letters }
-    requires edges { AreSourcesByLetter a.now into_a.now }
+    requires edges { AreEdgesByTarget a.now into_a.now (length a.now.states) }
     requires classes { AreNumbers (length a.now.states) classes.now }
     ensures { IfOk result (λ finer. IsSplit a.now b.now classes.now finer.items) }
 {

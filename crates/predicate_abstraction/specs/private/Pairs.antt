@@ -1,5 +1,5 @@
 -- Sets of pairs.
-use Rattle.std.specs.Prelude.{◌≡◌, ◌↔◌, ◌⊎◌, ◌<◌, ◌≤◌, ◌*◌, ◌+◌, ℕ, Bool, true, false, List, ◌++◌, All, Contains, length, slice_index, slice_index_or}
+use Rattle.std.specs.Prelude.{◌≡◌, ◌↔◌, ◌⊎◌, ◌<◌, ◌*◌, ◌+◌, ℕ, Bool, true, false, List, ◌++◌, All, Contains, length, slice_index_or}
 
 -- pairs of a row and a column
 pub record Pairs : Type 0 where

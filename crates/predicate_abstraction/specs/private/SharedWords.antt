@@ -1,6 +1,7 @@
 -- The search for pairs of states that share a word.
-use Rattle.std.specs.Prelude.{◌≡◌, ◌↔◌, ◌<◌, ◌≤◌, ◌+◌, ◌*◌, ℕ, List, Vec, Option, Some, Contains, IsTrue, length, slice_get, slice_index_or}
-use Rattle.word_automata.specs.Path.{Node, edges_of, is_accepting}
+use Rattle.std.specs.Prelude.{◌≡◌, ◌↔◌, ◌<◌, ◌≤◌, ℕ, List, Vec, Some, Contains, IsTrue, length, slice_get, slice_index_or}
+use Rattle.std.specs.List.Sorted.{IsNonDecreasingBy}
+use Rattle.word_automata.specs.Path.{edges_of, is_accepting}
 use Rattle.word_automata.specs.Automaton.{Automaton, IsValid}
 use Rattle.predicate_abstraction.specs.Predicates.{SharesWord}
 use Rattle.predicate_abstraction.specs.private.Pairs.{Pairs}
@@ -29,18 +30,23 @@ IsAcceptingIn b row i pair = (pair.0 ≡ row) × (pair.1 < i) × IsTrue (is_acce
 abbrev pub AreAccepting : Automaton → Automaton → ℕ → ℕ × ℕ → Type 0
 AreAccepting a b i pair = (pair.0 < i) × IsTrue (is_accepting a.states pair.0) × (pair.1 < length b.states) × IsTrue (is_accepting b.states pair.1)
 
--- a pair of the row and the target of an edge
-abbrev pub IsSource : ℕ → List (Option ℕ × ℕ) → ℕ × ℕ → Type 0
-IsSource row edges pair = (pair.0 ≡ row) × (label : Option ℕ) × Contains edges (label, pair.1)
+-- the edges before the place have smaller letters, and those from there on have the letter or greater ones
+pub record IsPlaceOf (letter : ℕ) (edges : List (ℕ × ℕ)) (at : ℕ) : Type 0 where
+  pub less : (k : ℕ) → k < at → (slice_index_or edges k (0, 0)).0 < letter
+  pub rest : (k : ℕ) → at ≤ k → k < length edges → letter ≤ (slice_index_or edges k (0, 0)).0
 
--- a pair of sources of edges with the same letter, the second of which are kept at the place of the state s and the letter
-abbrev pub AreSources : List (ℕ × ℕ) → List (Node (Option ℕ)) → ℕ → ℕ → ℕ × ℕ → Type 0
-AreSources into_a into_b letters s pair =
-    (letter : ℕ) × Contains into_a (letter, pair.0) × (label : Option ℕ) × Contains (edges_of into_b (s * letters + letter)) (label, pair.1)
+-- a pair of the row and the source of an edge with the letter
+abbrev pub IsSource : ℕ → ℕ → List (ℕ × ℕ) → ℕ × ℕ → Type 0
+IsSource row letter edges pair = (pair.0 ≡ row) × Contains edges (letter, pair.1)
 
--- the moves are the letters and sources of the edges into the state
-abbrev pub AreEdgesInto : Automaton → ℕ → List (ℕ × ℕ) → Type 0
-AreEdgesInto a q moves = (move : ℕ × ℕ) → Contains moves move ↔ Contains (edges_of a.states move.1) (move.0, q)
+-- a pair of sources of edges with the same letter
+abbrev pub AreSources : List (ℕ × ℕ) → List (ℕ × ℕ) → ℕ × ℕ → Type 0
+AreSources into_a into_b pair = (letter : ℕ) × Contains into_a (letter, pair.0) × Contains into_b (letter, pair.1)
+
+-- the moves are the letters and sources of the edges into the state, sorted by letters
+pub record AreEdgesInto (a : Automaton) (q : ℕ) (moves : List (ℕ × ℕ)) : Type 0 where
+  pub same : (move : ℕ × ℕ) → Contains moves move ↔ Contains (edges_of a.states move.1) (move.0, q)
+  pub ordered : IsNonDecreasingBy (λ move. move.0) moves
 
 -- a is valid, and the lists are those of the edges into its first n states
 pub record AreEdgesByTarget {A : Type 0} (a : Automaton) (lists : List (Vec (ℕ × ℕ) A)) (n : ℕ) : Type 0 where

@@ -1,5 +1,5 @@
-use Rattle.std.proofs.Common.{rules, ◌≡◌, ◌+◌, true, subst}
-use Rattle.predicate_abstraction.specs.private.Splitting.{HaveSame, HaveSameRows}
+use Rattle.std.proofs.Common.{rules, ◌≡◌, true, subst}
+use Rattle.predicate_abstraction.specs.private.Splitting.{HaveSame}
 use Rattle.predicate_abstraction.proofs.CodeLemmas.{three_rows}
 use Rattle.predicate_abstraction.proofs.codes.have_same_marks.Goals as goal
 

@@ -1,4 +1,4 @@
-use Rattle.std.proofs.Common.{◌≡◌, ◌<◌, ℕ, length, slice_index, subst, sym, arith}
+use Rattle.std.proofs.Common.{◌≡◌, ◌<◌, ℕ, length, slice_index, subst, arith}
 use Rattle.predicate_abstraction.specs.private.Splitting.{IsSplit}
 use Rattle.predicate_abstraction.proofs.Parts.{classes_by_more, classes_by_alone}
 use Rattle.predicate_abstraction.proofs.shares.classes_in_turn.Goals as goal

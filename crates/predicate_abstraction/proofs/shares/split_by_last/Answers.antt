@@ -1,6 +1,5 @@
-use Rattle.std.proofs.Common.{◌≡◌, List, ℕ, sym, subst, arith}
+use Rattle.std.proofs.Common.{subst, arith}
 use Rattle.std.proofs.lemmas.Result.{IfOk-weaker}
-use Rattle.abstraction.specs.FirstStates.{AreFirsts}
 use Rattle.predicate_abstraction.specs.private.Splitting.{AreClassesBy, IsSplit}
 use Rattle.predicate_abstraction.proofs.Parts.{classes_by_firsts, classes_by_last, last_is}
 use Rattle.predicate_abstraction.proofs.shares.split_by_last.Goals as goal
@@ -9,7 +8,7 @@ pub returns : goal.returns
 returns c =
     let a = c.args.a.now in
     let predicates = c.args.predicates.now in
-    let before = c.requires.before in
+    let before = c.requires in
     let b = c.index-predicates-last.result in
     let firsts = c.in_ok-classes.classes.items in
     let others = classes_by_firsts a before.others c.args.before.now firsts before.classes_are c.in_ok-classes.ensures in

@@ -1,4 +1,4 @@
-use Rattle.std.proofs.Common.{rules, ◌≡◌, ◌+◌, true, below_more, length, get_or, arith}
+use Rattle.std.proofs.Common.{rules, ◌≡◌, ◌+◌, true, below_more, get_or, arith}
 use Rattle.predicate_abstraction.specs.private.Splitting.{HaveSameRows}
 use Rattle.predicate_abstraction.proofs.Parts.{rows_whole}
 use Rattle.predicate_abstraction.proofs.splitting.are_whole.Goals as goal

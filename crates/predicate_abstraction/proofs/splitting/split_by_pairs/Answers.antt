@@ -1,4 +1,4 @@
-use Rattle.std.proofs.Common.{◌≡◌, ◌<◌, ◌≤◌, ◌+◌, ℕ, length, slice_index, sym, subst, arith}
+use Rattle.std.proofs.Common.{◌≡◌, ◌<◌, ◌+◌, ℕ, length, slice_index, sym, subst, arith}
 use Rattle.predicate_abstraction.specs.private.Splitting.{IsSplitByRows}
 use Rattle.predicate_abstraction.proofs.Parts.{rows_more, rows_all, rows_alone}
 use Rattle.predicate_abstraction.proofs.splitting.split_by_pairs.Goals as goal

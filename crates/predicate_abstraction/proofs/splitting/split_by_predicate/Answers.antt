@@ -1,4 +1,4 @@
-use Rattle.std.proofs.Common.{List, ℕ, length, sym, subst}
+use Rattle.std.proofs.Common.{subst}
 use Rattle.std.proofs.lemmas.Result.{IfOk-weaker}
 use Rattle.predicate_abstraction.specs.private.SharedWords.{AreShared}
 use Rattle.predicate_abstraction.specs.private.Splitting.{IsSplit, IsSplitByRows}

@@ -1,17 +1,10 @@
-use Rattle.std.proofs.Common.{◌≡◌, All, length, sym, subst, ◌∙◌}
+use Rattle.std.proofs.Common.{length, subst}
 use Rattle.std.proofs.lemmas.Result.{IfOk-weaker}
-use Rattle.word_automata.specs.Automaton.{Automaton}
 use Rattle.abstraction.specs.Merging.{AreClasses}
 use Rattle.predicate_abstraction.specs.Predicates.{MeetSame, key_of}
 use Rattle.predicate_abstraction.specs.private.Splitting.{AreClassesBy}
 use Rattle.predicate_abstraction.proofs.Parts.{classes_by_all, key_automata}
 use Rattle.predicate_abstraction.proofs.predicates.PredicatesAbstraction.classes.Goals as goal
-
-pub classes_in_threads-requires : goal.classes_in_threads-requires
-classes_in_threads-requires g c =
-    let inside = c.self.inside in
-    subst (All (λ (m : Automaton). m.letters ≡ c.args.a.now.letters))
-    (sym (c.deref.ensures.value ∙ key_automata inside.automata.items inside.started c.args.self.now c.self.view_is)) c.requires
 
 pub returns : goal.returns
 returns g c =

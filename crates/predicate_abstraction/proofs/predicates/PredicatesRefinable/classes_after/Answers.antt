@@ -1,20 +1,13 @@
-use Rattle.std.proofs.Common.{◌≡◌, length, All, sym, subst, ◌∙◌}
+use Rattle.std.proofs.Common.{length, sym, subst, ◌∙◌}
 use Rattle.std.proofs.lemmas.Result.{IfOk-weaker}
-use Rattle.word_automata.specs.Automaton.{Automaton}
-use Rattle.abstraction.specs.Merging.{AreClasses, Key}
-use Rattle.predicate_abstraction.specs.Predicates.{MeetSame, key_of, next_key}
+use Rattle.abstraction.specs.Merging.{AreClasses}
+use Rattle.predicate_abstraction.specs.Predicates.{MeetSame, key_of}
 use Rattle.predicate_abstraction.specs.private.Splitting.{AreClassesBy, AreClassesOfAllButLast}
 use Rattle.predicate_abstraction.proofs.Parts.{classes_by_all, key_automata, all_but_last}
 use Rattle.predicate_abstraction.proofs.predicates.PredicatesRefinable.classes_after.Goals as goal
 
-pub split_by_last-requires-clause-letters : goal.split_by_last-requires-clause-letters
-split_by_last-requires-clause-letters g c =
-    let inside = c.self.inside in
-    subst (All (λ (m : Automaton). m.letters ≡ c.args.a.now.letters))
-    (sym (c.deref.ensures.value ∙ key_automata inside.automata.items inside.started c.args.self.now c.self.view_is)) c.requires.letters
-
-pub split_by_last-requires-clause-before : goal.split_by_last-requires-clause-before
-split_by_last-requires-clause-before g c =
+pub split_by_last-requires : goal.split_by_last-requires
+split_by_last-requires g c =
     let inside = c.self.inside in
     let a = c.args.a.now in
     let before = c.requires.before in
