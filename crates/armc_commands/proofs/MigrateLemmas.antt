@@ -8,7 +8,6 @@ use Rattle.certificate.specs.RunText.{MeansRun}
 use Rattle.certificate.specs.declared.safe.Certificate.{Certificate}
 use Rattle.certificate.specs.declared.safe.Certificate.TheVariants.{Automaton as AutomatonProof, BadRun}
 use Rattle.protocol_model.specs.declared.system.Run.{Run}
-use Rattle.command_replies.specs.declared.status.Status.TheVariants as status
 use Rattle.command_replies.specs.declared.reply.Reply.{Reply}
 use Rattle.armc_commands.specs.Commands.Migrate.{IsMigrateReply, MigratePromise}
 

@@ -1,5 +1,5 @@
 -- The reply of `checkall`, and what it promises.
-use Rattle.std.specs.Prelude.{◌≡◌, ◌⊎◌, ℕ, List, Option, None, Some, map, codes}
+use Rattle.std.specs.Prelude.{◌≡◌, ◌⊎◌, ℕ, List, None, Some, map, codes}
 use Rattle.forms.specs.declared.name.Name.{Name}
 use Rattle.protocol_syntax.specs.declared.protocol.RowText.{RowText}
 use Rattle.protocol_syntax.specs.Properties.{AreProperties, properties}
