@@ -174,21 +174,6 @@ module _ (least : List ℕ) (c q : ℕ) (count : length least ≡ q) where
           (subst (λ i. AreInBuckets (length (set heads own c)) classes (set heads own c) (set links q i) (least ++ c ∷ [])) (sym l)
           (subst (λ n. AreInBuckets n classes heads_more links_more (least ++ c ∷ [])) (sym (length-set heads own c ∙ s.heads_count)) buckets_more))
 
-pub buckets_none : (classes heads links least : List ℕ) → least ≡ [] → 0 < length heads → ((b : ℕ) → slice_index heads b ≡ 0) → length links ≡ length classes
-    → AreInBuckets (length heads) classes heads links least
-buckets_none classes heads links least e some zeros count = record {
-  some = some;
-  heads_count = refl;
-  links_count = count;
-  last = λ b r h. absurd (let z = zeros b in omega arith);
-  before = λ p r f h. absurd (no p f);
-  below_last = λ r f. absurd (no r f);
-  below_before = λ p r f g same l. absurd (no p f);
-}
-  where
-    no : (r : ℕ) → IsFirst least r → ⊥
-    no r f = let c = ap length e in let l = first_within least r f in omega arith
-
 -- states are in one class exactly where they have one number
 pub numbered_all : (classes least : List ℕ) (n : ℕ) → AreNumbered classes least → length least ≡ n → length classes ≡ n → AreGrouped (slice_index classes) n least
 numbered_all classes least n s count states = record {

@@ -1,12 +1,12 @@
 -- Least states that are found breadth first: their places, their numbers, and the edges of each.
-use Rattle.std.proofs.Common.{◌≡◌, ◌<◌, ◌≤◌, ◌+◌, ◌↔◌, ◌⊎◌, ℕ, suc, Bool, true, false, List, [], ◌∷◌, ◌++◌, Option, None, Some, length, replicate, take, drop, set, get_or, slice_index, slice_get, IsTrue, refl, sym, ap, subst, ◌∙◌, inl, inr, add-one, arith, true≢false}
+use Rattle.std.proofs.Common.{◌≡◌, ◌<◌, ◌≤◌, ◌+◌, ◌↔◌, ◌⊎◌, ℕ, suc, Bool, true, false, List, [], ◌∷◌, ◌++◌, Option, None, Some, length, take, drop, set, get_or, slice_index, slice_get, IsTrue, refl, sym, ap, subst, ◌∙◌, inl, inr, add-one, arith, true≢false}
 use Rattle.std.proofs.lemmas.Bool.{cases_eq}
 use Rattle.std.proofs.lemmas.List.{drop_more, drop_all, get_or-set_same, get_or-set_other}
 use Rattle.std.specs.List.{filter_map, cons_option}
 use Rattle.std.specs.Option.{option_map}
-use Rattle.word_automata.specs.Path.{edges_of, is_accepting}
+use Rattle.word_automata.specs.Path.{edges_of}
 use Rattle.word_automata.specs.Automaton.{Automaton, accepts, accepts_from, target, IsValid}
-use Rattle.word_automata.specs.Building.{empty_automaton, with_state, AddsEdge, IsEdgeInRange}
+use Rattle.word_automata.specs.Building.{empty_automaton, AddsEdge, IsEdgeInRange}
 use Rattle.exploration.specs.DeterministicSystem.{DeterministicSystem, accepts_by, accepts_by_from, IsSuccessors}
 use Rattle.exploration.specs.Residuals.{StartsWith, AreResiduals}
 use Rattle.exploration.specs.private.Worklist.{Expands}
@@ -16,7 +16,6 @@ use Rattle.exploration.proofs.ForCallers.{slice_get-append, slice_get-push, slic
 use Rattle.exploration.specs.Numbering.{IsBreadthFirst, StandsFor}
 use Rattle.minimise.specs.Refinement.{least_state, HasLeastStates, quotient, IsLeastState}
 use Rattle.minimise.specs.private.BreadthFirst.{ArePlaces, NumbersLeast, AreExplored}
-use Rattle.minimise.proofs.Refining.{index-zeros}
 use Rattle.minimise.proofs.LeastStates.{least_edge, least_state-is, least_successors, least_edge_more, no_edge_more}
 
 module _ (found numbers : List ℕ) (places : ArePlaces found numbers) (state : ℕ) (free : slice_index numbers state ≡ 0) where

@@ -1,5 +1,5 @@
 -- States in classes by keys, state by state: each key has the first state that it was found at. The keys of a round are signatures.
-use Rattle.std.proofs.Common.{◌≡◌, ◌+◌, ◌<◌, ◌≤◌, ◌⊎◌, ℕ, zero, suc, List, [], ◌∷◌, ◌++◌, Option, None, Some, length, slice_index, get_or, take, refl, sym, ap, subst, ◌∙◌, inl, inr, arith, length-append}
+use Rattle.std.proofs.Common.{◌≡◌, ◌+◌, ◌<◌, ◌≤◌, ◌⊎◌, ℕ, zero, suc, List, [], ◌∷◌, ◌++◌, Option, Some, length, slice_index, get_or, take, refl, sym, ap, subst, ◌∙◌, inl, inr, arith, length-append}
 use Rattle.std.proofs.lemmas.Bool.{cases_eq, cases_lt, true≢false, cases_Bool}
 use Rattle.std.proofs.lemmas.List.{get_or_append_left, get_or_push, get_or_past, take_more, append-nil}
 use Rattle.std.proofs.lemmas.List.Elements.{filter_map-append}

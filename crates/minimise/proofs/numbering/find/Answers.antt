@@ -1,4 +1,4 @@
-use Rattle.std.proofs.Common.{◌-◌, length, arith}
+use Rattle.std.proofs.Common.{◌-◌, arith}
 use Rattle.minimise.proofs.Buckets.{first_within, before_lower}
 use Rattle.minimise.proofs.numbering.find.Goals as goal
 
