@@ -266,11 +266,7 @@ fn lists_in_turns<'a>(
 }
 
 /// A turn in which the construction goes on until more than so many lists are found.
-fn turn_of_lists<'a>(
-    alloc: Global,
-    turns: Turns<'a, Subsets<'a>>,
-    sets: usize,
-) -> Result<Turns<'a, Subsets<'a>>, AllocError>
+fn turn_of_lists<'a>(alloc: Global, turns: Turns<'a>, sets: usize) -> Result<Turns<'a>, AllocError>
     ensures found { IfOk result (λ later. later.found ≡ turns.entry.found) }
     ensures search { IfOk result (λ later. later.search ≡ turns.entry.search) }
 {

@@ -11,7 +11,7 @@ ghost use Rattle.bit_subsets.specs.Subsets.{IsPlain};
 use crate::signed_sets::SignedSets;
 use crate::subsets::Subsets;
 use atoms::{AtomSearch, Atoms};
-use exploration::{Exploration, LanguageSystem, explore_languages};
+use exploration::{Exploration, explore_languages};
 use std::alloc::{AllocError, Global};
 use word_automata::{Dfa, Nfa};
 
@@ -20,19 +20,19 @@ const SETS_PER_SIGNATURE: usize = 2;
 
 /// A construction and a search that are under way, and, where the search is at its end, whether its atoms are to tell sets apart.
 #[derive(Drop)]
-pub struct Turns<'a, T: LanguageSystem> {
-    pub found: Exploration<'a, T>,
+pub struct Turns<'a> {
+    pub found: Exploration<'a, Subsets<'a>>,
     pub search: AtomSearch<'a>,
     pub signed: Option<bool>,
 }
 
-impl<'a, T: LanguageSystem> Turns<'a, T> {
+impl<'a> Turns<'a> {
     /// The construction with a search for the atoms of the automaton that has begun.
     pub fn begin(
         alloc: Global,
         automaton: &'a Nfa,
-        found: Exploration<'a, T>,
-    ) -> Result<Turns<'a, T>, AllocError>
+        found: Exploration<'a, Subsets<'a>>,
+    ) -> Result<Turns<'a>, AllocError>
         ensures found { IfOk result (λ turns. turns.found ≡ found.entry) }
         ensures search { IfOk result (λ turns. turns.search ≡ automaton.now) }
     {
@@ -58,7 +58,7 @@ impl<'a, T: LanguageSystem> Turns<'a, T> {
         work: usize,
         sample: &[Vec<usize>],
         sets: usize,
-    ) -> Result<Turns<'a, T>, AllocError>
+    ) -> Result<Turns<'a>, AllocError>
         ensures found { IfOk result (λ turns. turns.found ≡ self.entry.found) }
         ensures search { IfOk result (λ turns. turns.search ≡ self.entry.search) }
     {
@@ -70,8 +70,7 @@ impl<'a, T: LanguageSystem> Turns<'a, T> {
     /// The automaton of the atoms' signatures, where these are to tell sets apart, and else that of the construction, after what is left.
     pub fn finish(self, alloc: Global, automaton: &Nfa, lists: &Subsets) -> Result<Dfa, AllocError>
         requires search { self.search ≡ automaton.now }
-        requires accepted { (w : List ℕ) → T.accepted self.found w ↔ Accepts automaton.now w }
-        requires letters { T.letter_count self.found ≡ automaton.now.letters }
+        requires found { self.found.automaton.now ≡ automaton.now }
         requires same { lists.now.automaton.now ≡ automaton.now }
         requires plain { (p : ℕ) → IsPlain automaton.now p }
         ensures language { IfOk result (λ dfa. (w : List ℕ) → IsTrue (accepts dfa w) ↔ Accepts automaton.now w) }
@@ -97,12 +96,12 @@ fn telling_atoms(search: AtomSearch, signed: bool) -> Result<Option<Atoms>, Allo
 }
 
 /// The search, and the construction further on until more than so many sets are found, unless the search is at its end.
-fn further<'a, T: LanguageSystem>(
-    found: Exploration<'a, T>,
+fn further<'a>(
+    found: Exploration<'a, Subsets<'a>>,
     search: AtomSearch<'a>,
     signed: Option<bool>,
     sets: usize,
-) -> Result<Turns<'a, T>, AllocError>
+) -> Result<Turns<'a>, AllocError>
     ensures found { IfOk result (λ turns. turns.found ≡ found.entry) }
     ensures search { IfOk result (λ turns. turns.search ≡ search.entry) }
 {
