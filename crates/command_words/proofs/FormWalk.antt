@@ -4,7 +4,7 @@ use Rattle.std.specs.Option.{option_map_or}
 use Rattle.std.specs.Prelude.{fold, slice_get}
 use Rattle.std.specs.Str.{bytes_eq, chars}
 use Rattle.std.proofs.lemmas.Slice.Eq.{bytes_eq-Decides}
-use Rattle.std.proofs.lemmas.Bool.{eqb-true}
+use Rattle.std.proofs.lemmas.Bool.{eqb-true, or_parts}
 use Rattle.clap.specs.Lexer.{long_of, short_of, usize_max}
 use Rattle.clap.specs.Walk.{Held, Row, Rule, Text, Waiting, Walk, arg_by_id, arg_by_index, arg_by_long, at_row, done, has_row, idle, is_pending, long_met, more_values, option, pushed, reacted, reading_by, settled, settled_rows, subcommand_met, takes_values, to_positional, used_by_id, used, walked}
 use Rattle.clap.specs.Walk.{value as positional_step, positional as several}
@@ -73,10 +73,6 @@ at_row_other : (id : Text) (change : Row → List Row) (missing : List Row) (r :
     → at_row id change missing rs ≡ rs ++ missing → (if b then change r ++ rs else r ∷ at_row id change missing rs) ≡ r ∷ rs ++ missing
 at_row_other id change missing r rs true h later = absurd (true≢false h)
 at_row_other id change missing r rs false h later = ap (λ rest. r ∷ rest) later
-
-or_parts : (a b : Bool) → (a || b) ≡ false → (a ≡ false) × (b ≡ false)
-or_parts true b h = absurd (true≢false h)
-or_parts false b h = (refl, h)
 
 pub at_row_missing : (id : Text) (change : Row → List Row) (missing rows : List Row) → has_row id rows ≡ false → at_row id change missing rows ≡ rows ++ missing
 at_row_missing id change missing [] none = refl

@@ -1,5 +1,5 @@
 -- From what `clap` answers to what the words bind, and from its matches to values.
-use Rattle.std.proofs.Common.{◌≡◌, ◌∙◌, ℕ, Bool, true, false, List, [], ◌∷◌, map, drop, Option, Some, None, MatchOption, codes, string_bytes, String, refl, sym, ap, subst, length, ◌<◌, arith, if◌then◌else◌}
+use Rattle.std.proofs.Common.{◌≡◌, ◌∙◌, ℕ, Bool, true, false, List, [], ◌∷◌, map, drop, Option, Some, None, MatchOption, option_map, codes, string_bytes, String, refl, sym, ap, subst, length, ◌<◌, arith, if◌then◌else◌}
 use Rattle.clap.specs.Faults.{fault_of}
 use Rattle.clap.specs.Matches.{found_of}
 use Rattle.clap.specs.Simple.{App, app_of, matches_of}
@@ -8,9 +8,10 @@ use Rattle.clap.specs.declared.builder.command.Command.{Command as Parser}
 use Rattle.clap.specs.declared.parser.matches.ArgMatches.{ArgMatches}
 use Rattle.clap.proofs.WalkLemmas.{first_value-rows, list_any-map}
 use Rattle.std.specs.List.{list_any, slice_index_or}
+use Rattle.std.specs.Prelude.{IsSomeAnd}
 use Rattle.command_words.specs.declared.Command.{Command as CommandWords}
 use Rattle.command_words.specs.Parsing.{Fails, Gives, GivesValues, IsParsed, parser_of}
-use Rattle.command_words.specs.Words.{Binding, Command, CommandForm, bindings, command_named, command_of, form_named, is_among, is_empty, is_true, value_of}
+use Rattle.command_words.specs.Words.{Binding, Command, CommandForm, bindings, command_named, command_of, form_named, is_among, is_empty, is_true, said, value_of}
 use Rattle.command_words.proofs.FormMatches.{HasBindings, first_or_default, formed, later_have_heads, own_flag, refused_is, taken_is}
 
 plain_value : (form : CommandForm) (name : List ℕ) (o : Option (List ℕ)) → is_among name form.flags ≡ false → first_or_default form name o ≡ o
@@ -55,6 +56,14 @@ from_matches word form p words (Some m) is named given =
 
 pub gives_none : (found : Option CommandWords) (command : Option Command) → found ≡ None → command ≡ None → Gives found command
 gives_none found command none is = subst (λ o. Gives o command) (sym none) is
+
+-- what is made of a value that is there
+pub gives-mapped : {T : Type 0} (found : Option T) (made : Option CommandWords) (of : T → Command) (post : T → CommandWords → Type 0) (command : Option Command)
+    → MatchOption found (made ≡ None) (λ x. IsSomeAnd made (post x)) → ((x : T) (value : CommandWords) → post x value → of x ≡ said value)
+    → option_map of found ≡ command → Gives made command
+gives-mapped None made of post command cases means is = gives_none made command cases (sym is)
+gives-mapped (Some x) None of post command cases means is = absurd cases
+gives-mapped (Some x) (Some value) of post command cases means is = sym is ∙ ap Some (means x value cases)
 
 -- the words as a whole: one is empty, there is none, and the first of them names the command
 pub empty_none : {Z : Type 0} (words : List (String Z)) → list_any (λ word. is_empty (string_bytes word)) words ≡ true → command_of (map string_bytes words) ≡ None

@@ -69,39 +69,12 @@ fn check_all_in<'a>(matches: &ArgMatches<'a>) -> Option<Command<'a>>
     })
 }
 
-// The command of `verify`.
-fn verify_in<'a>(matches: &ArgMatches<'a>) -> Option<Command<'a>>
-    ensures { (bound : List Binding) → GivesValues bound matches.now → Gives result (command_given names.Verify bound) }
-{
-    let (file, certificate) = two_in(matches, "CERT")?;
-    Some(Command::Verify { file, certificate })
-}
-
-// The command of `migrate`.
-fn migrate_in<'a>(matches: &ArgMatches<'a>) -> Option<Command<'a>>
-    ensures { (bound : List Binding) → GivesValues bound matches.now → Gives result (command_given names.Migrate bound) }
-{
-    let (file, certificate) = two_in(matches, "CERT")?;
-    Some(Command::Migrate { file, certificate })
-}
-
 // The command of `show`.
 fn show_in<'a>(matches: &ArgMatches<'a>) -> Option<Command<'a>>
     ensures { (bound : List Binding) → GivesValues bound matches.now → Gives result (command_given names.Show bound) }
 {
     let file = value_in(matches, "FILE")?;
     Some(Command::Show { file })
-}
-
-// The command of `steps`.
-fn steps_in<'a>(matches: &ArgMatches<'a>) -> Option<Command<'a>>
-    ensures { (bound : List Binding) → GivesValues bound matches.now → Gives result (command_given names.Steps bound) }
-{
-    let (file, configuration) = two_in(matches, "CONFIGURATION")?;
-    Some(Command::Steps {
-        file,
-        configuration,
-    })
 }
 
 // The command of `gen`.
@@ -123,10 +96,19 @@ pub(crate) fn command_in<'a>(name: Name, matches: &ArgMatches<'a>) -> Option<Com
         Name::Deadlock => search_in(matches, Some(Query::Deadlock)),
         Name::Past => search_in(matches, past_query_in(matches)),
         Name::CheckAll => check_all_in(matches),
-        Name::Verify => verify_in(matches),
-        Name::Migrate => migrate_in(matches),
+        Name::Verify => two_in(matches, "CERT").map(|(file, certificate)| Command::Verify {
+            file,
+            certificate,
+        }),
+        Name::Migrate => two_in(matches, "CERT").map(|(file, certificate)| Command::Migrate {
+            file,
+            certificate,
+        }),
         Name::Show => show_in(matches),
-        Name::Steps => steps_in(matches),
+        Name::Steps => two_in(matches, "CONFIGURATION").map(|(file, configuration)| Command::Steps {
+            file,
+            configuration,
+        }),
         Name::Generate => generate_in(matches),
     }
 }
