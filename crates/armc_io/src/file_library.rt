@@ -101,11 +101,11 @@ impl<R: Files + Input + AllocGlobal> Library for FileLibrary<R> {
             Err(ReadFail::Memory) => Err(ReadFail::Memory),
             Err(_) => {
                 self.faults = self.faults.saturating_add(1);
-                self.last = Some(LastRead::failed(owned, taken));
+                self.last = Some(LastRead::new(owned, true, taken));
                 Err(ReadFail::Failed)
             }
             Ok(()) => {
-                self.last = Some(LastRead::not_failed(owned, taken));
+                self.last = Some(LastRead::new(owned, false, taken));
                 if taken > limit {
                     Err(ReadFail::TooLong)
                 } else {

@@ -1,7 +1,7 @@
 //! The last call of a library: its name, whether it failed, and how many bytes it took.
 //! It costs a copy of the name.
 
-ghost use Rattle.std.specs.Prelude.{◌≡◌, true, false, string_bytes};
+ghost use Rattle.std.specs.Prelude.{◌≡◌, string_bytes};
 
 use std::marker::Model;
 
@@ -23,24 +23,13 @@ impl Model for LastRead {
 }
 
 impl LastRead {
-    /// A call that answered `Failed`.
-    pub(crate) fn failed(name: String, taken: u64) -> LastRead
-        ensures { result ≡ record { name = string_bytes name; has_failed = true; taken = taken } }
+    /// A call by this name, which answered `Failed` or did not, and took so many bytes.
+    pub(crate) fn new(name: String, has_failed: bool, taken: u64) -> LastRead
+        ensures { result ≡ record { name = string_bytes name; has_failed = has_failed; taken = taken } }
     {
         LastRead {
             name,
-            has_failed: true,
-            taken,
-        }
-    }
-
-    /// A call that did not answer `Failed`.
-    pub(crate) fn not_failed(name: String, taken: u64) -> LastRead
-        ensures { result ≡ record { name = string_bytes name; has_failed = false; taken = taken } }
-    {
-        LastRead {
-            name,
-            has_failed: false,
+            has_failed,
             taken,
         }
     }

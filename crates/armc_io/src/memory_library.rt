@@ -70,7 +70,7 @@ impl MemoryLibrary {
     {
         self.calls = self.calls.saturating_add(1);
         self.faults = self.faults.saturating_add(1);
-        self.last = Some(LastRead::failed(name, 0));
+        self.last = Some(LastRead::new(name, true, 0));
         ReadFail::Failed
     }
 }
@@ -104,12 +104,12 @@ impl Library for MemoryLibrary {
         };
         if text.len() as u64 > limit {
             self.calls = self.calls.saturating_add(1);
-            self.last = Some(LastRead::not_failed(owned, limit + 1));
+            self.last = Some(LastRead::new(owned, false, limit + 1));
             return Err(ReadFail::TooLong);
         }
         let bytes = Vec::from_slice(self.alloc, text)?;
         self.calls = self.calls.saturating_add(1);
-        self.last = Some(LastRead::not_failed(owned, bytes.len() as u64));
+        self.last = Some(LastRead::new(owned, false, bytes.len() as u64));
         Ok(bytes)
     }
 }
