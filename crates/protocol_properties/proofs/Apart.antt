@@ -56,16 +56,12 @@ clean_apart key v fault P R clean apart earlier (y ∷ ys) p r f =
     (clean_apart key v fault P R clean apart (earlier ++ v y ∷ []) ys p.1 (later_pairs R y ys r)
     (fresh_after key v R apart earlier y ys (with_later R y ys r) f.1))
 
-of_each : {Y : Type 0} (P : Y → Type 0) → ((y : Y) → P y) → (ys : List Y) → AllByRecursion P ys
-of_each P h [] = tt
-of_each P h (y ∷ ys) = (h y, of_each P h ys)
-
 letters_clean : (letters : List (List ℕ)) → AllPairs (λ a b. a ≢ b) letters →
     first_fault_of (λ before. duplicate (texts_of before)) [] (names_of letters) ≡ None
 letters_clean letters pairs =
     clean_apart (λ name. name.text) name_of (λ before. duplicate (texts_of before)) (λ _. ⊤) (λ a b. a ≢ b)
     (λ earlier y p fresh. ap (λ b. cond b (Some (Duplicate (name_of y))) None) fresh) (λ a b differs e. differs (sym e)) [] letters
-    (of_each (λ _. ⊤) (λ _. tt) letters) pairs (of_each (λ y. IsFresh {X = Name} (λ name. name.text) [] y) (λ _. refl) letters)
+    (recursion_from_All (λ _. ⊤) letters (λ _ _ _. tt)) pairs (recursion_from_All (λ y. IsFresh {X = Name} (λ name. name.text) [] y) letters (λ _ _ _. refl))
 
 pub sections_clean : (sections : List Section) → AllByRecursion IsValidSection sections → AllPairs (λ a b. a.name ≢ b.name) sections →
     first_fault_of section_fault [] (map section_text sections) ≡ None
@@ -74,4 +70,4 @@ sections_clean sections valid pairs =
     (λ earlier section is fresh. or_none (duplicate (map (λ before. before.name.text) earlier) (name_of section.name)) _
     (ap (λ b. cond b (Some (Duplicate (name_of section.name))) None) fresh) (letters_clean section.letters is.distinct))
     (λ a b differs e. differs (sym e)) [] sections valid pairs
-    (of_each (λ (section : Section). IsFresh {X = SectionText} (λ text. text.name.text) [] section.name) (λ _. refl) sections)
+    (recursion_from_All (λ (section : Section). IsFresh {X = SectionText} (λ text. text.name.text) [] section.name) sections (λ _ _ _. refl))

@@ -4,7 +4,7 @@ use Rattle.std.specs.List.{AllByRecursion, filter, list_any}
 use Rattle.std.specs.Str.{bytes_eq}
 use Rattle.std.proofs.lemmas.Bool.{cases_Bool}
 use Rattle.std.proofs.lemmas.List.{map-append, take_more}
-use Rattle.std.proofs.lemmas.List.Elements.{All-from_recursion}
+use Rattle.std.proofs.lemmas.List.Elements.{All-from_recursion, filter-append}
 use Rattle.std.proofs.Math.Bool.{or-true}
 use Rattle.forms.specs.declared.name.Name.{Name}
 use Rattle.protocol_syntax.specs.declared.limits.TheConstants.{MAX_ROWS}
@@ -25,18 +25,13 @@ use Rattle.protocol_properties.proofs.Written.{sections_back}
 abbrev pub Block : Type 0
 Block = Name × RowText
 
-filter_append : {X : Type 0} (p : X → Bool) (xs ys : List X) → filter p (xs ++ ys) ≡ filter p xs ++ filter p ys
-filter_append p [] ys = refl
-filter_append p (x ∷ xs) ys =
-    elim (cases_Bool (p x)) [ inl t ↦ rw t (ap (λ zs. x ∷ zs) (filter_append p xs ys)) | inr f ↦ rw f (filter_append p xs ys) ]
-
 -- the rows of one name
 
 rows_named_more : (name : List ℕ) (blocks : List Block) (block : Block) → bytes_eq block.0.text name ≡ true →
     rows_named name (blocks ++ block ∷ []) ≡ rows_named name blocks ++ block.1 ∷ []
 rows_named_more name blocks block h =
     let is = λ (b : Block). bytes_eq b.0.text name in
-    ap (λ bs. map (λ b. b.1) bs) (filter_append is blocks (block ∷ []))
+    ap (λ bs. map (λ b. b.1) bs) (filter-append is blocks (block ∷ []))
     ∙ map-append (λ b. b.1) (filter is blocks) (filter is (block ∷ []))
     ∙ ap (λ t. rows_named name blocks ++ map (λ (b : Block). b.1) (cond t (block ∷ []) [])) h
 
@@ -45,7 +40,7 @@ rows_named_same : (name : List ℕ) (blocks : List Block) (block : Block) → by
 rows_named_same name blocks block h =
     let is = λ (b : Block). bytes_eq b.0.text name in
     ap (λ bs. map (λ b. b.1) bs)
-    (filter_append is blocks (block ∷ []) ∙ ap (λ t. filter is blocks ++ cond t (block ∷ []) []) h ∙ append-nil (filter is blocks))
+    (filter-append is blocks (block ∷ []) ∙ ap (λ t. filter is blocks ++ cond t (block ∷ []) []) h ∙ append-nil (filter is blocks))
 
 -- the names
 
@@ -68,7 +63,7 @@ names_more (b ∷ blocks) block =
     let other = λ (n : List ℕ). not (bytes_eq b.0.text n) in
     let any = list_any (λ (c : Block). bytes_eq c.0.text name) blocks in
     ap (λ ns. b.0.text ∷ filter other ns) (names_more blocks block)
-    ∙ ap (λ ns. b.0.text ∷ ns) (filter_append other (property_names blocks) (cond any [] (name ∷ [])))
+    ∙ ap (λ ns. b.0.text ∷ ns) (filter-append other (property_names blocks) (cond any [] (name ∷ [])))
     ∙ ap (λ ns. b.0.text ∷ (filter other (property_names blocks) ++ ns)) (filter_alone (bytes_eq b.0.text) name any)
 
 names_with : (blocks : List Block) (block : Block) → list_any (λ b. bytes_eq b.0.text block.0.text) blocks ≡ false →
