@@ -1,5 +1,5 @@
 -- Flags of states from which a transducer writes what it reads.
-use Rattle.std.proofs.Common.{◌≡◌, ◌≤◌, ◌++◌, ℕ, Bool, true, false, List, [], ◌∷◌, length, get_or, refl, sym, ap, ◌∙◌, arith}
+use Rattle.std.proofs.Common.{◌≡◌, ◌≤◌, ◌++◌, ℕ, Bool, true, false, List, [], ◌∷◌, length, get_or, refl, sym, ap, ◌∙◌}
 use Rattle.std.proofs.lemmas.Bool.{true≢false}
 use Rattle.std.proofs.lemmas.List.{get_or_past}
 use Rattle.word_automata.specs.Path.{IsPath, spelled, spelled_one}
@@ -10,10 +10,6 @@ use Rattle.image_preimage.specs.private.CopyingStates.{IsCopyingAt, AreCopying, 
 -- a number that is no state has no flag
 pub copying_past : (t : Transducer) (flags : List Bool) (p : ℕ) → length flags ≤ p → IsCopyingAt t flags p
 copying_past t flags p past flag = absurd (true≢false (sym flag ∙ get_or_past flags p false past))
-
--- no flag at all
-pub copying_none : (t : Transducer) → AreCopying t []
-copying_none t p = copying_past t [] p (omega arith)
 
 module _ (t : Transducer) (flags : List Bool) (copying : AreCopying t flags) where
   -- what is read from a state with the flag is written

@@ -3,10 +3,9 @@ use Rattle.std.proofs.Common.{◌≡◌, ◌&&◌, ℕ, Bool, true, false, not, 
 use Rattle.std.proofs.Common.{subst, ◌∙◌, inl, inr, arith, slice_get, Contains}
 use Rattle.std.proofs.lemmas.Bool.{and_parts}
 use Rattle.std.proofs.lemmas.List.Elements.{Contains-push_cases}
-use Rattle.std.proofs.lemmas.Option.{same_Some}
 use Rattle.word_automata.specs.Path.{edges_of, is_accepting, spelled_one}
 use Rattle.word_automata.specs.Automaton.{Automaton, accepts_from, find_target, target}
-use Rattle.word_automata.proofs.ForCallers.{edges_of-past, is_accepting-past, Contains-here, Contains-none}
+use Rattle.word_automata.proofs.ForCallers.{edges_of-past, is_accepting-past, Contains-here}
 use Rattle.transducers.specs.declared.Label.{Label}
 use Rattle.transducers.specs.Transducer.{Transducer}
 use Rattle.transducers.proofs.ForCallers.{Contains-single}
@@ -101,14 +100,10 @@ module _ (t : Transducer) (a b : Automaton) where
   IsFollowed-grows old new triple edge grows followed to e =
       Grows-found old new (triple_of edge.1 to (or_no_state b (advance b triple.right edge.0.write))) grows (followed to e)
 
-  -- no edge yet
-  pub Follows-none : (found : List Triple) (triple : Triple) → AreReached t a b found → Follows t a b found found triple []
-  Follows-none found triple reached = record { reached = reached; grows = λ i x at. at; followed = λ edge there. absurd (Contains-none edge there) }
-
   -- more edges
-  pub Follows-more : (old mid new : List Triple) (triple : Triple) (edges : List (Label × ℕ)) (edge : Label × ℕ) → Follows t a b old mid triple edges
+  pub Follows-more : {old mid new : List Triple} {triple : Triple} {edges : List (Label × ℕ)} {edge : Label × ℕ} → Follows t a b old mid triple edges
       → Follows t a b mid new triple (edge ∷ []) → Follows t a b old new triple (edges ++ edge ∷ [])
-  Follows-more old mid new triple edges edge so more = record {
+  Follows-more {mid = mid} {new = new} {triple = triple} {edges = edges} {edge = edge} so more = record {
     reached = more.reached;
     grows = λ i x at. more.grows i x (so.grows i x at);
     followed = λ e h. elim (Contains-push_cases edges edge e h) [
@@ -124,16 +119,4 @@ module _ (t : Transducer) (a b : Automaton) where
     reached = reached;
     grows = λ i x at. at;
     followed = λ e h. subst (IsFollowed a b found triple) (Contains-single edge e h) (λ to e. let x = sym nowhere ∙ e in cc);
-  }
-
-  -- an edge that leads to a triple
-  pub Follows-finds : (old new : List Triple) (triple : Triple) (edge : Label × ℕ) (to : ℕ) → advance a triple.middle edge.0.read ≡ Some to
-      → Finds t a b old new (triple_of edge.1 to (or_no_state b (advance b triple.right edge.0.write)))
-      → Follows t a b old new triple (edge ∷ [])
-  Follows-finds old new triple edge to advances finds = record {
-    reached = finds.reached;
-    grows = finds.grows;
-    followed = λ e h. subst (IsFollowed a b new triple) (Contains-single edge e h) (λ q leads.
-        subst (λ q. IsFound new (triple_of edge.1 q (or_no_state b (advance b triple.right edge.0.write)))) (same_Some to q (sym advances ∙ leads))
-        finds.is_found);
   }

@@ -33,15 +33,16 @@ Grows-longer (x ∷ old) new grows =
     let last = slice_get-some (x ∷ old) (length old) (omega arith) in
     omega (arith, slice_get_within new (length old) last.0 (grows (length old) last.0 last.1))
 
-module _ (t : Transducer) (a b : Automaton) (copying : List Bool) where
-  IsPassed-grows : (old new : List Triple) (triple : Triple) → Grows old new → IsPassed t a b copying old triple → IsPassed t a b copying new triple
-  IsPassed-grows old new triple grows (inl skips) = inl skips
-  IsPassed-grows old new triple grows (inr followed) = inr (λ edge there. IsFollowed-grows t a b old new triple edge grows (followed edge there))
+IsPassed-grows : (t : Transducer) (a b : Automaton) (copying : List Bool) (old new : List Triple) (triple : Triple) → Grows old new
+    → IsPassed t a b copying old triple → IsPassed t a b copying new triple
+IsPassed-grows t a b copying old new triple grows (inl skips) = inl skips
+IsPassed-grows t a b copying old new triple grows (inr followed) = inr (λ edge there. IsFollowed-grows t a b old new triple edge grows (followed edge there))
 
+module _ {t : Transducer} {a b : Automaton} {copying : List Bool} where
   -- before the walk
-  pub Walks-begun : (found : List Triple) (pending : List ℕ) → AreReached t a b found → ((p : ℕ) → Contains t.starts p → IsFound found (triple_of p 0 0))
+  pub Walks-begun : {found : List Triple} {pending : List ℕ} → AreReached t a b found → ((p : ℕ) → Contains t.starts p → IsFound found (triple_of p 0 0))
       → AddsPlaces [] pending 0 (length found) → Walks t a b copying found pending
-  Walks-begun found pending reached starts adds = record {
+  Walks-begun {found = found} reached starts adds = record {
     reached = reached;
     starts = starts;
     there = λ i h. elim (adds.only i h) [ inl none ↦ absurd (Contains-none i none) | inr below ↦ below ];
@@ -49,10 +50,10 @@ module _ (t : Transducer) (a b : Automaton) (copying : List Bool) where
   }
 
   -- one triple more
-  pub Walks-more : (old new : List Triple) (before rest pending : List ℕ) (place : ℕ) (triple : Triple) → Walks t a b copying old before
+  pub Walks-more : {old new : List Triple} {before rest pending : List ℕ} (place : ℕ) (triple : Triple) → Walks t a b copying old before
       → before ≡ rest ++ place ∷ [] → slice_get old place ≡ Some triple → is_goal t a b triple ≡ false → Visits t a b copying old new triple
       → AddsPlaces rest pending (length old) (length new) → Walks t a b copying new pending
-  Walks-more old new before rest pending place triple so popped at none more adds = record {
+  Walks-more {old = old} {new = new} {rest = rest} {pending = pending} place triple so popped at none more adds = record {
     reached = more.reached;
     starts = λ p is. let found = so.starts p is in (found.0, more.grows found.0 (triple_of p 0 0) found.1);
     there = λ i h. elim (adds.only i h) [
@@ -75,17 +76,17 @@ module _ (t : Transducer) (a b : Automaton) (copying : List Bool) where
               | inr is ↦ (let here : triple ≡ x = same_Some triple x (sym (more.grows place triple at) ∙ subst (λ k. slice_get new k ≡ Some x) (sym is) there) in
                   inr (subst (IsDone t a b copying new) here (none, more.is_passed)))
             ]
-            | inr is_done ↦ inr (is_done.0, IsPassed-grows old new x more.grows is_done.1)
+            | inr is_done ↦ inr (is_done.0, IsPassed-grows t a b copying old new x more.grows is_done.1)
           ]
 
   -- what is popped is the place of a triple that was found
-  pub popped_place : (found : List Triple) (pending rest : List ℕ) (o : Option ℕ) (place : ℕ) → Walks t a b copying found pending
+  pub popped_place : {found : List Triple} {pending : List ℕ} (rest : List ℕ) {o : Option ℕ} {place : ℕ} → Walks t a b copying found pending
       → pending ≡ rest ++ option_to_list o → o ≡ Some place → (pending ≡ rest ++ place ∷ []) × (place < length found)
-  popped_place found pending rest o place so items is =
+  popped_place {pending = pending} rest {place = place} so items is =
       let popped : pending ≡ rest ++ place ∷ [] = items ∙ ap (λ o. rest ++ option_to_list o) is in
       (popped, so.there place (subst (λ l. Contains l place) (sym popped) (Contains-push rest place)))
 
-  module _ (found : List Triple) (pending : List ℕ) (so : Walks t a b copying found pending) (all : pending ≡ []) (skip : AreIdentities t copying) where
+  module _ {found : List Triple} {pending : List ℕ} (so : Walks t a b copying found pending) (all : pending ≡ []) (skip : AreIdentities t copying) where
     all_done : (i : ℕ) (triple : Triple) → slice_get found i ≡ Some triple → IsDone t a b copying found triple
     all_done i triple at = elim (so.done i triple at) [
       | inl waits ↦ absurd (Contains-none i (subst (λ l. Contains l i) all waits))
@@ -135,15 +136,6 @@ pub carried : {t u : Transducer} {a c b d : Automaton} (fact : Transducer → Au
     → fact t a b → fact u c d
 carried {t = t} {a = a} {c = c} {d = d} fact transducers first second is =
     subst (λ x. fact x c d) transducers (subst (λ x. fact t x d) first (subst (λ x. fact t a x) second is))
-
--- places that are pushed
-pub AddsPlaces-none : (pending : List ℕ) (from : ℕ) → AddsPlaces pending pending from from
-AddsPlaces-none pending from = record {
-  kept = λ i h. h;
-  added = λ i above below. absurd (omega arith);
-  only = λ i h. inl h;
-  count = omega arith;
-}
 
 pub AddsPlaces-more : (old pending new : List ℕ) (from place : ℕ) → from ≤ place → AddsPlaces old pending from place → new ≡ pending ++ place ∷ []
     → AddsPlaces old new from (place + 1)

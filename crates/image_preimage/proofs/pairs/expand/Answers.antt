@@ -1,4 +1,4 @@
-use Rattle.std.proofs.Common.{◌<◌, ℕ, None, Contains, length, take, get_or, subst, ◌∙◌, arith}
+use Rattle.std.proofs.Common.{◌<◌, ℕ, None, Contains, length, get_or, subst, ◌∙◌, arith}
 use Rattle.std.proofs.lemmas.List.{take_more, take_all}
 use Rattle.std.proofs.lemmas.List.Elements.{Contains-get_or}
 use Rattle.transducers.specs.declared.Label.{Label}
@@ -27,8 +27,7 @@ edges-preserved c =
     let lt : c.edges.edge-index < length edges = omega arith in (
       rw (take_more edges c.edges.edge-index none lt)
           (FollowsAll-more c.args.t.now c.args.a.now c.args.found.now.states.items c.args.builder.now c.args.from c.pair_at-pair.result
-          c.edges.found.states.items c.follow.new.found.states.items c.edges.builder c.follow.new.builder (take c.edges.edge-index edges)
-          (get_or edges c.edges.edge-index none) c.edges.invariant.0 c.in_ok-follow.ensures.follows),
+          c.edges.invariant.0 c.in_ok-follow.ensures.follows),
       c.in_ok-follow.ensures.gap,
     )
 
@@ -44,8 +43,7 @@ edges-preserved-then-has c =
     let nowhere = in_gap a c.pair_at-pair.result.right c.edges_from-edges.result.now c.edges.near.gap.low c.edges.near.gap.high edge.0.read
     c.edges_from-edges.ensures.edges c.edges.invariant.1 (c.has.ensures c.if-has.true) in (
       rw (take_more edges c.edges.edge-index none lt)
-          (FollowsAll-more t a c.args.found.now.states.items c.args.builder.now c.args.from c.pair_at-pair.result
-          found found c.edges.builder c.edges.builder (take c.edges.edge-index edges) edge c.edges.invariant.0
+          (FollowsAll-more t a c.args.found.now.states.items c.args.builder.now c.args.from c.pair_at-pair.result c.edges.invariant.0
           (Follows-none t a found c.edges.builder c.args.from c.pair_at-pair.result edge c.edges.invariant.0.reached nowhere)),
       c.edges.invariant.1,
     )

@@ -1,4 +1,4 @@
-use Rattle.std.proofs.Common.{◌<◌, ℕ, None, Contains, length, take, get_or, subst, ◌∙◌, arith}
+use Rattle.std.proofs.Common.{◌<◌, ℕ, None, Contains, length, get_or, subst, ◌∙◌, arith}
 use Rattle.std.proofs.lemmas.List.{take_more, take_all}
 use Rattle.std.proofs.lemmas.List.Elements.{Contains-get_or}
 use Rattle.transducers.specs.declared.Label.{Label}
@@ -25,8 +25,7 @@ edges-preserved c =
     let none : Label × ℕ = (record { read = None; write = None }, 0) in
     let lt : c.edges.edge-index < length edges = omega arith in (
       rw (take_more edges c.edges.edge-index none lt)
-          (Follows-more self.t.now self.a.now self.b.now c.args.found.now.states.items c.edges.found.states.items c.follow.new.found.states.items
-          c.args.triple (take c.edges.edge-index edges) (get_or edges c.edges.edge-index none) c.edges.invariant.0 c.in_ok-follow.ensures.follows),
+          (Follows-more self.t.now self.a.now self.b.now c.edges.invariant.0 c.in_ok-follow.ensures.follows),
       c.in_ok-follow.ensures.read,
       c.in_ok-follow.ensures.written,
     )
@@ -43,8 +42,7 @@ edges-preserved-then-has c =
     let nowhere = in_gap self.a.now c.args.triple.middle c.edges_at-read.result.now c.edges.near.read.low c.edges.near.read.high edge.0.read
     here.edges_are here.gap (c.has.ensures c.if-has.true) in (
       rw (take_more edges c.edges.edge-index none lt)
-          (Follows-more self.t.now self.a.now self.b.now c.args.found.now.states.items found found c.args.triple (take c.edges.edge-index edges) edge
-          c.edges.invariant.0 (Follows-nowhere self.t.now self.a.now self.b.now found c.args.triple edge c.edges.invariant.0.reached nowhere)),
+          (Follows-more self.t.now self.a.now self.b.now c.edges.invariant.0 (Follows-nowhere self.t.now self.a.now self.b.now found c.args.triple edge c.edges.invariant.0.reached nowhere)),
       c.edges.invariant.1,
       c.edges.invariant.2,
     )
