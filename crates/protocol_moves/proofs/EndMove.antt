@@ -1,8 +1,6 @@
 -- Moves at the ends of lists.
-use Rattle.std.proofs.Common.{◌≡◌, ◌==◌, ◌↔◌, ℕ, suc, ◌≤◌, Bool, true, false, List, [], ◌∷◌, ◌++◌, length, refl, ap, sym, ◌∙◌, ◌&&◌, arith, Decides, take, drop}
+use Rattle.std.proofs.Common.{◌≡◌, ◌==◌, ◌↔◌, ℕ, suc, Bool, true, false, List, [], ◌∷◌, ◌++◌, length, refl, ap, sym, ◌∙◌, ◌&&◌, arith, Decides}
 use Rattle.std.proofs.lemmas.Bool.Decides.{Decides-eqb}
-use Rattle.std.proofs.lemmas.List.{take-append-drop}
-use Rattle.std.proofs.Math.Seq.{take-append_seam, drop-append_seam}
 use Rattle.std.proofs.lemmas.Bool.{and_parts, and_from}
 use Rattle.protocol_model.specs.Moves.{IsRingMove}
 
@@ -77,42 +75,3 @@ ring_is a b c d old new old_rest new_rest old_between new_between x y u v e o n 
 pub ring_old_empty : (a b c d : ℕ) (old new : List ℕ) → length old ≡ 0 → IsRingMove a b c d old new → ⊥
 ring_old_empty a b c d old new h m =
     let long : length old ≡ suc (length (m.between ++ a ∷ [])) = ap length m.was in omega (arith, long, h)
-
-pub ring_new_empty : (a b c d : ℕ) (old new : List ℕ) → length new ≡ 0 → IsRingMove a b c d old new → ⊥
-ring_new_empty a b c d old new h m =
-    let long : length new ≡ suc (length (m.between ++ c ∷ [])) = ap length m.becomes in omega (arith, long, h)
-
-pub ring_old_single : (a b c d x : ℕ) (old new rest : List ℕ) → old ≡ x ∷ rest → length rest ≡ 0 → IsRingMove a b c d old new → ⊥
-ring_old_single a b c d x old new rest o h m =
-    not_empty m.between a (ap length (sym (tail_of x b rest (m.between ++ a ∷ []) (sym o ∙ m.was))) ∙ h)
-
-pub ring_new_single : (a b c d y : ℕ) (old new rest : List ℕ) → new ≡ y ∷ rest → length rest ≡ 0 → IsRingMove a b c d old new → ⊥
-ring_new_single a b c d y old new rest n h m =
-    not_empty m.between c (ap length (sym (tail_of y d rest (m.between ++ c ∷ []) (sym n ∙ m.becomes))) ∙ h)
-
--- a letter at an end
-
-pub first_is : (a x : ℕ) (list rest below : List ℕ) (e : Bool) → list ≡ x ∷ rest → Decides e (rest ≡ below) →
-    (((x == a) && e) ≡ true) ↔ (list ≡ a ∷ below)
-first_is a x list rest below e l w = (
-  λ h. l ∙ ap (λ z. z ∷ rest) (eq_of x a ((and_parts (x == a) e h).0)) ∙ ap (λ zs. a ∷ zs) (w.0 ((and_parts (x == a) e h).1)),
-  λ m. and_from (x == a) e (to_eq x a (head_of x a rest below (sym l ∙ m))) (w.1 (tail_of x a rest below (sym l ∙ m))),
-)
-
-pub last_is : (a x : ℕ) (list rest below : List ℕ) (e : Bool) → list ≡ rest ++ x ∷ [] → Decides e (rest ≡ below) →
-    (((x == a) && e) ≡ true) ↔ (list ≡ below ++ a ∷ [])
-last_is a x list rest below e l w = (
-  λ h. l ∙ ap (λ z. rest ++ z ∷ []) (eq_of x a ((and_parts (x == a) e h).0)) ∙ ap (λ zs. zs ++ a ∷ []) (w.0 ((and_parts (x == a) e h).1)),
-  λ m. and_from (x == a) e (to_eq x a (last_injective rest below x a (sym l ∙ m)).1) (w.1 (last_injective rest below x a (sym l ∙ m)).0),
-)
-
-pub joined_is : (first second list : List ℕ) (d e : Bool) → length first ≤ length list →
-    Decides d (take (length first) list ≡ first) → Decides e (drop (length first) list ≡ second) →
-    ((d && e) ≡ true) ↔ (list ≡ first ++ second)
-joined_is first second list d e h v w = (
-  λ k. sym (take-append-drop (length first) list) ∙ ap (λ zs. zs ++ drop (length first) list) (v.0 ((and_parts d e k).0))
-      ∙ ap (λ zs. first ++ zs) (w.0 ((and_parts d e k).1)),
-  λ m. and_from d e
-      (v.1 (ap (take (length first)) m ∙ take-append_seam first second))
-      (w.1 (ap (drop (length first)) m ∙ drop-append_seam first second)),
-)

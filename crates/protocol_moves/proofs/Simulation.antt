@@ -1,6 +1,6 @@
 -- The simulation of a pattern's atoms is the definition of a match.
-use Rattle.std.proofs.Common.{◌≡◌, ℕ, zero, suc, ◌+◌, ◌<◌, ◌≤◌, Bool, true, false, List, [], ◌∷◌, length, refl, ap, sym, ◌∙◌, ◌||◌, ◌&&◌, ◌==◌, arith, replicate, take, drop, set, get_or, ◌++◌, append_assoc}
-use Rattle.std.proofs.lemmas.List.{take_more_set, drop-set-lt, take-set, drop-set, take-append-drop, drop_all}
+use Rattle.std.proofs.Common.{◌≡◌, ℕ, zero, suc, ◌+◌, ◌<◌, ◌≤◌, Bool, true, false, List, [], ◌∷◌, length, refl, ap, sym, ◌∙◌, ◌||◌, ◌&&◌, ◌==◌, arith, replicate, take, drop, set, get_or, ◌++◌}
+use Rattle.std.proofs.lemmas.List.{take-set, drop-set, take-append-drop, drop_all}
 use Rattle.protocol_syntax.specs.declared.protocol.Many.{Many}
 use Rattle.protocol_syntax.specs.declared.protocol.Many.TheVariants.{One, Star, Plus}
 use Rattle.protocol_model.specs.declared.system.Atom.{Atom}
@@ -115,39 +115,6 @@ first_begun (atom ∷ atoms) n zero w h = absurd (omega arith)
 first_begun (atom ∷ atoms) n (suc m) w h =
     or_false (atoms_match (atom ∷ atoms) w) (can_match atoms (replicate n false) (replicate m false) w) (none_begun atoms n m w)
 
--- one turn of the loop over the atoms
-pub begun_turn : (x : ℕ) (reached next v : Bool) (atoms : List Atom) (j : ℕ) (begun going : List Bool) (a : Atom) →
-    j < length atoms → length atoms < length begun → length atoms ≤ length going → a ≡ get_or atoms j a →
-    (take j begun ++ begun_after x reached next (drop j atoms) (drop j begun) (drop j going))
-    ≡ (take (j + 1) (set begun j next)
-    ++ begun_after x (is_passed a.many (get_or begun j false || reached) (get_or going j false))
-    (is_in a.letters x && is_left a.many (get_or begun j false || reached))
-    (drop (j + 1) atoms) (drop (j + 1) (set begun j next)) (drop (j + 1) (set going j v)))
-begun_turn x reached next v atoms j begun going a h k l is =
-    let rest = begun_after x (is_passed a.many (get_or begun j false || reached) (get_or going j false))
-    (is_in a.letters x && is_left a.many (get_or begun j false || reached))
-    (drop (j + 1) atoms) (drop (j + 1) begun) (drop (j + 1) going) in
-    let head : begun_after x reached next (drop j atoms) (drop j begun) (drop j going) ≡ next ∷ rest =
-    rw (drop_more atoms j a h, drop_more begun j false (omega arith), drop_more going j false (omega arith), ← is) refl in
-    rw (take_more_set begun j next (omega arith), drop-set-lt (j + 1) begun j next (omega arith), drop-set-lt (j + 1) going j v (omega arith))
-    (ap (λ ys. take j begun ++ ys) head ∙ sym (append_assoc (take j begun) (next ∷ []) rest))
-
-pub going_turn : (x : ℕ) (reached next : Bool) (atoms : List Atom) (j : ℕ) (begun going : List Bool) (a : Atom) →
-    j < length atoms → length atoms < length begun → length atoms ≤ length going → a ≡ get_or atoms j a →
-    (take j going ++ going_after x reached (drop j atoms) (drop j begun) (drop j going))
-    ≡ (take (j + 1) (set going j (is_in a.letters x && is_kept a.many (get_or begun j false || reached) (get_or going j false)))
-    ++ going_after x (is_passed a.many (get_or begun j false || reached) (get_or going j false))
-    (drop (j + 1) atoms) (drop (j + 1) (set begun j next))
-    (drop (j + 1) (set going j (is_in a.letters x && is_kept a.many (get_or begun j false || reached) (get_or going j false)))))
-going_turn x reached next atoms j begun going a h k l is =
-    let kept = is_in a.letters x && is_kept a.many (get_or begun j false || reached) (get_or going j false) in
-    let rest = going_after x (is_passed a.many (get_or begun j false || reached) (get_or going j false))
-    (drop (j + 1) atoms) (drop (j + 1) begun) (drop (j + 1) going) in
-    let head : going_after x reached (drop j atoms) (drop j begun) (drop j going) ≡ kept ∷ rest =
-    rw (drop_more atoms j a h, drop_more begun j false (omega arith), drop_more going j false (omega arith), ← is) refl in
-    rw (take_more_set going j kept (omega arith), drop-set-lt (j + 1) begun j next (omega arith), drop-set-lt (j + 1) going j kept (omega arith))
-    (ap (λ ys. take j going ++ ys) head ∙ sym (append_assoc (take j going) (kept ∷ []) rest))
-
 -- the end of that loop
 pub begun_last : (x : ℕ) (reached next : Bool) (atoms : List Atom) (j : ℕ) (begun going : List Bool) →
     j ≡ length atoms → length atoms < length begun →
@@ -171,15 +138,3 @@ going_last x reached atoms j begun going e k =
     at_last : (x : ℕ) (reached b : Bool) (begun going : List Bool) → going_after x reached [] (b ∷ begun) going ≡ going
     at_last x reached b begun [] = refl
     at_last x reached b begun (o ∷ going) = refl
-
-pub end_turn : (reached : Bool) (atoms : List Atom) (j : ℕ) (begun going : List Bool) (a : Atom) →
-    j < length atoms → length atoms < length begun → length atoms ≤ length going → a ≡ get_or atoms j a →
-    reaches_end reached (drop j atoms) (drop j begun) (drop j going)
-    ≡ reaches_end (is_passed a.many (get_or begun j false || reached) (get_or going j false)) (drop (j + 1) atoms) (drop (j + 1) begun) (drop (j + 1) going)
-end_turn reached atoms j begun going a h k l is =
-    rw (drop_more atoms j a h, drop_more begun j false (omega arith), drop_more going j false (omega arith), ← is) refl
-
-pub end_last : (reached : Bool) (atoms : List Atom) (j : ℕ) (begun going : List Bool) → j ≡ length atoms → length atoms < length begun →
-    reaches_end reached (drop j atoms) (drop j begun) (drop j going) ≡ (get_or begun j false || reached)
-end_last reached atoms j begun going e k =
-    rw (drop_all j atoms (omega arith), drop_more begun j false (omega arith)) refl
