@@ -29,11 +29,12 @@ impl Holders {
         Ok(Holders { lists, looked: 0 })
     }
 
-    /// Notes that the set with this number holds the places.
+    /// Notes that the set with this number holds the places, which counts as looking at a word for each.
     pub fn add(&mut self, places: &[usize], number: usize) -> Result<(), AllocError> {
         'places: for place in places {
             add_at(&mut self.lists, *place, number)?;
         }
+        self.looked = self.looked.saturating_add(places.len());
         Ok(())
     }
 
