@@ -1,11 +1,13 @@
 -- Closures told by the members of their sets.
-use Rattle.std.proofs.Common.{◌≡◌, ◌<◌, ◌↔◌, ◌⊎◌, ℕ, Bool, true, false, not, List, [], ◌∷◌, ◌++◌, Option, None, Some, Contains, length, get_or, refl, sym, subst, ◌∙◌, inl, inr, arith, length-append}
+use Rattle.std.proofs.Common.{◌≡◌, ◌<◌, ◌↔◌, ◌⊎◌, ℕ, Bool, true, false, not, List, [], ◌∷◌, ◌++◌, Option, None, Some, Contains, IsPermutation, length, get_or, refl, sym, subst, ◌∙◌, inl, inr, arith, length-append}
 use Rattle.std.proofs.lemmas.Bool.{true≢false, cases_order}
 use Rattle.std.proofs.lemmas.List.{append-nil, get_or_push, get_or_append_left, get_or_past}
+use Rattle.std.proofs.lemmas.List.Sorted.{Contains-permutation, IsPermutation-sym}
 use Rattle.std.specs.Option.{is_some}
 use Rattle.word_automata.specs.Nondeterministic.{NondeterministicAutomaton}
 use Rattle.word_automata.specs.StateSets.{AreStates, IsClosure, AddsTargets}
 use Rattle.bit_subsets.specs.Subsets.{IsPlain}
+use Rattle.bit_subsets.proofs.ForCallers.{AreStates-members}
 use Rattle.determinise.specs.private.Subsets.{ArePlainWhereFalse, IsSubsetFrom, LeadsTo}
 use Rattle.word_automata.proofs.ForCallers.{Contains-cases, Contains-none}
 
@@ -17,6 +19,17 @@ IsClosure-members n old other new more olds news closure = record {
   closed = λ p q there edge. (news q).0 (closure.closed p q ((news p).1 there) edge);
   reached = λ q there. let silent = closure.reached q ((news q).1 there) in (silent.0, silent.1, (olds silent.0).0 silent.2, silent.3, silent.4);
 }
+
+-- what is closed, from a set with the same members on and in order, is the set that the states lead to
+pub closed_in_order : (n : NondeterministicAutomaton) (from set closed ordered : List ℕ) → ((q : ℕ) → Contains set q ↔ Contains from q) → AreStates n closed → IsClosure n set closed
+    → IsPermutation closed ordered → IsSubsetFrom n from ordered
+closed_in_order n from set closed ordered same are closure turned =
+    let back = IsPermutation-sym closed ordered turned in
+    record {
+      states = AreStates-members n closed ordered (λ q there. Contains-permutation ordered closed q back there) are;
+      closure = IsClosure-members n set from closed ordered same
+          (λ q. ((λ there. Contains-permutation closed ordered q turned there), (λ there. Contains-permutation ordered closed q back there))) closure;
+    }
 
 pub none_from_test : (o : Option ℕ) (b : Bool) → is_some o ≡ not b → b ≡ true → o ≡ None
 none_from_test None b e t = refl

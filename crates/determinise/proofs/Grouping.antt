@@ -2,7 +2,7 @@
 use Rattle.std.proofs.Common.{◌≡◌, ◌+◌, ◌-◌, ◌<◌, ◌≤◌, ◌↔◌, ℕ, List, [], ◌∷◌, ◌++◌, None, Some, Contains, All, length, take, drop, get_or, map, sym, ap, subst, ◌∙◌, inl, inr, arith}
 use Rattle.std.proofs.lemmas.Bool.{cases_eq, cases_lt}
 use Rattle.std.proofs.lemmas.List.{get_or-take, get_or-drop, length-take, length-drop, get_or_default}
-use Rattle.std.proofs.lemmas.List.Elements.{All-nil, All-push, Contains-get_or}
+use Rattle.std.proofs.lemmas.List.Elements.{All-push, Contains-get_or}
 use Rattle.word_automata.specs.Path.{edges_of}
 use Rattle.word_automata.specs.Nondeterministic.{NondeterministicAutomaton, AcceptsFromAny}
 use Rattle.word_automata.specs.StateSets.{AreStates, IsStep}
@@ -39,17 +39,6 @@ module _ (n : NondeterministicAutomaton) (states : List ℕ) (subset : IsSubset 
     pub goes_on : (a : ℕ) (r : List ℕ) → look_up pairs a ≡ Some r → (w : List ℕ) → AcceptsFromAny n states (a ∷ w) ↔ AcceptsFromAny n r w
     pub covered : (k : ℕ) → k < at → (r : List ℕ) × (look_up pairs (letter_of moves k) ≡ Some r)
     pub below : (k : ℕ) → at ≤ k → k < length moves → All (λ pair. pair.0 < letter_of moves k) pairs
-
-  pub grouped_none : (pairs : List (ℕ × List ℕ)) → pairs ≡ [] → IsGrouped pairs 0
-  grouped_none pairs none = subst (λ xs. IsGrouped xs 0) (sym none) (record {
-    within = omega arith;
-    increasing = tt;
-    letters_in_range = All-nil (λ (pair : ℕ × List ℕ). pair.0 < n.letters);
-    subsets = All-nil (λ (pair : ℕ × List ℕ). IsSubset n pair.1);
-    goes_on = λ a r h. (cc);
-    covered = λ k l. absurd (omega arith);
-    below = λ k l b. All-nil (λ (pair : ℕ × List ℕ). pair.0 < letter_of moves k);
-  })
 
   move_edge : (a q : ℕ) → Contains moves (a, q) → (p : ℕ) × Contains states p × Contains (edges_of n.states p) (Some a, q)
   move_edge a q there = edge-moves_from n states a q (m.from (a, q) there)

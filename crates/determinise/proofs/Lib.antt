@@ -1,4 +1,5 @@
 pub mod Closures
+pub mod Determinised
 pub mod Digests
 pub mod ForCallers
 pub mod Grouping

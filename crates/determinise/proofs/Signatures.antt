@@ -1,5 +1,5 @@
 -- Sets of states and their signatures: the words that they accept, and their successors.
-use Rattle.std.proofs.Common.{◌≡◌, ◌<◌, ◌↔◌, ℕ, Bool, true, false, List, [], ◌∷◌, ◌++◌, Option, None, Some, Contains, All, IsTrue, length, slice_index_or, refl, sym, ap, subst, arith, inl, inr, if◌then◌else◌, ◌==◌}
+use Rattle.std.proofs.Common.{◌≡◌, ◌<◌, ◌↔◌, ℕ, Bool, true, false, List, [], ◌∷◌, ◌++◌, Option, None, Some, Result, Ok, Err, IfOk, Vec, Global, Contains, All, IsTrue, length, slice_index_or, refl, sym, ap, subst, arith, inl, inr, if◌then◌else◌, ◌==◌}
 use Rattle.std.proofs.lemmas.Bool.{cases_lt}
 use Rattle.std.proofs.lemmas.Option.{slice_get_past}
 use Rattle.std.proofs.lemmas.List.Elements.{All-cons, All-head, All-tail}
@@ -42,6 +42,10 @@ signed_subset n rows atoms in_range plain states signature is =
 abbrev pub HasSigned : NondeterministicAutomaton → List (List ℕ) → List ℕ → List (ℕ × List ℕ) → Type 0
 HasSigned n rows states signed =
     (pairs : List (ℕ × List ℕ)) × AreResiduals n.letters (AcceptsFromAny n) (IsSubset n) states pairs × AreSigned rows pairs signed
+
+-- the result goes on from what is accepted within the signature
+abbrev pub GoOn : {E : Type 0} → Result (Vec (ℕ × List ℕ) Global) E → NondeterministicAutomaton × List (List ℕ) → List ℕ → Type 0
+GoOn r v signature = IfOk r (λ signed. AreResiduals v.0.letters (AcceptsWithin v.0 v.1) (λ s. Unit {0}) signature signed.items)
 
 -- one more pair of a set and its signature
 pub signed-push : (rows : List (List ℕ)) (pairs others : List (ℕ × List ℕ)) (pair other : ℕ × List ℕ) → AreSigned rows pairs others
@@ -118,6 +122,11 @@ module _ (n : NondeterministicAutomaton) (rows : List (List ℕ)) (atoms : AreAt
       ends : (a : ℕ) (o : Option (List ℕ)) → look_up pairs a ≡ o → Signed rows o None → (w : List ℕ) → AcceptsWithin n rows signature (a ∷ w) → ⊥
       ends a (Some set) here is w accepted = absurd is
       ends a None here is w accepted = are.stops a here w ((same (a ∷ w)).0 accepted)
+
+  pub signed_go_on : {E : Type 0} (r : Result (Vec (ℕ × List ℕ) Global) E) (states signature : List ℕ) → ((w : List ℕ) → AcceptsWithin n rows signature w ↔ AcceptsFromAny n states w)
+      → IfOk r (λ signed. HasSigned n rows states signed.items) → GoOn r (n, rows) signature
+  signed_go_on (Ok signed) states signature same all = signed_residuals states signature all.0 signed.items same all.1 all.2
+  signed_go_on (Err e) states signature same all = tt
 
   -- the states within a signature accept what is accepted within it
   pub within_accepts : (signature states : List ℕ) → ((q : ℕ) → Contains states q ↔ ((q < length rows) × IsWithin rows signature q))

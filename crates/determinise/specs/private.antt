@@ -1,3 +1,4 @@
 -- What only contracts of private functions cite.
+pub mod Determinised
 pub mod Signatures
 pub mod Subsets

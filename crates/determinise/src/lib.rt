@@ -1,11 +1,22 @@
 //! Deterministic automata from nondeterministic ones, by the subset construction (M. O. Rabin and D. Scott, 1959) of what a reduction
-//! leaves: no states from which no word is accepted and, where sets are many, nor edges and states that others simulate. It costs time
-//! linear in the edges that leave the sets. The sets are lists of states at first and, where there are many and the lists are long, sets
-//! of bits, which are merged without being sorted. Of more than 4,096 states, where there are many lists, sets of one language become one
-//! state, told apart by atoms (J. A. Brzozowski and H. Tamm, 2014), if these are found: the lists go on being found in turns with the
-//! search for atoms, which looks at so many edges and sets for each state of the lists that were found.
+//! leaves. It costs time linear in the edges that leave the sets, up to sorting. What keeps sets few and cheap, in the order in which
+//! it comes:
+//!
+//! | device | when | what it gains |
+//! |---|---|---|
+//! | `reduction`: edges without a letter go, with closures | at most 16 states are reached from each | half the time of 2^17 sets |
+//! | `reduction`: states from which no word is accepted go | always | rows of bits for 675 of 22,268 states |
+//! | states are not compared | at most 4,096 states, two sets for each | 7 to 17 % of four searches, less 6 % of two |
+//! | `reduction`: edges go whose targets others simulate | past that | 17 sets in place of 129,728 |
+//! | `maximal`: states of a set go that others of it simulate | where states were compared | by a filter, a quarter of the time |
+//! | `state_set`: sets are lists | 512 sets, and where lists are short | 4.0 s in place of 4.6 as bits |
+//! | `bit_subsets`: sets are bits | at most 4,096 states, lists with a state for four words | 3.6 s in place of 10.4 as lists |
+//! | the length of lists is looked at once more | with 16,384 of them | bits where lists grow late |
+//! | `signed_sets`: sets that accept the same words are one (atoms) | more states, past 16,384 lists | half the time of Go-back-N |
+//! | `turns`: a sample tells whether atoms pay | with each turn of their search | no search longer than the sets allow |
 #![tactic(auto)]
 
+mod lists;
 mod maximal;
 mod moves;
 mod sampling;
@@ -16,19 +27,20 @@ mod subset;
 mod subsets;
 mod turns;
 
-ghost use Rattle.std.specs.Prelude.{◌≡◌, ◌↔◌, List, ℕ, IsTrue, IfOk, length};
+ghost use Rattle.std.specs.Prelude.{◌≡◌, ◌↔◌, List, ℕ, IsTrue, IfOk, IfSome};
 ghost use Rattle.word_automata.specs.Automaton.{accepts, IsValid};
 ghost use Rattle.word_automata.specs.Nondeterministic.{Accepts};
 ghost use Rattle.bit_subsets.specs.Subsets.{IsPlain};
-ghost use Rattle.determinise.specs.private.Subsets.{ArePlainWhereFalse};
+ghost use Rattle.determinise.specs.private.Determinised.{IsDeterminised};
 ghost use Rattle.reduction.specs.Simulation.{AreIncluded, IsSimulation};
 
-use crate::sampling::sample_of;
+use crate::lists::Lists;
 use crate::silent::{has_true, silent_flags};
+use crate::state_set::states_in;
 use crate::subsets::Subsets;
 use crate::turns::Turns;
 use bit_subsets::BitSubsets;
-use exploration::{Exploration, explore_languages};
+use exploration::explore_languages;
 use reduction::{StatePairs, live_part, pruned, simulation};
 pub use state_set::StateSet;
 use std::alloc::{AllocError, Global};
@@ -56,9 +68,6 @@ const FIRST_SETS: usize = 16_384;
 /// There are then so many turns, each with twice as many sets and more work for the atoms, before the sets are found to the end.
 const TURNS: usize = 8;
 
-/// So many edges and words of sets are looked at for the atoms for each state of the lists that were found.
-const WORK_PER_STATE: usize = 16;
-
 /// The deterministic automaton of the sets of states that words lead to (M. O. Rabin and D. Scott, 1959), which accepts the same
 /// words. States are numbered breadth first, which is no clause here. States from which no word is accepted stand in no set. Of at most
 /// 4,096 states, two sets for each are found at first; where there are more sets or states, states are compared, and where some simulate
@@ -75,68 +84,37 @@ pub fn determinise(alloc: Global, automaton: &Nfa) -> Result<Dfa, AllocError>
     ensures valid { IfOk result IsValid }
 {
     match live_part(alloc, automaton)? {
-        Some(live) => {
-            let dfa = subsets_of_live(alloc, &live)?;
-            Ok(dfa)
-        }
-        None => {
-            let dfa = subsets_of_live(alloc, automaton)?;
-            Ok(dfa)
-        }
+        Some(live) => subsets_of_live(alloc, &live),
+        None => subsets_of_live(alloc, automaton),
     }
 }
 
 /// The deterministic automaton of the sets of states that words lead to where these are few, and else without edges that others match.
 fn subsets_of_live(alloc: Global, automaton: &Nfa) -> Result<Dfa, AllocError>
-    ensures language { IfOk result (λ dfa. (w : List ℕ) → IsTrue (accepts dfa w) ↔ Accepts automaton.now w) }
-    ensures letters { IfOk result (λ dfa. dfa.letters ≡ automaton.now.letters) }
-    ensures valid { IfOk result IsValid }
+    ensures { IfOk result (IsDeterminised automaton.now) }
 {
-    let none = StatePairs::new(alloc)?;
     let silent = silent_flags(alloc, automaton)?;
-    let lists = Subsets::new(automaton, &silent, &none);
-    let begun = Exploration::begin(alloc, &lists)?;
-    let few = begun.advance(uncompared_sets(automaton.states()))?;
+    let none = StatePairs::new(alloc)?;
+    let subsets = Subsets::new(automaton, &silent, &none);
+    few_or_compared_subsets_of(alloc, &subsets)
+}
+
+/// The same of the system of the sets, of which states were not compared.
+fn few_or_compared_subsets_of<'a>(
+    alloc: Global,
+    subsets: &'a Subsets<'a>,
+) -> Result<Dfa, AllocError>
+    ensures { IfOk result (IsDeterminised subsets.now.automaton.now) }
+{
+    let begun = Lists::begin(alloc, subsets)?;
+    let few = begun.advance(alloc, uncompared_sets(subsets.automaton.states()))?;
     if few.is_done() {
         return few.finish();
     }
-    compared_subsets_from(alloc, automaton, &none, &silent, &lists, few)
-}
-
-/// The deterministic automaton of the sets of states, of which some were found as lists, without edges that others match.
-fn compared_subsets_from<'a>(
-    alloc: Global,
-    automaton: &Nfa,
-    none: &StatePairs,
-    silent: &[bool],
-    lists: &'a Subsets<'a>,
-    begun: Exploration<'a, Subsets<'a>>,
-) -> Result<Dfa, AllocError>
-    requires included { AreIncluded automaton.now none.now }
-    requires count { length silent.now ≡ length automaton.now.states }
-    requires plain { ArePlainWhereFalse automaton.now silent.now }
-    requires same { lists.now.automaton.now ≡ automaton.now }
-    requires begun { begun ≡ lists.now }
-    ensures language { IfOk result (λ dfa. (w : List ℕ) → IsTrue (accepts dfa w) ↔ Accepts automaton.now w) }
-    ensures letters { IfOk result (λ dfa. dfa.letters ≡ automaton.now.letters) }
-    ensures valid { IfOk result IsValid }
-{
-    match simulation(alloc, automaton)? {
-        Some(pairs) => pruned_subsets_of(alloc, automaton, &pairs),
-        None => subsets_from(alloc, automaton, none, silent, lists, begun),
+    match compared_subsets_of(alloc, subsets.automaton)? {
+        Some(dfa) => Ok(dfa),
+        None => subsets_from(alloc, few),
     }
-}
-
-/// The deterministic automaton of the sets of states that words lead to, without edges that others match.
-fn pruned_subsets_of(alloc: Global, automaton: &Nfa, pairs: &StatePairs) -> Result<Dfa, AllocError>
-    requires { IsSimulation automaton.now pairs.now }
-    ensures language { IfOk result (λ dfa. (w : List ℕ) → IsTrue (accepts dfa w) ↔ Accepts automaton.now w) }
-    ensures letters { IfOk result (λ dfa. dfa.letters ≡ automaton.now.letters) }
-    ensures valid { IfOk result IsValid }
-{
-    let pruned = pruned(alloc, automaton, pairs)?;
-    let dfa = subsets_of(alloc, &pruned, pairs)?;
-    Ok(dfa)
 }
 
 /// So many sets of so many states are found before states are compared.
@@ -147,69 +125,72 @@ fn uncompared_sets(states: usize) -> usize {
     states.saturating_mul(SETS_PER_STATE)
 }
 
+/// The deterministic automaton of the sets of states, without edges that others match, or `None` where no simulation is found.
+fn compared_subsets_of(alloc: Global, automaton: &Nfa) -> Result<Option<Dfa>, AllocError>
+    ensures { IfOk result (λ found. IfSome found (IsDeterminised automaton.now)) }
+{
+    match simulation(alloc, automaton)? {
+        Some(pairs) => Ok(Some(pruned_subsets_of(alloc, automaton, &pairs)?)),
+        None => Ok(None),
+    }
+}
+
+/// The deterministic automaton of the sets of states that words lead to, without edges that others match.
+fn pruned_subsets_of(alloc: Global, automaton: &Nfa, pairs: &StatePairs) -> Result<Dfa, AllocError>
+    requires { IsSimulation automaton.now pairs.now }
+    ensures { IfOk result (IsDeterminised automaton.now) }
+{
+    let pruned = pruned(alloc, automaton, pairs)?;
+    subsets_of(alloc, &pruned, pairs)
+}
+
 /// The deterministic automaton of the sets of states that words lead to, without states that others of the set simulate.
 fn subsets_of(alloc: Global, automaton: &Nfa, pairs: &StatePairs) -> Result<Dfa, AllocError>
     requires { AreIncluded automaton.now pairs.now }
-    ensures language { IfOk result (λ dfa. (w : List ℕ) → IsTrue (accepts dfa w) ↔ Accepts automaton.now w) }
-    ensures letters { IfOk result (λ dfa. dfa.letters ≡ automaton.now.letters) }
-    ensures valid { IfOk result IsValid }
+    ensures { IfOk result (IsDeterminised automaton.now) }
 {
     let silent = silent_flags(alloc, automaton)?;
-    let lists = Subsets::new(automaton, &silent, pairs);
-    let begun = Exploration::begin(alloc, &lists)?;
-    subsets_from(alloc, automaton, pairs, &silent, &lists, begun)
+    let subsets = Subsets::new(automaton, &silent, pairs);
+    subsets_from(alloc, Lists::begin(alloc, &subsets)?)
 }
 
-/// The same, of which some sets were found as lists.
-fn subsets_from<'a>(
-    alloc: Global,
-    automaton: &Nfa,
-    pairs: &StatePairs,
-    silent: &[bool],
-    lists: &'a Subsets<'a>,
-    begun: Exploration<'a, Subsets<'a>>,
-) -> Result<Dfa, AllocError>
-    requires included { AreIncluded automaton.now pairs.now }
-    requires count { length silent.now ≡ length automaton.now.states }
-    requires plain { ArePlainWhereFalse automaton.now silent.now }
-    requires same { lists.now.automaton.now ≡ automaton.now }
-    requires begun { begun ≡ lists.now }
-    ensures language { IfOk result (λ dfa. (w : List ℕ) → IsTrue (accepts dfa w) ↔ Accepts automaton.now w) }
-    ensures letters { IfOk result (λ dfa. dfa.letters ≡ automaton.now.letters) }
-    ensures valid { IfOk result IsValid }
+/// The same, of which some sets were found as lists. Where edges without a letter leave states, all are.
+fn subsets_from(alloc: Global, begun: Lists) -> Result<Dfa, AllocError>
+    ensures { IfOk result (IsDeterminised begun.entry.subsets.now.automaton.now) }
 {
-    let few = begun.advance(FEW_SETS)?;
-    if few.is_done() || has_true(silent) {
-        return few.finish();
+    if has_true(begun.subsets.silent) {
+        return begun.finish();
     }
-    if automaton.states() > BIT_STATES {
-        return list_subsets_of(alloc, automaton, lists, few);
-    }
-    lists_or_bits(alloc, automaton, pairs, few)
+    plain_subsets_from(alloc, begun)
 }
 
-/// The same of few states: as bits where the lists are long, by those that were found or by the first 16,384.
-fn lists_or_bits<'a>(
-    alloc: Global,
-    automaton: &Nfa,
-    pairs: &StatePairs,
-    few: Exploration<'a, Subsets<'a>>,
-) -> Result<Dfa, AllocError>
-    requires included { AreIncluded automaton.now pairs.now }
-    requires plain { (p : ℕ) → IsPlain automaton.now p }
-    requires few { few.automaton.now ≡ automaton.now }
-    ensures language { IfOk result (λ dfa. (w : List ℕ) → IsTrue (accepts dfa w) ↔ Accepts automaton.now w) }
-    ensures letters { IfOk result (λ dfa. dfa.letters ≡ automaton.now.letters) }
-    ensures valid { IfOk result IsValid }
+/// The same without such edges: few sets as lists, and of more the languages of lists, or bits where lists are long.
+fn plain_subsets_from(alloc: Global, begun: Lists) -> Result<Dfa, AllocError>
+    requires { (p : ℕ) → IsPlain begun.subsets.now.automaton.now p }
+    ensures { IfOk result (IsDeterminised begun.entry.subsets.now.automaton.now) }
 {
-    if are_long(few.states(), automaton.states()) {
-        return bit_subsets_of(alloc, automaton, pairs);
-    }
-    let found = few.advance(FIRST_SETS)?;
-    if found.is_done() || !are_long(found.states(), automaton.states()) {
+    let states = begun.subsets.automaton.states();
+    let few = begun.advance(alloc, FEW_SETS)?;
+    let first = first_sets(few.states(), states);
+    let found = few.advance(alloc, first)?;
+    if found.is_done() {
         return found.finish();
     }
-    bit_subsets_of(alloc, automaton, pairs)
+    if states > BIT_STATES {
+        return lists_in_turns(alloc, found, first);
+    }
+    if are_long(found.states(), states) {
+        return bit_subsets_of(alloc, found.subsets);
+    }
+    found.finish()
+}
+
+/// So many lists of so many states are found before bits or atoms are taken, by the lists that were found. None where these are long.
+fn first_sets(few: &[StateSet], states: usize) -> usize {
+    if states > BIT_STATES {
+        return FIRST_SETS.max(states.saturating_mul(2));
+    }
+    if are_long(few, states) { 0 } else { FIRST_SETS }
 }
 
 /// Whether sets of bits of so many states have few words for what the lists have of states.
@@ -218,82 +199,26 @@ fn are_long(lists: &[StateSet], states: usize) -> bool {
     states_in(lists).saturating_mul(WORDS_PER_STATE) >= words
 }
 
-/// The deterministic automaton of the sets of states, of which some were found as lists, or of the languages of these.
-fn list_subsets_of<'a>(
-    alloc: Global,
-    automaton: &'a Nfa,
-    lists: &'a Subsets<'a>,
-    few: Exploration<'a, Subsets<'a>>,
-) -> Result<Dfa, AllocError>
-    requires same { lists.now.automaton.now ≡ automaton.now }
-    requires plain { (p : ℕ) → IsPlain automaton.now p }
-    requires few { few ≡ lists.now }
-    ensures language { IfOk result (λ dfa. (w : List ℕ) → IsTrue (accepts dfa w) ↔ Accepts automaton.now w) }
-    ensures letters { IfOk result (λ dfa. dfa.letters ≡ automaton.now.letters) }
-    ensures valid { IfOk result IsValid }
+/// The deterministic automaton of the sets of states, of which so many were found as lists, in turns with the search for atoms.
+fn lists_in_turns(alloc: Global, found: Lists, first: usize) -> Result<Dfa, AllocError>
+    requires { (p : ℕ) → IsPlain found.subsets.now.automaton.now p }
+    ensures { IfOk result (IsDeterminised found.entry.subsets.now.automaton.now) }
 {
-    let first = FIRST_SETS.max(automaton.states().saturating_mul(2));
-    let found = few.advance(first)?;
-    if found.is_done() {
-        return found.finish();
-    }
-    lists_in_turns(alloc, automaton, lists, found, first)
-}
-
-/// The same, of which so many lists were found, in turns with the search for atoms.
-fn lists_in_turns<'a>(
-    alloc: Global,
-    automaton: &'a Nfa,
-    lists: &'a Subsets<'a>,
-    found: Exploration<'a, Subsets<'a>>,
-    first: usize,
-) -> Result<Dfa, AllocError>
-    requires same { lists.now.automaton.now ≡ automaton.now }
-    requires plain { (p : ℕ) → IsPlain automaton.now p }
-    requires found { found ≡ lists.now }
-    ensures language { IfOk result (λ dfa. (w : List ℕ) → IsTrue (accepts dfa w) ↔ Accepts automaton.now w) }
-    ensures letters { IfOk result (λ dfa. dfa.letters ≡ automaton.now.letters) }
-    ensures valid { IfOk result IsValid }
-{
-    let mut turns = Turns::begin(alloc, automaton, found)?;
+    let mut turns = Turns::begin(alloc, found)?;
     'turns: for turn in 0..TURNS {
         if turns.is_over() {
             break;
         }
-        turns = turn_of_lists(alloc, turns, first << (turn + 1))?;
+        turns = turns.next(alloc, first << (turn + 1))?;
     }
-    turns.finish(alloc, automaton, lists)
-}
-
-/// A turn in which the construction goes on until more than so many lists are found.
-fn turn_of_lists<'a>(alloc: Global, turns: Turns<'a>, sets: usize) -> Result<Turns<'a>, AllocError>
-    ensures found { IfOk result (λ later. later.found ≡ turns.entry.found) }
-    ensures search { IfOk result (λ later. later.search ≡ turns.entry.search) }
-{
-    let lists = turns.found.states();
-    let work = states_in(lists).saturating_mul(WORK_PER_STATE);
-    let sample = sample_of(alloc, lists)?;
-    turns.next(alloc, work, &sample, sets)
-}
-
-/// How many states the sets have together.
-fn states_in(sets: &[StateSet]) -> usize {
-    let mut count = 0usize;
-    'sets: for set in sets {
-        count = count.saturating_add(set.as_slice().len());
-    }
-    count
+    turns.finish(alloc)
 }
 
 /// The deterministic automaton of the sets of states, as bits.
-fn bit_subsets_of(alloc: Global, automaton: &Nfa, pairs: &StatePairs) -> Result<Dfa, AllocError>
-    requires included { AreIncluded automaton.now pairs.now }
-    requires plain { (p : ℕ) → IsPlain automaton.now p }
-    ensures language { IfOk result (λ dfa. (w : List ℕ) → IsTrue (accepts dfa w) ↔ Accepts automaton.now w) }
-    ensures letters { IfOk result (λ dfa. dfa.letters ≡ automaton.now.letters) }
-    ensures valid { IfOk result IsValid }
+fn bit_subsets_of(alloc: Global, subsets: &Subsets) -> Result<Dfa, AllocError>
+    requires { (p : ℕ) → IsPlain subsets.now.automaton.now p }
+    ensures { IfOk result (IsDeterminised subsets.now.automaton.now) }
 {
-    let sets = BitSubsets::new(alloc, automaton, pairs)?;
-    let dfa = explore_languages(alloc, &sets)?;
-    Ok(dfa)
+    let sets = BitSubsets::new(alloc, subsets.automaton, subsets.pairs)?;
+    explore_languages(alloc, &sets)
 }

@@ -26,7 +26,7 @@ pub fn maximal_states(
     if !has_low(pairs, &states) {
         return Ok(states);
     }
-    Ok(without_low(alloc, pairs, &states)?)
+    without_low(alloc, pairs, &states)
 }
 
 /// Whether one of the states is below another one, in the set or not.

@@ -68,39 +68,33 @@ impl Hash for SignedSet {
 /// The signatures of sets of states of an automaton without edges without a letter.
 #[derive(Drop)]
 pub struct SignedSets<'a> {
-    automaton: &'a Nfa,
     subsets: &'a Subsets<'a>,
     atoms: &'a Atoms,
 }
 
 impl<'a> Model for SignedSets<'a> {
-    ghost use Rattle.std.specs.Prelude.{◌≡◌, List, ℕ};
+    ghost use Rattle.std.specs.Prelude.{List, ℕ};
     ghost use Rattle.word_automata.specs.Nondeterministic.{NondeterministicAutomaton, IsInRange};
     ghost use Rattle.atoms.specs.Covers.{AreAtomsOf};
     ghost use Rattle.bit_subsets.specs.Subsets.{IsPlain};
 
     ghost Value = { NondeterministicAutomaton × List (List ℕ) };
 
-    ghost view = { λ s. (s.automaton.now, s.atoms.now) };
+    ghost view = { λ s. (s.subsets.now.automaton.now, s.atoms.now) };
 
-    ghost invariant = { λ s. (s.subsets.now.automaton.now ≡ s.automaton.now) × IsInRange s.automaton.now
-        × ((p : ℕ) → IsPlain s.automaton.now p) × AreAtomsOf s.automaton.now s.atoms.now };
+    ghost invariant = { λ s. IsInRange s.subsets.now.automaton.now × ((p : ℕ) → IsPlain s.subsets.now.automaton.now p)
+        × AreAtomsOf s.subsets.now.automaton.now s.atoms.now };
 }
 
 impl<'a> SignedSets<'a> {
-    /// The signatures of these sets of states of the automaton by these atoms.
-    pub fn new(automaton: &'a Nfa, subsets: &'a Subsets<'a>, atoms: &'a Atoms) -> SignedSets<'a>
-        requires same { subsets.now.automaton.now ≡ automaton.now }
-        requires in_range { IsInRange automaton.now }
-        requires plain { (p : ℕ) → IsPlain automaton.now p }
-        requires atoms { AreAtomsOf automaton.now atoms.now }
-        ensures { result ≡ (automaton.now, atoms.now) }
+    /// The signatures of these sets of states by these atoms.
+    pub fn new(subsets: &'a Subsets<'a>, atoms: &'a Atoms) -> SignedSets<'a>
+        requires in_range { IsInRange subsets.now.automaton.now }
+        requires plain { (p : ℕ) → IsPlain subsets.now.automaton.now p }
+        requires atoms { AreAtomsOf subsets.now.automaton.now atoms.now }
+        ensures { result ≡ (subsets.now.automaton.now, atoms.now) }
     {
-        SignedSets {
-            automaton,
-            subsets,
-            atoms,
-        }
+        SignedSets { subsets, atoms }
     }
 }
 
@@ -163,7 +157,7 @@ impl<'a> LanguageSystem for SignedSets<'a> {
     ghost equality = { λ x y h. (bytes_decides x y).0 h };
 
     fn letters(&self) -> u32 {
-        self.automaton.letters()
+        self.subsets.automaton.letters()
     }
 
     fn start(&self, alloc: Global) -> Result<Option<SignedSet>, AllocError> {
@@ -174,11 +168,13 @@ impl<'a> LanguageSystem for SignedSets<'a> {
     }
 
     fn is_accepting(&self, state: &SignedSet) -> bool {
-        let hint = state.states.as_slice();
-        if self.atoms.is_signature(&state.signature, hint) {
+        if self
+            .atoms
+            .is_signature(&state.signature, state.states.as_slice())
+        {
             return self.subsets.is_accepting(&state.states);
         }
-        has_accepting_within(self.automaton, self.atoms, &state.signature)
+        has_accepting_within(self.subsets.automaton, self.atoms, &state.signature)
     }
 
     fn successors(
@@ -186,12 +182,14 @@ impl<'a> LanguageSystem for SignedSets<'a> {
         alloc: Global,
         state: &SignedSet,
     ) -> Result<Vec<(u32, SignedSet)>, AllocError> {
-        let hint = state.states.as_slice();
-        if self.atoms.is_signature(&state.signature, hint) {
-            return Ok(signed_successors(alloc, self.subsets, self.atoms, &state.states)?);
+        if self
+            .atoms
+            .is_signature(&state.signature, state.states.as_slice())
+        {
+            return signed_successors(alloc, self.subsets, self.atoms, &state.states);
         }
         let within = self.atoms.states_within(alloc, &state.signature)?;
         let states = StateSet::from_vec(within);
-        Ok(signed_successors(alloc, self.subsets, self.atoms, &states)?)
+        signed_successors(alloc, self.subsets, self.atoms, &states)
     }
 }

@@ -99,3 +99,12 @@ impl Hash for StateSet {
         digest(self.as_slice()).hash(state);
     }
 }
+
+/// How many states the sets have together.
+pub fn states_in(sets: &[StateSet]) -> usize {
+    let mut count = 0usize;
+    'sets: for set in sets {
+        count = count.saturating_add(set.as_slice().len());
+    }
+    count
+}

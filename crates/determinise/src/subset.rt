@@ -1,7 +1,7 @@
 //! The sets of states that moves without a letter reach from some states, by a walk that visits each state once. Where no such move
 //! leaves them, they stay as they are, at the cost of looking at each once.
 
-ghost use Rattle.std.specs.Prelude.{◌≡◌, ◌↔◌, ◌<◌, [], ◌∷◌, ℕ, true, false, All, Contains, IsTrue, IfOk, IfSome, OnOk, length, map, slice_index_or};
+ghost use Rattle.std.specs.Prelude.{◌≡◌, ◌↔◌, ◌<◌, [], ◌∷◌, ℕ, true, false, All, Contains, IsTrue, IsPermutation, IfOk, IfSome, OnOk, length, map, slice_index_or};
 ghost use Rattle.word_automata.specs.Path.{edges_of, is_accepting};
 ghost use Rattle.word_automata.specs.Nondeterministic.{IsInRange};
 ghost use Rattle.word_automata.specs.StateSets.{AreStates, AddsState, AddsTargets, IsClosure};
@@ -27,19 +27,19 @@ pub fn subset_of(
     ensures { IfOk result (IsSubsetFrom automaton.now from.items) }
 {
     if has_flag(silent, &from) {
-        return Ok(subset_from(alloc, automaton, silent, &from)?);
+        return subset_from(alloc, automaton, silent, &from);
     }
     Ok(StateSet::from_vec(from))
 }
 
 /// The one target of the moves, where there is one move and no move without a letter leaves its target.
-pub fn only_plain_target(silent: &[bool], moves: &[(u32, usize)]) -> Option<usize>
+pub fn only_plain_target(silent: &[bool], moves: &[(u32, u32)]) -> Option<usize>
     ensures target { IfSome result (λ to. map (λ move. move.1) moves.now ≡ to ∷ []) }
     ensures plain { IfSome result (λ to. slice_index_or silent.now to true ≡ false) }
 {
     match moves {
         [only] => {
-            let (_, to) = *only;
+            let to = only.1 as usize;
             if to < silent.len() && !silent[to] {
                 return Some(to);
             }
@@ -74,10 +74,18 @@ pub fn subset_from(
     requires plain { ArePlainWhereFalse automaton.now silent.now }
     ensures { IfOk result (IsSubsetFrom automaton.now from.now) }
 {
-    let set = closure(alloc, automaton, silent, from)?;
-    let mut states = Vec::from_slice(alloc, set.as_slice())?;
-    states.sort()?;
-    Ok(StateSet::from_vec(states))
+    let mut set = set_of(alloc, from)?;
+    close(&mut set, automaton, silent)?;
+    in_order(alloc, set.as_slice())
+}
+
+/// The set of the states, in increasing order.
+fn in_order(alloc: Global, states: &[usize]) -> Result<StateSet, AllocError>
+    ensures { IfOk result (IsPermutation states.now) }
+{
+    let mut ordered = Vec::from_slice(alloc, states)?;
+    ordered.sort_unstable();
+    Ok(StateSet::from_vec(ordered))
 }
 
 /// Whether one of the states accepts.
@@ -93,27 +101,21 @@ pub fn accepts_some(automaton: &Nfa, states: &[usize]) -> bool
     false
 }
 
-/// The set of the states that moves without a letter reach from the states.
-fn closure(
-    alloc: Global,
-    automaton: &Nfa,
-    silent: &[bool],
-    from: &[usize],
-) -> Result<IndexSet<usize>, AllocError>
-    requires states { AreStates automaton.now from.now }
+/// Adds to the set the states that moves without a letter reach from it.
+fn close(set: &mut IndexSet<usize>, automaton: &Nfa, silent: &[bool]) -> Result<(), AllocError>
+    requires states { AreStates automaton.now set.old.keys }
     requires count { length silent.now ≡ length automaton.now.states }
     requires plain { ArePlainWhereFalse automaton.now silent.now }
-    ensures states { IfOk result (λ set. AreStates automaton.now set.keys) }
-    ensures closure { IfOk result (λ set. IsClosure automaton.now from.now set.keys) }
+    ensures states { OnOk result (AreStates automaton.now set.new.keys) }
+    ensures closure { OnOk result (IsClosure automaton.now set.old.keys set.new.keys) }
 {
-    let mut set = set_of(alloc, from)?;
     let mut next = 0;
     'states: while next < set.len() {
         let state = set.as_slice()[next];
-        add_targets_of(&mut set, automaton, silent, state)?;
+        add_targets_of(set, automaton, silent, state)?;
         next += 1;
     }
-    Ok(set)
+    Ok(())
 }
 
 /// Adds the targets of the edges without a letter that leave the state.

@@ -24,9 +24,9 @@ const MOST_ROOM: usize = 64;
 /// The sets of states of the automaton out of which no move without a letter leads.
 #[derive(Drop)]
 pub struct Subsets<'a> {
-    automaton: &'a Nfa,
-    silent: &'a [bool],
-    pairs: &'a StatePairs,
+    pub automaton: &'a Nfa,
+    pub silent: &'a [bool],
+    pub pairs: &'a StatePairs,
     ghost count: { length silent.now ≡ length automaton.now.states },
     ghost plain: { ArePlainWhereFalse automaton.now silent.now },
     ghost included: { AreIncluded automaton.now pairs.now },
@@ -49,7 +49,7 @@ impl<'a> Subsets<'a> {
     }
 
     /// The set to which the moves lead, without states that others of it simulate.
-    fn set_after(&self, alloc: Global, moves: &[(u32, usize)]) -> Result<StateSet, AllocError>
+    fn set_after(&self, alloc: Global, moves: &[(u32, u32)]) -> Result<StateSet, AllocError>
         requires { AreStates self.now.automaton.now (map (λ move. move.1) moves.now) }
         ensures { IfOk result (LeadsTo self.now.automaton.now (map (λ move. move.1) moves.now)) }
     {
@@ -58,7 +58,7 @@ impl<'a> Subsets<'a> {
         }
         let targets = targets(alloc, moves)?;
         let kept = maximal_states(alloc, self.pairs, targets)?;
-        Ok(subset_of(alloc, self.automaton, self.silent, kept)?)
+        subset_of(alloc, self.automaton, self.silent, kept)
     }
 }
 

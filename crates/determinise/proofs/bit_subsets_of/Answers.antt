@@ -1,7 +1,10 @@
-use Rattle.std.proofs.Common.{◌↔◌, IsTrue, subst}
-use Rattle.word_automata.specs.Automaton.{accepts}
-use Rattle.word_automata.specs.Nondeterministic.{Accepts}
+use Rattle.std.proofs.Common.{IfOk, subst}
+use Rattle.determinise.specs.private.Determinised.{IsDeterminised}
+use Rattle.determinise.proofs.Determinised.{determinised}
 use Rattle.determinise.proofs.bit_subsets_of.Goals as goal
 
-pub returns-clause-language : goal.returns-clause-language
-returns-clause-language c w = subst (λ n. IsTrue (accepts c.in_ok-dfa.dfa w) ↔ Accepts n w) c.in_ok-sets.ensures (c.in_ok-dfa.ensures.language w)
+pub returns : goal.returns
+returns c =
+    let dfa = c.explore_languages.ensures in
+    subst (λ n. IfOk c.explore_languages.result (IsDeterminised n)) c.in_ok-sets.ensures
+    (determinised c.in_ok-sets.sets.automaton.now c.explore_languages.result dfa.language dfa.letters dfa.valid)

@@ -1,9 +1,14 @@
-use Rattle.std.proofs.Common.{◌↔◌, List, ℕ, IfSome, subst}
+use Rattle.std.proofs.Common.{◌↔◌, List, ℕ, IfSome, IsTrue, subst}
+use Rattle.std.proofs.lemmas.Result.{IfOk-weaker}
+use Rattle.word_automata.specs.Automaton.{accepts}
 use Rattle.word_automata.specs.Nondeterministic.{Accepts}
+use Rattle.determinise.specs.private.Determinised.{IsDeterminised}
 use Rattle.determinise.proofs.determinise.Goals as goal
 
-pub returns-in_ok-dfa-in-Some-clause-language : goal.returns-in_ok-dfa-in-Some-clause-language
-returns-in_ok-dfa-in-Some-clause-language c w =
-    let made = c.in_ok-dfa-in-Some.ensures.language w in
-    let kept = subst (λ found. IfSome found (λ live. (w : List ℕ) → Accepts live w ↔ Accepts c.args.automaton.now w)) c.in-Some.is c.in_ok-live.ensures.language w in
-    (λ accepted. kept.0 (made.0 accepted), λ accepted. made.1 (kept.1 accepted))
+pub returns-in-Some-clause-language : goal.returns-in-Some-clause-language
+returns-in-Some-clause-language c =
+    let n = c.args.automaton.now in
+    let words = subst (λ found. IfSome found (λ live. (w : List ℕ) → Accepts live w ↔ Accepts n w)) c.in-Some.is c.in_ok-live.ensures.language in
+    IfOk-weaker c.subsets_of_live.result (IsDeterminised c.in-Some.live) (λ dfa. (w : List ℕ) → IsTrue (accepts dfa w) ↔ Accepts n w)
+    (λ dfa made w. ((λ accepted. (words w).0 ((made.language w).0 accepted)), (λ accepted. (made.language w).1 ((words w).1 accepted))))
+    c.subsets_of_live.ensures

@@ -2,8 +2,5 @@ use Rattle.std.proofs.Common.{List, Bool, sym, subst}
 use Rattle.determinise.specs.private.Subsets.{ArePlainWhereFalse}
 use Rattle.determinise.proofs.subsets_of.Goals as goal
 
-pub new-lists-requires-clause-plain : goal.new-lists-requires-clause-plain
-new-lists-requires-clause-plain c = subst (λ (xs : List Bool). ArePlainWhereFalse c.args.automaton.now xs) (sym c.deref.ensures.value) c.in_ok-silent.ensures.plain
-
-pub subsets_from-requires-clause-plain : goal.subsets_from-requires-clause-plain
-subsets_from-requires-clause-plain c = subst (λ (xs : List Bool). ArePlainWhereFalse c.args.automaton.now xs) (sym c.deref-2.ensures.value) c.in_ok-silent.ensures.plain
+pub new-subsets-requires-clause-plain : goal.new-subsets-requires-clause-plain
+new-subsets-requires-clause-plain c = subst (λ (xs : List Bool). ArePlainWhereFalse c.args.automaton.now xs) (sym c.deref.ensures.value) c.in_ok-silent.ensures.plain

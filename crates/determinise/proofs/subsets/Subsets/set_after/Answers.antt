@@ -1,6 +1,7 @@
 use Rattle.std.proofs.Common.{ℕ, map, sym, subst}
+use Rattle.std.proofs.lemmas.Result.{IfOk-weaker}
 use Rattle.word_automata.proofs.ForCallers.{same_members_accept}
-use Rattle.determinise.specs.private.Subsets.{LeadsTo}
+use Rattle.determinise.specs.private.Subsets.{IsSubsetFrom, LeadsTo}
 use Rattle.bit_subsets.proofs.ForCallers.{AreStates-members}
 use Rattle.determinise.proofs.Closures.{leads_to_one}
 use Rattle.reduction.proofs.ForCallers.{kept_accept}
@@ -28,8 +29,8 @@ returns c =
     let kept = c.in_ok-kept.kept.items in
     let same = same_members_accept n (map (λ (move : ℕ × ℕ). move.1) c.args.moves.now) targets (λ q. ((c.in_ok-targets.ensures q).1, (c.in_ok-targets.ensures q).0)) in
     let fewer = kept_accept n targets kept (c.in_ok-kept.ensures n c.args.self.now.included) in
-    record {
+    IfOk-weaker c.subset_of.result (IsSubsetFrom n kept) (LeadsTo n (map (λ (move : ℕ × ℕ). move.1) c.args.moves.now)) (λ subset from. record {
       kept = kept;
       same_words = λ w. ((λ accepted. (fewer w).0 ((same w).0 accepted)), (λ accepted. (same w).1 ((fewer w).1 accepted)));
-      from = c.in_ok-subset_of.ensures;
-    }
+      from = from;
+    }) c.subset_of.ensures
