@@ -1,25 +1,12 @@
 -- Blocks of a partition, from which states are moved one after another.
 use Rattle.std.proofs.Common.{◌≡◌, ◌<◌, ◌≤◌, ◌+◌, ◌⊎◌, ℕ, List, [], ◌∷◌, ◌++◌, Some, Contains, length, get_or, set, take, refl, sym, ap, subst, ◌∙◌, inl, inr, arith, length-append}
-use Rattle.std.specs.Prelude.{replicate}
 use Rattle.std.proofs.lemmas.Bool.{cases_eq, cases_lt}
-use Rattle.std.proofs.lemmas.List.{get_or_append_left, get_or_push, get_or-set_same, get_or-set_other, length-set, length-replicate, get_or-replicate}
+use Rattle.std.proofs.lemmas.List.{get_or_append_left, get_or_push, get_or-set_same, get_or-set_other, length-set}
 use Rattle.std.proofs.lemmas.Option.{slice_get-get_or, same_Some}
-use Rattle.word_automata.proofs.ForCallers.{Contains-none}
 use Rattle.abstraction.specs.FirstStates.{AreFirsts}
 use Rattle.abstraction.proofs.Firsts.{first_within, first_same}
-use Rattle.abstraction.specs.Partitions.{AreNumbers, AreBlocks, IsRefined, IsKnownMove, IsNewMove, IsNumbering}
+use Rattle.abstraction.specs.Partitions.{AreBlocks, IsRefined, IsKnownMove, IsNewMove, IsNumbering}
 use Rattle.abstraction.proofs.ListMembers.{take_cases, take_keeps, take_last}
-
--- numbers of classes are numbers of blocks
-pub blocks_of_classes : (classes blocks moved : List ℕ) → blocks ≡ classes → moved ≡ replicate (length classes) 0 → AreNumbers (length classes) classes → AreBlocks blocks moved
-blocks_of_classes classes blocks moved same zeros numbers =
-    let size = ap length zeros ∙ length-replicate (length classes) 0 in record {
-      of_states = λ p there.
-          let below : p < length classes = (let e = ap length same in omega arith) in
-          let small = numbers.below p below in let e = ap (λ xs. get_or xs p 0) same in omega arith;
-      of_moves = λ k there.
-          let zero = ap (λ xs. get_or xs k 0) zeros ∙ get_or-replicate (length classes) k 0 0 (omega arith) in omega arith;
-    }
 
 -- the states of a part of the set were moved: to blocks from the first new one on, one for each old block
 pub record HasMoved (first_new : ℕ) (old blocks moved part : List ℕ) : Type 0 where
@@ -30,17 +17,6 @@ pub record HasMoved (first_new : ℕ) (old blocks moved part : List ℕ) : Type 
   pub goes : (p : ℕ) → p < length old → first_new ≤ get_or blocks p 0 → Contains part p × (get_or blocks p 0 ≡ get_or moved (get_or old p 0) 0)
   pub moves : (p : ℕ) → Contains part p → first_new ≤ get_or blocks p 0
   pub apart : (k l : ℕ) → k < first_new → l < first_new → first_new ≤ get_or moved k 0 → get_or moved k 0 ≡ get_or moved l 0 → k ≡ l
-
-pub moved_none : (old moved : List ℕ) → AreBlocks old moved → HasMoved (length moved) old old moved []
-moved_none old moved are = record {
-  count = refl;
-  longer = omega arith;
-  are = are;
-  stays = λ p there below. refl;
-  goes = λ p there from. absurd (let small = are.of_states p there in omega arith);
-  moves = λ p there. absurd (Contains-none p there);
-  apart = λ k l lk ll from same. absurd (let small = are.of_moves k lk in omega arith);
-}
 
 -- one more state of the set
 module _ (first_new : ℕ) (old blocks moved states : List ℕ) (i state : ℕ) (within : i < length states) (read : get_or states i 0 ≡ state) (there : state < length old)

@@ -1,5 +1,5 @@
 -- The nondeterministic automaton over classes, edge by edge.
-use Rattle.std.proofs.Common.{◌≡◌, ◌<◌, ◌≤◌, ◌+◌, ◌↔◌, ◌⊎◌, ℕ, zero, suc, Bool, true, false, eqb, if◌then◌else◌, List, [], ◌∷◌, ◌++◌, Option, Some, Contains, IsTrue, length, map, take, get_or, slice_index, refl, sym, ap, subst, ◌∙◌, inl, inr, arith}
+use Rattle.std.proofs.Common.{◌≡◌, ◌<◌, ◌≤◌, ◌+◌, ◌↔◌, ℕ, zero, suc, Bool, true, false, eqb, if◌then◌else◌, List, [], ◌∷◌, ◌++◌, Option, Some, Contains, IsTrue, length, map, take, get_or, slice_index, refl, sym, ap, subst, ◌∙◌, inl, inr, arith}
 use Rattle.std.proofs.lemmas.Bool.{cases_lt, cases_Bool}
 use Rattle.std.proofs.lemmas.Bool.Decides.{nat_tests}
 use Rattle.std.proofs.lemmas.List.{get_or_default, take_more, take_all, map-append, length-map}
@@ -9,11 +9,15 @@ use Rattle.word_automata.specs.Automaton.{Automaton}
 use Rattle.word_automata.specs.Nondeterministic.{NondeterministicAutomaton, AddsMove}
 use Rattle.word_automata.proofs.ForCallers.{Contains-none, Contains-cases, Contains-here}
 use Rattle.abstraction.specs.declared.class_automaton.ClassEdge.{ClassEdge}
-use Rattle.abstraction.specs.ClassAutomata.{IsAcceptingClass, HasClassMoves, AddsMoveOnce}
+use Rattle.abstraction.specs.ClassAutomata.{IsAcceptingClass, AreAcceptingFlags, HasClassMoves, AddsMoveOnce}
 
 -- a state without edges
 abbrev pub bare : Bool → Node (Option ℕ)
 bare accepting = record { accepting = accepting; edges = [] }
+
+-- classes without edges
+abbrev pub bare_classes : ℕ → List ℕ → List Bool → NondeterministicAutomaton
+bare_classes letters starts accepting = record { letters = letters; starts = starts; states = map bare accepting }
 
 edges_of-bare : (accepting : List Bool) (q : ℕ) → edges_of (map bare accepting) q ≡ []
 edges_of-bare [] q = refl
@@ -31,48 +35,32 @@ bare_more accepting i b within read =
     sym (ap (map bare) (take_more accepting i false within) ∙ map-append bare (take i accepting) (get_or accepting i false ∷ [])
     ∙ ap (λ (x : Bool). map bare (take i accepting) ++ bare x ∷ []) (sym read))
 
--- classes without edges
-pub moves_none : (a : Automaton) (firsts : List ℕ) (accepting : List Bool) (n : NondeterministicAutomaton) → n.letters ≡ a.letters → length accepting ≡ length a.states
-    → ((k : ℕ) → (get_or accepting k false ≡ true) ↔ IsAcceptingClass a firsts k) → n.states ≡ map bare accepting
-    → ((q : ℕ) → Contains n.starts q ↔ ((0 < length a.states) × (slice_index firsts 0 ≡ q))) → HasClassMoves a firsts [] n 0 0
-moves_none a firsts accepting n letters count accepts states starts = record {
-  class_states = record {
-    same_letters = letters;
-    same_size = ap length states ∙ length-map accepting bare ∙ count;
-    starts = starts;
-    acceptance = λ k. let same = ap (λ (ss : List (Node (Option ℕ))). is_accepting ss k) states ∙ is_accepting-bare accepting k in (
-      λ h. (accepts k).0 (sym same ∙ h),
-      λ h. same ∙ (accepts k).1 h,
-    );
-  };
-  added = λ p l r below. absurd (omega arith);
-  added_here = λ k below. absurd (omega arith);
-  only = λ k label t there. absurd (Contains-none (label, t) (subst (λ es. Contains es (label, t)) (ap (λ (ss : List (Node (Option ℕ))). edges_of ss k) states ∙ edges_of-bare accepting k) there));
-  seen_added = λ step there. absurd (Contains-none step there);
-}
+-- all classes were added, and the class of state 0 is the start, if there is one
+pub moves_begin : (a : Automaton) (firsts : List ℕ) (accepting : List Bool) (i : ℕ) (n : NondeterministicAutomaton) (starts : List ℕ) → length accepting ≤ i
+    → n ≡ bare_classes a.letters starts (take i accepting) → AreAcceptingFlags a firsts accepting
+    → ((q : ℕ) → Contains starts q ↔ ((0 < length a.states) × (slice_index firsts 0 ≡ q))) → HasClassMoves a firsts [] n 0 0
+moves_begin a firsts accepting i n starts all is flags begins =
+    subst (λ m. HasClassMoves a firsts [] m 0 0) (sym (is ∙ ap (bare_classes a.letters starts) (take_all i accepting all))) (record {
+      class_states = record {
+        same_letters = refl;
+        same_size = length-map accepting bare ∙ flags.count;
+        starts = begins;
+        acceptance = λ k. let same = is_accepting-bare accepting k in (λ h. (flags.accepting k).0 (sym same ∙ h), λ h. same ∙ (flags.accepting k).1 h);
+      };
+      added = λ p l r below. absurd (omega arith);
+      added_here = λ k below. absurd (omega arith);
+      only = λ k label t there. absurd (Contains-none (label, t) (subst (λ es. Contains es (label, t)) (edges_of-bare accepting k) there));
+      seen_added = λ step there. absurd (Contains-none step there);
+    })
 
--- the class of state 0 is the start, if there is one
-pub start_some : (size first : ℕ) (starts : List ℕ) → 0 < size → starts ≡ first ∷ [] → (q : ℕ) → Contains starts q ↔ ((0 < size) × (first ≡ q))
-start_some size first starts some is q = (
-  λ there. elim (Contains-cases first [] q (subst (λ l. Contains l q) is there)) [ inl here ↦ (some, here) | inr none ↦ absurd (Contains-none q none) ],
-  λ here. subst (λ l. Contains l q) (sym is) (subst (Contains (first ∷ [])) here.1 (Contains-here [] first)),
+pub start_some : (size first : ℕ) → 0 < size → (q : ℕ) → Contains (first ∷ []) q ↔ ((0 < size) × (first ≡ q))
+start_some size first some q = (
+  λ there. elim (Contains-cases first [] q there) [ inl here ↦ (some, here) | inr none ↦ absurd (Contains-none q none) ],
+  λ here. subst (Contains (first ∷ [])) here.1 (Contains-here [] first),
 )
 
-pub start_none : (size first : ℕ) (starts : List ℕ) → size ≤ 0 → starts ≡ [] → (q : ℕ) → Contains starts q ↔ ((0 < size) × (first ≡ q))
-start_none size first starts none is q = (
-  λ there. absurd (Contains-none q (subst (λ l. Contains l q) is there)),
-  λ here. absurd (let some = here.0 in omega arith),
-)
-
--- all classes were added
-pub moves_begin : (a : Automaton) (firsts : List ℕ) (accepting items : List Bool) (i : ℕ) (n : NondeterministicAutomaton) (starts : List ℕ) → items ≡ accepting → length items ≤ i
-    → n ≡ record { letters = a.letters; starts = starts; states = map bare (take i items) } → length accepting ≡ length a.states
-    → ((k : ℕ) → (get_or accepting k false ≡ true) ↔ IsAcceptingClass a firsts k) → ((q : ℕ) → Contains starts q ↔ ((0 < length a.states) × (slice_index firsts 0 ≡ q)))
-    → HasClassMoves a firsts [] n 0 0
-moves_begin a firsts accepting items i n starts same all is count accepts begins =
-    moves_none a firsts accepting n (ap (λ (m : NondeterministicAutomaton). m.letters) is) count accepts
-    (ap (λ (m : NondeterministicAutomaton). m.states) is ∙ ap (map bare) (take_all i items all ∙ same))
-    (λ q. subst (λ l. Contains l q ↔ ((0 < length a.states) × (slice_index firsts 0 ≡ q))) (sym (ap (λ (m : NondeterministicAutomaton). m.starts) is)) (begins q))
+pub start_none : (size first : ℕ) → size ≡ 0 → (q : ℕ) → Contains [] q ↔ ((0 < size) × (first ≡ q))
+start_none size first none q = (λ there. absurd (Contains-none q there), λ here. absurd (let some = here.0 in omega arith))
 
 -- one more edge
 pub moves_more : (a : Automaton) (firsts : List ℕ) (seen more : List ClassEdge) (n m : NondeterministicAutomaton) (i j : ℕ)

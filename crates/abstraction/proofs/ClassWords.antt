@@ -4,15 +4,20 @@ use Rattle.word_automata.specs.Path.{edges_of, is_accepting, IsPath, spelled_one
 use Rattle.word_automata.specs.Automaton.{Automaton, IsValid}
 use Rattle.word_automata.specs.Nondeterministic.{NondeterministicAutomaton, Accepts}
 use Rattle.word_automata.proofs.ForCallers.{accepting_within, leads_within, found_edge, edge_found, target_within, ordered_edges}
-use Rattle.abstraction.specs.declared.class_automaton.ClassEdge.{ClassEdge}
 use Rattle.abstraction.specs.Merging.{HaveEqualClasses, IsMergedFrom, IsMerged}
-use Rattle.abstraction.specs.ClassAutomata.{HasClassMoves}
+use Rattle.abstraction.specs.ClassAutomata.{HasClassMoves, HasAllClassMoves}
 use Rattle.abstraction.specs.FirstStates.{AreFirsts}
 use Rattle.abstraction.proofs.Firsts.{first_same}
 use Rattle.abstraction.proofs.MergedWords.{merged_has_state}
 
-module _ (a : Automaton) (valid : IsValid a) (classes firsts : List ℕ) (count : length classes ≡ length a.states) (are : AreFirsts classes firsts)
-    (seen : List ClassEdge) (n : NondeterministicAutomaton) (i : ℕ) (all : i ≡ length a.states) (has : HasClassMoves a firsts seen n i 0) where
+module _ (a : Automaton) (classes firsts : List ℕ) (count : length classes ≡ length a.states) (are : AreFirsts classes firsts)
+    (n : NondeterministicAutomaton) (has_all : HasAllClassMoves a firsts n) where
+  has : HasClassMoves a firsts has_all.seen n (length a.states) 0
+  has = has_all.moves
+
+  valid : IsValid a
+  valid = has_all.valid
+
   class : (q : ℕ) → ℕ
   class q = slice_index firsts q
 
@@ -49,7 +54,7 @@ module _ (a : Automaton) (valid : IsValid a) (classes firsts : List ℕ) (count 
   merged_runs (letter ∷ w) q there (p, related, r, leads, rest) =
       let within = leads_within a p letter r leads in
       let later = merged_runs w r (target_within a valid p letter r leads) rest in
-      let edge = has.added p letter r (omega arith) (found_edge (edges_of a.states p) letter r leads) in (
+      let edge = has.added p letter r within (found_edge (edges_of a.states p) letter r leads) in (
         (Some letter, slice_index firsts r) ∷ later.0,
         later.1,
         (subst (λ k. Contains (edges_of n.states k) (Some letter, slice_index firsts r)) (sym (same_first q p there within related)) edge, later.2),

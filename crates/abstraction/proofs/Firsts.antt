@@ -4,7 +4,8 @@ use Rattle.std.proofs.lemmas.Bool.{cases_eq, cases_lt}
 use Rattle.std.proofs.lemmas.List.{get_or_append_left, get_or_push, get_or_past, get_or-set_same, get_or-set_other, get_or-replicate, length-replicate}
 use Rattle.std.proofs.lemmas.Option.{slice_get-get_or, slice_get_within, same_Some}
 use Rattle.std.specs.Prelude.{replicate}
-use Rattle.abstraction.specs.ClassAutomata.{IsKnownFirst, IsNewFirst, before, known_at}
+use Rattle.word_automata.specs.Automaton.{Automaton}
+use Rattle.abstraction.specs.ClassAutomata.{IsKnownFirst, IsNewFirst, AreTargetsOf, before, known_at}
 use Rattle.abstraction.specs.FirstStates.{AreFirsts}
 
 -- the states before i have the first states of their classes, which are known
@@ -92,6 +93,13 @@ module _ (classes firsts : List ℕ) (are : AreFirsts classes firsts) where
       ]
     ],
   )
+
+-- there is a first state for each state of an automaton
+pub targets_of : (a : Automaton) (classes firsts : List ℕ) → length classes ≡ length a.states → AreFirsts classes firsts → AreTargetsOf a firsts
+targets_of a classes firsts count are = record {
+  count = are.count ∙ count;
+  within = λ p there. let within = first_within classes firsts are p (omega arith) in omega arith;
+}
 
 -- a table of zeros knows nothing
 pub known_none : (places : ℕ) (table : List ℕ) → table ≡ replicate places 0 → (c : ℕ) → known_at table c ≡ None

@@ -1,9 +1,10 @@
 -- Words of merged automata.
-use Rattle.std.proofs.Common.{◌≡◌, ◌<◌, ◌↔◌, ℕ, Bool, false, List, [], ◌∷◌, Option, None, Some, IsTrue, length, get_or, slice_get, refl, sym, ap, subst, ◌∙◌, arith}
+use Rattle.std.proofs.Common.{◌≡◌, ◌<◌, ◌↔◌, ℕ, Bool, false, List, [], ◌∷◌, Option, None, Some, Result, Ok, Err, IfOk, IsTrue, length, get_or, slice_get, refl, sym, ap, subst, ◌∙◌, arith}
 use Rattle.std.proofs.lemmas.Bool.{false≢true}
 use Rattle.std.proofs.lemmas.Option.{slice_get-get_or, same_Some}
 use Rattle.word_automata.specs.Path.{is_accepting}
-use Rattle.word_automata.specs.Automaton.{Automaton, accepts_from, target, IsValid}
+use Rattle.word_automata.specs.Automaton.{Automaton, accepts, accepts_from, target, IsValid}
+use Rattle.word_automata.specs.Nondeterministic.{NondeterministicAutomaton, Accepts}
 use Rattle.word_automata.proofs.ForCallers.{accepting_within, leads_within, target_within}
 use Rattle.minimise.specs.Canonical.{IsCanonical}
 use Rattle.safety_problem.specs.Task.{IsAutomatonOf}
@@ -78,3 +79,14 @@ automaton_alone a canonical classes count alone = record {
       count = count;
       related = λ p q lp lq. (λ e. same_Some p q (sym (at p lp) ∙ e ∙ at q lq), λ same. ap (slice_get classes) same);
     }
+
+-- what is made canonical is the automaton of the words that the nondeterministic one accepts
+pub of_canonical : {E : Type 0} (r : Result Automaton E) (letters : ℕ) (property : List ℕ → Type 0) (n : NondeterministicAutomaton) → n.letters ≡ letters
+    → ((w : List ℕ) → Accepts n w ↔ property w) → IfOk r (λ c. (w : List ℕ) → IsTrue (accepts c w) ↔ Accepts n w)
+    → IfOk r (λ c. c.letters ≡ n.letters) → IfOk r IsCanonical → IfOk r (IsAutomatonOf letters property)
+of_canonical (Err e) letters property n over exact same count canonical = tt
+of_canonical (Ok c) letters property n over exact same count canonical = record {
+  canonical = canonical;
+  same_letters = count ∙ over;
+  language = λ w. (λ accepted. (exact w).0 ((same w).0 accepted), λ holds. (same w).1 ((exact w).1 holds));
+}

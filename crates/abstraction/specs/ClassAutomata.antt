@@ -1,7 +1,7 @@
 -- Cited by private functions alone: the nondeterministic automaton over classes of states, each of which has the number of its first state.
-use Rattle.std.specs.Prelude.{◌≡◌, ◌↔◌, ◌⊎◌, ◌<◌, ℕ, zero, suc, List, Option, None, Some, IsTrue, Contains, length, slice_index, slice_index_or}
+use Rattle.std.specs.Prelude.{◌≡◌, ◌↔◌, ◌⊎◌, ◌<◌, ℕ, zero, suc, Bool, true, false, List, Option, None, Some, IsTrue, Contains, length, slice_index, slice_index_or}
 use Rattle.word_automata.specs.Path.{edges_of, is_accepting}
-use Rattle.word_automata.specs.Automaton.{Automaton}
+use Rattle.word_automata.specs.Automaton.{Automaton, IsValid}
 use Rattle.word_automata.specs.Nondeterministic.{NondeterministicAutomaton}
 use Rattle.abstraction.specs.declared.class_automaton.ClassEdge.{ClassEdge}
 
@@ -35,6 +35,11 @@ pub record AreTargetsOf (a : Automaton) (firsts : List ℕ) : Type 0 where
 abbrev pub IsAcceptingClass : Automaton → List ℕ → ℕ → Type 0
 IsAcceptingClass a firsts k = (p : ℕ) × (p < length a.states) × IsTrue (is_accepting a.states p) × (slice_index firsts p ≡ k)
 
+-- for each number whether it is one of a class of which some state accepts
+pub record AreAcceptingFlags (a : Automaton) (firsts : List ℕ) (flags : List Bool) : Type 0 where
+  pub count : length flags ≡ length a.states
+  pub accepting : (k : ℕ) → (slice_index_or flags k false ≡ true) ↔ IsAcceptingClass a firsts k
+
 -- a number for each state, of which those of classes accept where some state of the class does; the start is the class of state 0
 pub record HasClassStates (a : Automaton) (firsts : List ℕ) (n : NondeterministicAutomaton) : Type 0 where
   pub same_letters : n.letters ≡ a.letters
@@ -60,6 +65,12 @@ pub record HasClassMoves (a : Automaton) (firsts : List ℕ) (seen : List ClassE
       )
   pub only : (k : ℕ) (label : Option ℕ) (t : ℕ) → Contains (edges_of n.states k) (label, t) → IsClassMove a firsts k label t
   pub seen_added : (step : ClassEdge) → Contains seen step → Contains (edges_of n.states step.from) (Some step.letter, step.to)
+
+-- the edges of all states were added, and nothing else
+pub record HasAllClassMoves (a : Automaton) (firsts : List ℕ) (n : NondeterministicAutomaton) : Type 0 where
+  pub valid : IsValid a
+  pub seen : List ClassEdge
+  pub moves : HasClassMoves a firsts seen n (length a.states) 0
 
 -- the edge was seen before, or is new and is added
 pub record AddsMoveOnce (old new : List ClassEdge) (before after : NondeterministicAutomaton) (step : ClassEdge) : Type 0 where

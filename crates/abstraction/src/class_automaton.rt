@@ -1,11 +1,10 @@
 //! The nondeterministic automaton over the classes of states. A class has the number of its first state, and the edges that its
 //! states have, each once. It takes time linear in the edges, on average.
 
-ghost use Rattle.std.specs.Prelude.{◌≡◌, ◌↔◌, ◌<◌, ◌+◌, ℕ, List, [], true, false, Some, IfOk, OnOk, length};
-ghost use Rattle.std.specs.List.{slice_index_or};
-ghost use Rattle.word_automata.specs.Nondeterministic.{Accepts, IsMoveInRange};
+ghost use Rattle.std.specs.Prelude.{◌≡◌, ◌↔◌, ◌<◌, ◌+◌, ℕ, List, [], Some, IfOk, OnOk, length};
+ghost use Rattle.word_automata.specs.Nondeterministic.{Accepts, IsMoveInRange, empty_nondeterministic};
 ghost use Rattle.abstraction.specs.Merging.{HaveEqualClasses, IsMerged};
-ghost use Rattle.abstraction.specs.ClassAutomata.{AreTargetsOf, IsAcceptingClass, HasClassMoves, AddsMoveOnce};
+ghost use Rattle.abstraction.specs.ClassAutomata.{AreTargetsOf, AreAcceptingFlags, HasClassMoves, HasAllClassMoves, AddsMoveOnce};
 
 use crate::class_numbers::first_states;
 use exploration::FoundStates;
@@ -27,11 +26,16 @@ pub fn class_automaton(alloc: Global, a: &Dfa, classes: &[usize]) -> Result<Nfa,
     ensures letters { IfOk result (λ nfa. nfa.letters ≡ a.now.letters) }
 {
     let firsts = first_states(alloc, classes)?;
-    let mut builder = class_states(alloc, a, &firsts)?;
-    let mut seen = FoundStates::new(alloc, codes(a))?;
-    'states: for state in 0..a.states() {
-        add_edges(a, &firsts, &mut seen, &mut builder, state)?;
-    }
+    automaton_of_classes(alloc, a, &firsts)
+}
+
+/// The automaton over the classes that have these numbers.
+fn automaton_of_classes(alloc: Global, a: &Dfa, firsts: &[usize]) -> Result<Nfa, AllocError>
+    requires { AreTargetsOf a.now firsts.now }
+    ensures { IfOk result (HasAllClassMoves a.now firsts.now) }
+{
+    let mut builder = class_states(alloc, a, firsts)?;
+    add_all_edges(alloc, a, firsts, &mut builder)?;
     Ok(builder.finish())
 }
 
@@ -42,21 +46,35 @@ fn class_states(alloc: Global, a: &Dfa, firsts: &[usize]) -> Result<NfaBuilder, 
 {
     let accepting = accepting_classes(alloc, a, firsts)?;
     let mut builder = NfaBuilder::new(alloc, a.letters());
-    'classes: for accepts in &accepting {
+    add_classes(a, firsts, &accepting, &mut builder)?;
+    Ok(builder)
+}
+
+/// Adds a state for each number, and makes the first class the start.
+fn add_classes(
+    a: &Dfa,
+    firsts: &[usize],
+    accepting: &[bool],
+    builder: &mut NfaBuilder,
+) -> Result<(), AllocError>
+    requires firsts { AreTargetsOf a.now firsts.now }
+    requires accepting { AreAcceptingFlags a.now firsts.now accepting.now }
+    requires empty { builder.old ≡ empty_nondeterministic a.now.letters }
+    ensures { OnOk result (HasClassMoves a.now firsts.now [] builder.new 0 0) }
+{
+    'classes: for accepts in accepting {
         builder.state(*accepts)?;
     }
-    if a.states() > 0 {
-        builder.start(firsts[0])?;
+    if a.states() == 0 {
+        return Ok(());
     }
-    Ok(builder)
+    builder.start(firsts[0])
 }
 
 /// For each number whether it is one of a class of which some state accepts.
 fn accepting_classes(alloc: Global, a: &Dfa, firsts: &[usize]) -> Result<Vec<bool>, AllocError>
     requires { AreTargetsOf a.now firsts.now }
-    ensures count { IfOk result (λ accepting. length accepting.items ≡ length a.now.states) }
-    ensures accepting { IfOk result (λ accepting. (k : ℕ) → (slice_index_or accepting.items k false ≡ true)
-        ↔ IsAcceptingClass a.now firsts.now k) }
+    ensures { IfOk result (λ accepting. AreAcceptingFlags a.now firsts.now accepting.items) }
 {
     let mut accepting = vec![in alloc; false; a.states()]?;
     'states: for state in 0..a.states() {
@@ -65,6 +83,24 @@ fn accepting_classes(alloc: Global, a: &Dfa, firsts: &[usize]) -> Result<Vec<boo
         }
     }
     Ok(accepting)
+}
+
+/// Adds the edges of all states to those of their classes.
+fn add_all_edges(
+    alloc: Global,
+    a: &Dfa,
+    firsts: &[usize],
+    builder: &mut NfaBuilder,
+) -> Result<(), AllocError>
+    requires firsts { AreTargetsOf a.now firsts.now }
+    requires before { HasClassMoves a.now firsts.now [] builder.old 0 0 }
+    ensures { OnOk result (HasAllClassMoves a.now firsts.now builder.new) }
+{
+    let mut seen = FoundStates::new(alloc, codes(a))?;
+    'states: for state in 0..a.states() {
+        add_edges(a, firsts, &mut seen, builder, state)?;
+    }
+    Ok(())
 }
 
 /// Adds the edges of the state to those of its class.
@@ -120,6 +156,5 @@ fn add_edge(
         return Ok(());
     }
     seen.push(step)?;
-    builder.edge(step.from, Some(step.letter), step.to)?;
-    Ok(())
+    builder.edge(step.from, Some(step.letter), step.to)
 }

@@ -21,10 +21,10 @@ pub fn merge(alloc: Global, a: &Canon, classes: &[usize]) -> Result<Canon, Alloc
 {
     known_canonical(a);
     if are_single(classes) {
-        return Ok(a.copy(alloc)?);
+        return a.copy(alloc);
     }
     let automaton = class_automaton(alloc, a.as_dfa(), classes)?;
-    Ok(canonical_nfa(alloc, &automaton)?)
+    canonical_nfa(alloc, &automaton)
 }
 
 /// An automaton with states merged.
@@ -104,7 +104,7 @@ fn merge_unless_same(
     ensures { IfOk result (IsAutomatonOf a.now.letters (IsMerged (HaveEqualClasses classes.now) a.now)) }
 {
     if classes == before {
-        return Ok(merged.copy(alloc)?);
+        return merged.copy(alloc);
     }
     merge(alloc, a, classes)
 }

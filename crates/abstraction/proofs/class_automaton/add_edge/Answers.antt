@@ -1,5 +1,6 @@
 use Rattle.std.proofs.Common.{rules, ◌≡◌, ◌∙◌, ◌++◌, ◌∷◌, [], true, Some, Contains, slice_get, ap, subst}
 use Rattle.std.specs.Prelude.{IfSome}
+use Rattle.std.proofs.lemmas.Result.{on_ok_weaker}
 use Rattle.std.proofs.lemmas.List.Elements.{Contains-get_or}
 use Rattle.std.proofs.lemmas.Option.{get_or_from_slice_get, slice_get_within}
 use Rattle.abstraction.specs.declared.class_automaton.ClassEdge.{ClassEdge}
@@ -26,5 +27,6 @@ returns-in-Some c =
 pub returns : goal.returns
 returns c =
     let step = c.args.step in
-    once_added c.args.seen.now.states.items c.push.new.self.states.items step (c.in_ok-push.ensures ∙ ap (λ xs. xs ++ step ∷ []) c.look_up.ensures.same)
-    c.args.builder.now c.edge.new.self c.in_ok-edge.ensures.ok
+    on_ok_weaker c.edge.result
+    (once_added c.args.seen.now.states.items c.push.new.self.states.items step (c.in_ok-push.ensures ∙ ap (λ xs. xs ++ step ∷ []) c.look_up.ensures.same)
+    c.args.builder.now c.edge.new.self) c.edge.ensures.ok
