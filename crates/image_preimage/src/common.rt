@@ -19,5 +19,5 @@ pub fn common_automaton(alloc: Global, a: &Nfa, b: &Dfa) -> Result<Nfa, AllocErr
     ensures letters { IfOk result (λ c. c.letters ≡ b.now.letters) }
 {
     let copying = identity(alloc, a)?;
-    Ok(image_automaton(alloc, &copying, b)?)
+    image_automaton(alloc, &copying, b)
 }

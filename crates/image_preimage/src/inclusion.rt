@@ -6,7 +6,7 @@
 ghost use Rattle.std.specs.Prelude.{◌≡◌, ◌↔◌, ◌≤◌, ℕ, false, IsTrue, IfOk, OnOk};
 ghost use Rattle.image_preimage.specs.Images.{HasImageOutside, IsImageIncluded};
 ghost use Rattle.image_preimage.specs.private.CopyingStates.{AreCopying};
-ghost use Rattle.image_preimage.specs.private.Triples.{AddsPlaces};
+ghost use Rattle.image_preimage.specs.private.Triples.{AddsPlaces, Decides, Walks};
 
 use crate::copying_states::FlaggedTransducer;
 use crate::triples::{Triple, Triples};
@@ -44,13 +44,30 @@ fn walk(alloc: Global, triples: &Triples, a: &Canon, b: &Canon) -> Result<bool, 
     requires copying { AreCopying triples.now.t.now triples.now.copying.now }
     requires first { a.now ≡ triples.now.a.now }
     requires second { b.now ≡ triples.now.b.now }
-    ensures included { IfOk result (λ included. IsTrue included ↔ IsImageIncluded triples.now.t.now triples.now.a.now triples.now.b.now) }
-    ensures outside { IfOk result (λ included. included ≡ false → HasImageOutside triples.now.t.now triples.now.a.now triples.now.b.now) }
+    ensures { IfOk result (Decides triples.now.t.now triples.now.a.now triples.now.b.now) }
 {
     let mut found = FoundStates::new(alloc, triples.codes())?;
     triples.begin(&mut found)?;
     let mut pending = Vec::new(alloc);
     push_places(&mut pending, 0, found.len())?;
+    walk_on(triples, a, b, &mut found, &mut pending)
+}
+
+/// Whether no such triple is reached from those that are pending.
+fn walk_on(
+    triples: &Triples,
+    a: &Canon,
+    b: &Canon,
+    found: &mut FoundStates<Triple>,
+    pending: &mut Vec<usize>,
+) -> Result<bool, AllocError>
+    requires copying { AreCopying triples.now.t.now triples.now.copying.now }
+    requires first { a.now ≡ triples.now.a.now }
+    requires second { b.now ≡ triples.now.b.now }
+    requires walks { Walks triples.now.t.now triples.now.a.now triples.now.b.now triples.now.copying.now found.old.states.items
+        pending.old.items }
+    ensures { IfOk result (Decides triples.now.t.now triples.now.a.now triples.now.b.now) }
+{
     let mut met = 0;
     let mut are_same = false;
     'triples: while let Some(place) = pending.pop() {
@@ -60,8 +77,8 @@ fn walk(alloc: Global, triples: &Triples, a: &Canon, b: &Canon) -> Result<bool, 
         }
         are_same = are_known_same(triples, &triple, a, b, &mut met, are_same);
         let before = found.len();
-        triples.visit(&mut found, are_same, place, triple)?;
-        push_places(&mut pending, before, found.len())?;
+        triples.visit(found, are_same, place, triple)?;
+        push_places(pending, before, found.len())?;
     }
     Ok(true)
 }

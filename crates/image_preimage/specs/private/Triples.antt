@@ -1,13 +1,13 @@
 -- What a walk over triples has found: of a state of a transducer, one of the automaton whose words are read and one of the automaton in which
 -- the words that are written are looked for. A number that is no state of an automaton stands for no state.
-use Rattle.std.specs.Prelude.{◌≡◌, ◌<◌, ◌≤◌, ◌+◌, ◌-◌, ◌&&◌, ◌⊎◌, ℕ, Bool, true, false, not, List, Option, None, Some, IsTrue, Contains, length, slice_get, slice_index_or}
+use Rattle.std.specs.Prelude.{◌≡◌, ◌<◌, ◌≤◌, ◌+◌, ◌-◌, ◌&&◌, ◌⊎◌, ◌↔◌, ℕ, Bool, true, false, not, List, Option, None, Some, IsTrue, Contains, length, slice_get, slice_index_or}
 use Rattle.word_automata.specs.Path.{edges_of, is_accepting}
 use Rattle.word_automata.specs.Automaton.{Automaton, HasIncreasingLetters, accepts_from}
 use Rattle.transducers.specs.declared.Label.{Label}
 use Rattle.transducers.specs.Transducer.{Transducer, RelatesFrom}
 use Rattle.image_preimage.specs.declared.triples.Triple.{Triple}
 use Rattle.image_preimage.specs.Gaps.{IsGap}
-use Rattle.image_preimage.specs.Images.{HasImageOutside}
+use Rattle.image_preimage.specs.Images.{HasImageOutside, IsImageIncluded}
 use Rattle.image_preimage.specs.Pairs.{advance}
 
 -- the state, or the number of states where there is none
@@ -85,6 +85,11 @@ pub record Walks (t : Transducer) (a b : Automaton) (copying : List Bool) (found
   pub starts : (p : ℕ) → Contains t.starts p → IsFound found (triple_of p 0 0)
   pub there : (i : ℕ) → Contains pending i → i < length found
   pub done : (i : ℕ) (triple : Triple) → slice_get found i ≡ Some triple → Contains pending i ⊎ IsDone t a b copying found triple
+
+-- the answer says whether the second automaton accepts each word of the image
+pub record Decides (t : Transducer) (a b : Automaton) (included : Bool) : Type 0 where
+  pub included_is : IsTrue included ↔ IsImageIncluded t a b
+  pub outside : included ≡ false → HasImageOutside t a b
 
 -- the places from the first up to the end are added
 pub record AddsPlaces (old new : List ℕ) (from end : ℕ) : Type 0 where

@@ -1,6 +1,6 @@
 use Rattle.std.proofs.Common.{◌≡◌, IsTrue, ◌+◌, ◌-◌, ◌^◌, ◌*◌, length}
 use Rattle.image_preimage.specs.private.Triples.{Walks}
-use Rattle.image_preimage.proofs.inclusion.walk.Given as goal
+use Rattle.image_preimage.proofs.inclusion.walk_on.Given as goal
 
 abbrev pub invariant-triples : goal.invariant-triples
 invariant-triples l =
