@@ -148,16 +148,6 @@ pub record IsAddingEdges (last : List ℕ) (edges : List Link) (more : List ℕ)
   pub only : (q : ℕ) (move : ℕ × ℕ) → IsInto (linked more longer) q move
       → IsInto (linked last edges) q move ⊎ ((move.1 ≡ state) × Contains leaving (move.0, q))
 
-pub adding_none : (last : List ℕ) (edges : List Link) (leaving : List (ℕ × ℕ)) (state : ℕ) → AreChained last edges
-    → IsAddingEdges last edges last edges leaving state 0
-adding_none last edges leaving state chained = record {
-  count = refl;
-  chained = chained;
-  kept = λ q move into. into;
-  added = λ k l. absurd (omega arith);
-  only = λ q move into. inl into;
-}
-
 module _ (last : List ℕ) (edges : List Link) (more : List ℕ) (longer : List Link) (leaving : List (ℕ × ℕ)) (state i : ℕ)
     (so_far : IsAddingEdges last edges more longer leaving state i) where
   pub adding_past : length more ≤ (get_or leaving i (0, 0)).1 → IsAddingEdges last edges more longer leaving state (i + 1)
@@ -302,15 +292,6 @@ pub record IsWalking (last : List ℕ) (edges : List Link) (q : ℕ) (old found 
   pub chain : (k : ℕ) → IsInChain edges number k → IsInChain edges (slice_index last q) k
 
 module _ (last : List ℕ) (edges : List Link) (chained : AreChained last edges) (q : ℕ) (old : List (ℕ × ℕ)) where
-  pub walking_none : (number : ℕ) → number ≡ slice_index last q → IsWalking last edges q old old number
-  walking_none number is = record {
-    within = (let w = chained.within q in omega arith);
-    kept = λ move there. there;
-    added = λ k in_chain. inr (subst (λ x. IsInChain edges x k) (sym is) in_chain);
-    only = λ move there. inl there;
-    chain = λ k in_chain. subst (λ x. IsInChain edges x k) is in_chain;
-  }
-
   module _ (found : List (ℕ × ℕ)) (j : ℕ) (so_far : IsWalking last edges q old found (suc j)) where
     pub walking_more : IsWalking last edges q old (found ++ (get_or edges j ((0, 0), 0)).0 ∷ []) (before edges (suc j))
     walking_more = record {

@@ -8,5 +8,5 @@ pub mod Explored
 pub mod Steps
 pub mod Finished
 pub mod Successors
-pub mod Buckets
+pub mod Slots
 pub mod Chains

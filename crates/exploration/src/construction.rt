@@ -75,7 +75,7 @@ impl<'a, T: LanguageSystem> Exploration<'a, T> {
     pub fn begin(alloc: Global, system: &'a T) -> Result<Exploration<'a, T>, AllocError>
         ensures { IfOk result (λ begun. begun ≡ system.now) }
     {
-        let mut found = StateTable::new(alloc)?;
+        let mut found = StateTable::new(alloc);
         let mut builder = RowBuilder::new(alloc, system.letters());
         begin(alloc, system, &mut found, &mut builder)?;
         Ok(Exploration {

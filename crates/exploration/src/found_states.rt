@@ -1,7 +1,7 @@
 //! The states that a search has found, in the order in which it found them. A state is looked up by its code in a table of places, and
 //! compared with the one that stands at its place: constant time, on average.
 
-ghost use Rattle.std.specs.Prelude.{◌≡◌, ◌++◌, [], ◌∷◌, true, length, slice_get, Some, IfOk, IfSome, OnOk, IsTrue};
+ghost use Rattle.std.specs.Prelude.{◌≡◌, ◌↔◌, ◌++◌, [], ◌∷◌, true, length, slice_get, Some, IfOk, IfSome, OnOk, IsTrue};
 
 use crate::place_table::PlaceTable;
 use std::alloc::{AllocError, Global};
@@ -80,10 +80,10 @@ impl<S: Copy + Eq + Drop> FoundStates<S> {
     }
 }
 
-/// Whether the state was seen at the place of the list, which may be any number.
+/// Whether the state stands at the place of the list, which may be any number.
 pub(crate) fn stands_at<S: Eq>(states: &[S], place: usize, state: &S) -> bool
     requires { (x y : S) → S.eq x y ≡ true → x ≡ y }
-    ensures { IsTrue result → slice_get states.now place ≡ Some state.now }
+    ensures { IsTrue result ↔ (slice_get states.now place ≡ Some state.now) }
 {
     place < states.len() && states[place] == *state
 }

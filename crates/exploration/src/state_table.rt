@@ -1,34 +1,31 @@
-//! The states that a construction has found, each once, which are chained in buckets by their hashes (Knuth, The Art of Computer
-//! Programming, volume 3, section 6.4). A look-up and an insertion take constant time, on average, and the table memory linear in the
-//! states.
+//! The states that a construction has found, each once, in a table of slots that are tried one after the other (linear probing: Knuth, The
+//! Art of Computer Programming, volume 3, section 6.4). A look-up and an insertion take constant time, on average, and the table memory
+//! linear in the states: at most half of the slots are taken, and one of 8 bytes tells nearly always whether a state stands at its place.
 
-ghost use Rattle.std.specs.Prelude.{◌≡◌, ◌<◌, ◌≤◌, ◌+◌, ℕ, ◌++◌, ◌∷◌, [], true, length, slice_get, Some, IfOk, IfSome, IfNone, OnOk};
+ghost use Rattle.std.specs.Prelude.{◌≡◌, ◌<◌, ◌+◌, ◌^◌, ℕ, ◌++◌, ◌∷◌, [], true, length, slice_get, Some, IfOk, IfSome, IfNone, OnOk};
 ghost use Rattle.exploration.specs.private.NumberHasher.{hash_by};
-ghost use Rattle.exploration.specs.private.StateTable.{bucket_of, AreInBuckets, PutsHash, ArePlaced, IsTable, IsNumberOf};
+ghost use Rattle.exploration.specs.private.StateTable.{code_of, slot_of, KeepsSlots, IsFreeSlot, IsTable, StandsInSlot};
 
+use crate::found_states::stands_at;
 use std::alloc::{AllocError, Global};
 use std::hash::Hash;
 use std::marker::Model;
 
-/// The buckets of the first table.
-const FIRST_BUCKETS: usize = 64;
+/// The slots of the first table.
+const FIRST_SLOTS: usize = 64;
 
-/// Places in buckets by their hashes. The number of a place is one more than it.
-#[derive(Drop)]
-struct Buckets {
-    /// For each bucket the number of the last place in it, 0 where there is none.
-    heads: Vec<usize>,
-    /// For each place its hash, and the number of the place before it in its bucket, 0 where there is none. There may be more than
-    /// places.
-    links: Vec<(u64, usize)>,
-}
+/// So many codes there are.
+const CODES: u64 = 1 << 32;
+
+/// The code of a state, and one more than its place; 0 beside it where the slot is free.
+type Slot = (u32, u32);
 
 /// The states that were found, each once. The place of a state is the number of states before it.
 #[derive(Drop)]
 pub(crate) struct StateTable<S: Hash> {
     alloc: Global,
     states: Vec<S>,
-    buckets: Buckets,
+    slots: Vec<Slot>,
 }
 
 impl<S: Hash> Model for StateTable<S> {
@@ -40,19 +37,19 @@ impl<S: Hash> Model for StateTable<S> {
 
     ghost view = { λ t. t.states.items };
 
-    ghost invariant = { λ t. IsTable (hash_by S.hash_input) t.states.items t.buckets.heads.items t.buckets.links.items };
+    ghost invariant = { λ t. IsTable (hash_by S.hash_input) t.states.items t.slots.items };
 }
 
 impl<S: Hash + Drop> StateTable<S> {
-    /// No state yet. `AllocError` where memory runs out.
-    pub(crate) fn new(alloc: Global) -> Result<StateTable<S>, AllocError>
-        ensures { IfOk result (λ table. table ≡ []) }
+    /// No state yet. It takes no memory.
+    pub(crate) fn new(alloc: Global) -> StateTable<S>
+        ensures { result ≡ [] }
     {
-        Ok(StateTable {
+        StateTable {
             alloc,
             states: Vec::new(alloc),
-            buckets: Buckets::new(alloc, FIRST_BUCKETS)?,
-        })
+            slots: Vec::new(alloc),
+        }
     }
 
     /// The states, in the order in which they were found.
@@ -69,99 +66,129 @@ impl<S: Hash + Drop> StateTable<S> {
         ensures found { IfSome result (λ place. slice_get self.now place ≡ Some state.now) }
         ensures absent { IfNone result ((r : ℕ) → slice_get self.now r ≡ Some state.now → ⊥) }
     {
-        let number = find_number(&self.buckets, self.states.as_slice(), hash, state);
-        if number == 0 { None } else { Some(number - 1) }
+        find_place(self.slots.as_slice(), self.states.as_slice(), hash, state)
     }
 
-    /// Adds the state, which has this hash, at the end. `AllocError` where memory runs out.
+    /// Adds the state, which has this hash, at the end. `AllocError` where memory runs out, or where there are 4,294,967,295 states.
     pub(crate) fn push(&mut self, hash: u64, state: S) -> Result<(), AllocError>
         requires hash { hash ≡ hash_by S.hash_input state }
         ensures { OnOk result (self.new ≡ self.old ++ state ∷ []) }
     {
-        let place = self.states.len();
-        self.buckets.make_room(self.alloc, place)?;
+        add_place(self.alloc, &mut self.slots, hash, self.states.len())?;
         self.states.push(state)?;
-        self.buckets.put(hash, place);
         Ok(())
     }
 }
 
-impl Buckets {
-    /// So many buckets, at least one, without a place.
-    fn new(alloc: Global, count: usize) -> Result<Buckets, AllocError>
-        requires { 0 < count }
-        ensures buckets { IfOk result (λ made. AreInBuckets (length made.heads.items) 0 made.heads.items made.links.items) }
-        ensures links { IfOk result (λ made. length made.links.items ≡ count) }
-    {
-        Ok(Buckets {
-            heads: vec![in alloc; 0usize; count]?,
-            links: vec![in alloc; (0u64, 0usize); count]?,
-        })
-    }
-
-    /// The bucket of the hash.
-    fn bucket(&self, hash: u64) -> usize
-        requires { 0 < length self.now.heads.items }
-        ensures is { result ≡ bucket_of (length self.now.heads.items) hash }
-        ensures within { result < length self.now.heads.items }
-    {
-        hash as usize & (self.heads.len() - 1)
-    }
-
-    /// Puts the next place, which has this hash, before the last one of its bucket.
-    fn put(&mut self, hash: u64, place: usize)
-        requires room { place < length self.old.links.items }
-        requires buckets { AreInBuckets (length self.old.heads.items) place self.old.heads.items self.old.links.items }
-        ensures buckets { AreInBuckets (length self.new.heads.items) (place + 1) self.new.heads.items self.new.links.items }
-        ensures hashes { PutsHash place hash self.old.links.items self.new.links.items }
-    {
-        let bucket = self.bucket(hash);
-        self.links[place] = (hash, self.heads[bucket]);
-        self.heads[bucket] = place + 1;
-    }
-
-    /// Makes room for one more than the first places.
-    fn make_room(&mut self, alloc: Global, places: usize) -> Result<(), AllocError>
-        requires { AreInBuckets (length self.old.heads.items) places self.old.heads.items self.old.links.items }
-        ensures kept { ArePlaced places self.old.links.items self.new.heads.items self.new.links.items }
-        ensures room { OnOk result (places < length self.new.links.items) }
-    {
-        if places < self.links.len() {
-            return Ok(());
-        }
-        *self = self.enlarged(alloc, places)?;
-        Ok(())
-    }
-
-    /// The same first places in twice as many buckets.
-    fn enlarged(&self, alloc: Global, places: usize) -> Result<Buckets, AllocError>
-        requires { places ≤ length self.now.links.items }
-        ensures placed { IfOk result (λ more. ArePlaced places self.now.links.items more.heads.items more.links.items) }
-        ensures room { IfOk result (λ more. places < length more.links.items) }
-    {
-        let mut more = Buckets::new(alloc, (2 * places).max(FIRST_BUCKETS))?;
-        'places: for place in 0..places {
-            more.put(self.links[place].0, place);
-        }
-        Ok(more)
-    }
-}
-
-/// The number of the place of the state, which has this hash, 0 where it stands nowhere.
-fn find_number<S: Hash>(buckets: &Buckets, states: &[S], hash: u64, state: &S) -> usize
+/// The place of the state, which has this hash.
+fn find_place<S: Hash>(slots: &[Slot], states: &[S], hash: u64, state: &S) -> Option<usize>
     requires equality { (x y : S) → S.eq x y ≡ true → x ≡ y }
     requires hash { hash ≡ hash_by S.hash_input state.now }
-    requires table { IsTable (hash_by S.hash_input) states.now buckets.now.heads.items buckets.now.links.items }
-    ensures { IsNumberOf states.now state.now result }
+    requires table { IsTable (hash_by S.hash_input) states.now slots.now }
+    ensures found { IfSome result (λ place. slice_get states.now place ≡ Some state.now) }
+    ensures absent { IfNone result ((r : ℕ) → slice_get states.now r ≡ Some state.now → ⊥) }
 {
-    let mut number = buckets.heads[buckets.bucket(hash)];
-    'chain: while number > 0 {
-        let place = number - 1;
-        let (held, before) = buckets.links[place];
-        if held == hash && states[place] == *state {
-            return number;
+    let code = code_of(hash);
+    'steps: for step in 0..slots.len() {
+        let (held, number) = slots[slot_of(slots, code, step)];
+        if number == 0 {
+            return None;
         }
-        number = before;
+        let place = number as usize - 1;
+        if held == code && stands_at(states, place, state) {
+            return Some(place);
+        }
     }
-    0
+    None
+}
+
+/// The code of a state with this hash.
+fn code_of(hash: u64) -> u32
+    ensures { result ≡ code_of hash }
+{
+    (hash % CODES) as u32
+}
+
+/// The slot of the code after so many steps.
+fn slot_of(slots: &[Slot], code: u32, step: usize) -> usize
+    requires { step < length slots.now }
+    ensures is { result ≡ slot_of (length slots.now) code step }
+    ensures within { result < length slots.now }
+{
+    (code as usize + step) & (slots.len() - 1)
+}
+
+/// Puts the next place into a slot for the hash of its state. `AllocError` where memory runs out, or where the place is 4,294,967,295.
+fn add_place(
+    alloc: Global,
+    slots: &mut Vec<Slot>,
+    hash: u64,
+    place: usize,
+) -> Result<(), AllocError>
+    ensures kept { KeepsSlots slots.old.items slots.new.items }
+    ensures stands { OnOk result (StandsInSlot slots.new.items (code_of hash) (place + 1)) }
+{
+    let number = number_of(place)?;
+    make_room(alloc, slots, place)?;
+    put(slots, code_of(hash), number)
+}
+
+/// The number of the place, one more than it. `AllocError` where it has more than 32 bits.
+fn number_of(place: usize) -> Result<u32, AllocError>
+    ensures { IfOk result (λ number. number ≡ place + 1) }
+{
+    if place >= u32::MAX as usize {
+        return Err(AllocError);
+    }
+    Ok(place as u32 + 1)
+}
+
+/// Makes room for one more than so many places: twice as many slots where half of them are taken.
+fn make_room(alloc: Global, slots: &mut Vec<Slot>, count: usize) -> Result<(), AllocError>
+    ensures { KeepsSlots slots.old.items slots.new.items }
+{
+    if count < slots.len() / 2 {
+        return Ok(());
+    }
+    *slots = enlarged(alloc, slots.as_slice())?;
+    Ok(())
+}
+
+/// What stands in the slots, in twice as many.
+fn enlarged(alloc: Global, slots: &[Slot]) -> Result<Vec<Slot>, AllocError>
+    ensures { IfOk result (λ more. KeepsSlots slots.now more.items) }
+{
+    let count = slots.len().saturating_mul(2).max(FIRST_SLOTS);
+    let mut more = vec![in alloc; (0u32, 0u32); count]?;
+    'old: for &(code, number) in slots {
+        if number == 0 {
+            continue;
+        }
+        put(&mut more, code, number)?;
+    }
+    Ok(more)
+}
+
+/// Puts the code and the number, which is not 0, into the first free slot for the code. `AllocError` where no slot is free.
+fn put(slots: &mut Vec<Slot>, code: u32, number: u32) -> Result<(), AllocError>
+    requires { 0 < number }
+    ensures kept { KeepsSlots slots.old.items slots.new.items }
+    ensures stands { OnOk result (StandsInSlot slots.new.items code number) }
+{
+    let slot = free_slot(slots.as_slice(), code)?;
+    slots[slot] = (code, number);
+    Ok(())
+}
+
+/// The first free slot for the code. `AllocError` where no slot is free.
+fn free_slot(slots: &[Slot], code: u32) -> Result<usize, AllocError>
+    ensures { IfOk result (IsFreeSlot slots.now code) }
+{
+    'steps: for step in 0..slots.len() {
+        let slot = slot_of(slots, code, step);
+        if slots[slot].1 == 0 {
+            return Ok(slot);
+        }
+    }
+    Err(AllocError)
 }
