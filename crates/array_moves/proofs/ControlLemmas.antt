@@ -12,7 +12,7 @@ use Rattle.word_automata.specs.Path.{Node}
 use Rattle.transducers.specs.declared.Label.{Label}
 use Rattle.transducers.specs.Combination.{exchange}
 use Rattle.sequence.proofs.ForCallers.{slice_get-append_left, slice_get-push_last}
-use Rattle.transducers.proofs.ForCallers.{slice_get-within, nothing_in_nil}
+use Rattle.transducers.proofs.ForCallers.{slice_get-within}
 use Rattle.array_moves.specs.declared.guard_table.ControlState.{ControlState}
 use Rattle.array_moves.specs.declared.guard_table.GuardTable.{GuardTable}
 use Rattle.array_moves.specs.private.ControlStates.{first_control, after_letter, after_move, can_end, is_final, Numbers, IsLetterEdge, IsMoveEdge}
@@ -47,14 +47,6 @@ module _ (guard_table : GuardTable) (offset : ℕ) (p : ControlState) where
     after = e.after;
     number = stays edge.1 e.q e.number;
     label = e.label;
-  }
-
-  -- no letter
-  pub LetterEdges-none : (controls : List ControlState) → LetterEdges guard_table offset 0 p controls controls []
-  LetterEdges-none controls = record {
-    stays = λ k q h. h;
-    only = λ edge h. nothing_in_nil edge h;
-    all = λ x q h. absurd (omega arith);
   }
 
   module _ (count : ℕ) (old mid : List ControlState) (edges : List (Label × ℕ)) (so : LetterEdges guard_table offset count p old mid edges) where

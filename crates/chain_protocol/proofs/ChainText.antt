@@ -38,9 +38,6 @@ section_said number =
 init_said : line (row_words (codes "init") chain_init) ≡ protocol_line (codes "init { P: s0 s0*; }")
 init_said = let zero_digit : decimal 0 ≡ 48 ∷ [] = decimal_digit 0 (omega arith) in rw zero_digit refl
 
-bad_said : line (row_words (codes "bad") chain_bad) ≡ protocol_line (codes "bad { P: any* dead any*; }")
-bad_said = refl
-
 rule_said : (i : ℕ) → line (rule_words (chain_rule i)) ≡ rule_line i
 rule_said i = refl
 

@@ -23,10 +23,6 @@ pub fails_left : (a b : Kinds) → Fails a → Fails (or_else a b)
 fails_left [] b f = absurd f
 fails_left (k ∷ a) b f = tt
 
-pub fails_right : (a b : Kinds) → Fails b → Fails (or_else a b)
-fails_right [] b f = f
-fails_right (k ∷ a) b f = tt
-
 -- ---- words
 
 abbrev pub Lexed : Kind → Text → Type 0

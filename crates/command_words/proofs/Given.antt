@@ -71,10 +71,6 @@ empty_none [] some = refl
 empty_none (w ∷ ws) some =
     ap (λ b. if b then None else command_named (string_bytes w) (map string_bytes ws)) (sym (list_any-map is_empty string_bytes (w ∷ ws)) ∙ some)
 
-pub nothing_named : {Z : Type 0} (words : List (String Z)) → length words ≡ 0 → command_of (map string_bytes words) ≡ None
-nothing_named [] none = refl
-nothing_named (w ∷ ws) none = absurd (omega (arith, none))
-
 pub first_named : {Z : Type 0} (words : List (String Z)) (name : String Z) → 0 < length words → name ≡ slice_index_or words 0 name
     → list_any (λ word. is_empty (string_bytes word)) words ≡ false → command_named (string_bytes name) (drop 1 (map string_bytes words)) ≡ command_of (map string_bytes words)
 first_named [] name some is full = absurd (omega arith)

@@ -29,10 +29,6 @@ drop_there kept class there c noted = elim (cases_eq c class) [
 pub drop_past : (kept : List Bool) (class : ℕ) → length kept ≤ class → (c : ℕ) → get_or kept c false ≡ true → (get_or kept c false ≡ true) × (c ≡ class → ⊥)
 drop_past kept class past c noted = (noted, λ same. true≢false (sym noted ∙ ap (λ x. get_or kept x false) same ∙ get_or_past kept class false past))
 
-pub empty_kept : (m : Automaton) (classes : List ℕ) (kept : List Bool) → kept ≡ [] → AreStable m classes kept
-empty_kept m classes kept none q l noted =
-    absurd (true≢false (sym noted ∙ ap (λ xs. get_or xs (slice_index classes q) false) none ∙ get_or_past {X = Bool} [] (slice_index classes q) false (omega arith)))
-
 module _ (m : Automaton) (older classes : List ℕ) (same_count : length older ≡ length m.states) (split : IsSplit m older classes) (kept : List Bool)
     (each : (q : ℕ) → q < length m.states → is_kept kept (slice_index classes q) ≡ true → IsUnmoved m older classes q) where
   own_edges : (q : ℕ) → IsUnmoved m older classes q → filter_map (live_edge older) (edges_of m.states q) ≡ filter_map (live_edge classes) (edges_of m.states q)

@@ -44,13 +44,6 @@ pub record HasNumbers (m : Automaton) (classes : List ℕ) (kept : List Bool) (k
   pub told : (p : ℕ) → p < i → IsTold kept known (signature_of m classes p) (slice_index finer p)
   pub like : (p : ℕ) → p < i → IsLike m classes p (slice_index finer p)
 
-pub numbers_none : (m : Automaton) (classes : List ℕ) (kept : List Bool) (known : ℕ → Option ℕ) (finer : List ℕ) → finer ≡ [] → HasNumbers m classes kept known finer 0
-numbers_none m classes kept known finer e = record {
-  count = ap length e;
-  told = λ p l. absurd (omega arith);
-  like = λ p l. absurd (omega arith);
-}
-
 pub numbers_more : (m : Automaton) (classes : List ℕ) (kept : List Bool) (known more : ℕ → Option ℕ) (finer : List ℕ) (i number : ℕ)
     → HasNumbers m classes kept known finer i → IsNumbered m classes kept known more i number → HasNumbers m classes kept more (finer ++ number ∷ []) (i + 1)
 numbers_more m classes kept known more finer i number has next = record {

@@ -16,9 +16,6 @@ pub record HasPlaces (a b places : List ℕ) (i : ℕ) : Type 0 where
   pub count : length places ≡ i
   pub at : (p : ℕ) → p < i → get_or places p 0 ≡ get_or a p 0 * length a + get_or b p 0
 
-pub places_none : (a b places : List ℕ) → places ≡ [] → HasPlaces a b places 0
-places_none a b places empty = record { count = ap length empty; at = λ p below. absurd (omega arith) }
-
 pub places_more : (a b places : List ℕ) (i place : ℕ) → place ≡ get_or a i 0 * length a + get_or b i 0 → HasPlaces a b places i → HasPlaces a b (places ++ place ∷ []) (i + 1)
 places_more a b places i place is before = record {
   count = (let l = length-append places (place ∷ []) in let c = before.count in omega arith);

@@ -1,5 +1,5 @@
 -- Classes that are split by codes: equal codes are those of equal classes and marks.
-use Rattle.std.proofs.Common.{◌≡◌, ◌<◌, ◌≤◌, ◌+◌, ◌↔◌, ℕ, Bool, true, false, Some, List, ◌∷◌, [], ◌++◌, length, get_or, refl, sym, ap, subst, ◌∙◌, inl, inr, arith, length-append}
+use Rattle.std.proofs.Common.{◌≡◌, ◌<◌, ◌≤◌, ◌+◌, ◌↔◌, ℕ, Bool, true, false, Some, List, ◌∷◌, [], ◌++◌, get_or, refl, sym, ap, subst, ◌∙◌, inl, inr, arith, length-append}
 use Rattle.std.proofs.lemmas.Bool.{cases_eq, cases_lt}
 use Rattle.std.proofs.lemmas.List.{get_or_append_left, get_or_push}
 use Rattle.std.proofs.lemmas.Option.{slice_get-get_or, same_Some}
@@ -86,9 +86,7 @@ module _ (set : Pairs) (row p q x y a b : ℕ) (of_p : IsCode set row p x a) (of
   pub codes_apart : (a ≡ b) ↔ ((x ≡ y) × ((r : ℕ) → row ≤ r → r < row + 3 → r < set.rows → HaveSame set r p q))
   codes_apart = (to_marks, from_marks)
 
--- no code, and one more
-pub codes_none : (set : Pairs) (row : ℕ) (classes codes : List ℕ) → codes ≡ [] → AreCodes set row classes codes 0
-codes_none set row classes codes empty = record { size = ap length empty; each = λ p below. absurd (omega arith) }
+-- one more code
 
 pub codes_more : (set : Pairs) (row : ℕ) (classes codes : List ℕ) (i code : ℕ) → IsCode set row i (get_or classes i 0) code → AreCodes set row classes codes i
     → AreCodes set row classes (codes ++ code ∷ []) (i + 1)

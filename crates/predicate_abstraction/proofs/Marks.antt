@@ -1,12 +1,10 @@
 -- Sets of pairs by marks.
-use Rattle.std.proofs.Common.{◌≡◌, ◌<◌, ◌*◌, ◌+◌, ◌/◌, ◌⊎◌, ◌↔◌, ℕ, Bool, true, false, List, [], ◌∷◌, ◌++◌, Contains, length, get_or, set, refl, sym, ap, subst, ◌∙◌, inl, inr, arith}
+use Rattle.std.proofs.Common.{◌≡◌, ◌<◌, ◌*◌, ◌+◌, ◌/◌, ◌⊎◌, ◌↔◌, ℕ, Bool, true, false, List, [], ◌∷◌, ◌++◌, Contains, get_or, set, refl, sym, ap, subst, ◌∙◌, inl, inr, arith}
 use Rattle.std.proofs.Math.Nat.{mul-le-mul_right}
 use Rattle.std.proofs.lemmas.Nat.{div-mul-add}
-use Rattle.std.proofs.lemmas.Bool.{cases_eq, false≢true}
-use Rattle.std.proofs.lemmas.List.{get_or-set_same, get_or-set_other, length-set, length-replicate, get_or-replicate, append-nil, append_assoc}
+use Rattle.std.proofs.lemmas.Bool.{cases_eq}
+use Rattle.std.proofs.lemmas.List.{get_or-set_same, get_or-set_other, length-set, append-nil, append_assoc}
 use Rattle.std.proofs.lemmas.List.Elements.{All-append, All-cons, All-nil, Contains-append_left, Contains-push, Contains-push_cases}
-use Rattle.std.specs.Prelude.{replicate}
-use Rattle.word_automata.proofs.ForCallers.{Contains-none}
 use Rattle.predicate_abstraction.specs.private.Pairs.{Pairs, AreMarked, AddsPairs}
 
 -- the place of a pair is one of the places
@@ -20,18 +18,6 @@ place-row columns row column p s lc ls same = sym (div-mul-add p columns s ls) �
 pub place-column : (columns row column p s : ℕ) → column < columns → s < columns → p * columns + s ≡ row * columns + column → s ≡ column
 place-column columns row column p s lc ls same =
     let rows : p * columns ≡ row * columns = ap (λ k. k * columns) (place-row columns row column p s lc ls same) in omega arith
-
--- no pair
-pub marked_none : (rows columns places : ℕ) (marks : List Bool) → marks ≡ replicate places false → places ≡ rows * columns → AreMarked rows columns marks []
-marked_none rows columns places marks is count = record {
-  count = ap length is ∙ length-replicate places false ∙ count;
-  in_range = All-nil (λ (pair : ℕ × ℕ). (pair.0 < rows) × (pair.1 < columns));
-  marked = λ row column lr lc. (
-    λ yes. absurd (false≢true (sym (get_or-replicate places (row * columns + column) false false (let h = place_within rows columns row column lr lc in omega arith))
-        ∙ sym (ap (λ ms. get_or ms (row * columns + column) false) is) ∙ yes)),
-    λ there. absurd (Contains-none (row, column) there),
-  );
-}
 
 -- one more pair
 pub marked_more : (rows columns row column at : ℕ) (marks : List Bool) (pairs : List (ℕ × ℕ)) → row < rows → column < columns → at ≡ row * columns + column

@@ -1,9 +1,8 @@
 -- Classes that are split, by the rows of a set of pairs and by one predicate automaton after another.
 use Rattle.std.proofs.Common.{◌≡◌, ◌<◌, ◌≤◌, ◌+◌, ◌↔◌, ℕ, Some, List, [], ◌∷◌, ◌++◌, Contains, length, get_or, take, drop, sym, ap, subst, ◌∙◌, inl, inr, arith, length-append}
-use Rattle.std.specs.Prelude.{replicate}
 use Rattle.std.proofs.lemmas.Bool.{cases_lt}
 use Rattle.std.proofs.lemmas.Option.{slice_get-get_or, same_Some}
-use Rattle.std.proofs.lemmas.List.{length-replicate, get_or-replicate, get_or_push, take_more, take-append-drop}
+use Rattle.std.proofs.lemmas.List.{get_or_push, take_more, take-append-drop}
 use Rattle.std.proofs.lemmas.List.Elements.{Contains-append_left, Contains-push, Contains-push_cases}
 use Rattle.word_automata.specs.Automaton.{Automaton}
 use Rattle.abstraction.specs.Merging.{Key, AreClasses}
@@ -119,25 +118,6 @@ split_by_shared a b set classes finer shared split = record {
   where
     shares : (p s : ℕ) → Contains set.pairs (s, p) ↔ SharesWord a p b s
     shares p s = (λ h. let word = (shared.shared s p).0 h in (word.0, word.2, word.1), λ word. (shared.shared s p).1 (word.0, word.2, word.1))
-
--- no predicate automaton
-pub classes_by_none : (a : Automaton) (classes : List ℕ) (predicates : List Automaton) → classes ≡ replicate (length a.states) 0 → predicates ≡ [] → AreClassesBy predicates a classes
-classes_by_none a classes predicates is empty = record {
-  numbers = record {
-    count = ap length is ∙ length-replicate (length a.states) 0;
-    below = λ p there. let zero = zero_at p there in omega arith;
-  };
-  apart = λ p q lp lq. (
-    λ e b there. absurd (none b there),
-    λ same. zero_at p lp ∙ sym (zero_at q lq),
-  );
-}
-  where
-    zero_at : (p : ℕ) → p < length a.states → get_or classes p 0 ≡ 0
-    zero_at p there = ap (λ xs. get_or xs p 0) is ∙ get_or-replicate (length a.states) p 0 0 there
-
-    none : (b : Automaton) → Contains predicates b → ⊥
-    none b there = let x = subst (λ ps. Contains ps b) empty there in (let l = x.1 in omega arith)
 
 -- one more predicate automaton
 pub classes_by_more : (a : Automaton) (predicates : List Automaton) (i : ℕ) (b : Automaton) (classes finer : List ℕ) → i < length predicates → b ≡ get_or predicates i b

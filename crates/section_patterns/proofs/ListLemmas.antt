@@ -81,12 +81,6 @@ raised_below offset count limit (a ∷ letters) below fits =
     let here : a < count = below.0 in
     All-cons (λ x. x < limit) (a + offset) (raised offset letters) (omega arith) (raised_below offset count limit letters below.1 fits)
 
-pub raisable : (offset count limit : ℕ) (letters : List ℕ) → AllBelow count letters → offset + count ≤ limit → All (λ a. a + offset < limit) letters
-raisable offset count limit [] below fits = λ k d within. absurd (omega arith)
-raisable offset count limit (a ∷ letters) below fits =
-    let here : a < count = below.0 in
-    All-cons (λ x. x + offset < limit) a letters (omega arith) (raisable offset count limit letters below.1 fits)
-
 -- the letters that are chosen below one number more
 chosen_more : (offset : ℕ) (test : ℕ → Bool) (n : ℕ) → raised offset (filter test (range_with_len 0 (n + 1)))
     ≡ cond (test n) (raised offset (filter test (range_with_len 0 n)) ++ (n + offset) ∷ []) (raised offset (filter test (range_with_len 0 n)))

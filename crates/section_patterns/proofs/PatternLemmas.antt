@@ -189,25 +189,6 @@ module _ (offset : ℕ) (letters : List ℕ) (L : List ℕ → Type 0) where
       (step_out (starred (is_in letters) p) w
       (list-test (repeated Plus (is_in letters) p) (repeated One (is_in letters) (starred (is_in letters) p)) offset L (λ list h. plus_is p list ∙ h) w b))
 
--- no atom
-pub atoms_none : (n : NondeterministicAutomaton) (next offset : ℕ) → next < length n.states
-    → IsAdded n n next (BeginsWithList (atoms_match []) offset (AcceptsFrom n next))
-atoms_none n next offset within = record {
-  same_letters = refl;
-  same_starts = refl;
-  more = omega arith;
-  is_state = within;
-  kept = λ q h w. (λ a. a, λ a. a);
-  accepts = λ w. (
-    λ a. record { list = []; rest = w; matches = refl; begins = refl; accepted = a },
-    λ b. subst (AcceptsFrom n next) (sym (b.begins ∙ by b.list b.rest b.matches)) b.accepted,
-  );
-}
-  where
-    by : (list rest : List ℕ) → (length list == 0) ≡ true → raised offset list ++ rest ≡ rest
-    by [] rest h = refl
-    by (x ∷ xs) rest h = absurd (omega (arith, eqb-true (length (x ∷ xs)) 0 h))
-
 -- an atom in front of others
 pub atoms_more : (old mid new : NondeterministicAutomaton) (behind state next offset : ℕ) (atom : Atom) (atoms : List Atom)
     → IsAdded old mid behind (BeginsWithList (atoms_match atoms) offset (AcceptsFrom old next))

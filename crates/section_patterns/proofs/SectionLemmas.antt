@@ -1,5 +1,5 @@
 -- The lists of sections as states.
-use Rattle.std.proofs.Common.{◌≡◌, ◌==◌, ◌<◌, ◌≤◌, ◌+◌, ◌||◌, ◌&&◌, ℕ, Bool, true, false, List, [], ◌∷◌, ◌++◌, Option, None, Some, IfSome, Contains, All, length, refl, sym, ap, subst, ◌∙◌, inl, inr, arith, eqb-true, nat_lt}
+use Rattle.std.proofs.Common.{◌≡◌, ◌==◌, ◌≤◌, ◌+◌, ◌||◌, ◌&&◌, ℕ, Bool, true, false, List, [], ◌∷◌, ◌++◌, Option, None, Some, IfSome, Contains, All, length, refl, sym, ap, subst, ◌∙◌, inl, inr, arith, eqb-true, nat_lt}
 use Rattle.std.specs.List.{list_all, range_with_len, filter}
 use Rattle.std.proofs.lemmas.Bool.{false≢true, and_parts, and_from, or_left, or_right}
 use Rattle.std.proofs.lemmas.List.{append-nil}
@@ -156,18 +156,6 @@ added_as old new state L M added to from = record {
   is_state = added.is_state;
   kept = added.kept;
   accepts = λ w. (λ a. to w ((added.accepts w).0 a), λ m. (added.accepts w).1 (from w m));
-}
-
--- where no section is later, nothing is added
-pub behind_none : (n : NondeterministicAutomaton) (separator next : ℕ) → next < length n.states
-    → IsAdded n n next (IsBehind separator [] (AcceptsFrom n next))
-behind_none n separator next within = record {
-  same_letters = refl;
-  same_starts = refl;
-  more = omega arith;
-  is_state = within;
-  kept = λ q h w. (λ a. a, λ a. a);
-  accepts = λ w. (λ a. a, λ a. a);
 }
 
 behind-map : (separator : ℕ) (later : List Section) (L M : List ℕ → Type 0) → ((w : List ℕ) → L w → M w) → (w : List ℕ)
