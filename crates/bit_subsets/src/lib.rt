@@ -1,6 +1,7 @@
 //! The subset construction (M. O. Rabin and D. Scott, 1959) over sets of bits: the system of the sets of states of an automaton without
 //! edges without a letter, a bit for each state. A letter leads from a set to the set of all its targets, without states that others of
-//! it simulate. The successors of a set cost the edges that leave its states, and the words of a set for each letter.
+//! it simulate. The successors of a set cost the edges that leave its states, and the words of a set for each letter. It is a crate of
+//! its own, so that it is proved beside the crates below `determinise` and not after them.
 #![tactic(auto)]
 
 mod above;
