@@ -13,7 +13,7 @@
 //! | `bit_subsets`: sets are bits | at most 4,096 states, lists with a state for four words | 3.6 s in place of 10.4 as lists |
 //! | the length of lists is looked at once more | with 16,384 of them | bits where lists grow late |
 //! | `signed_sets`: sets that accept the same words are one (atoms) | more states, past 16,384 lists | half the time of Go-back-N |
-//! | `turns`: the search for atoms goes on with the lists | 16 edges and words for each state of these | that half; with 8 a sixth |
+//! | `turns`: the search for atoms goes on with the lists | an eighth of the edges and words of these | no cliff where none are found |
 #![tactic(auto)]
 
 mod lists;

@@ -10,15 +10,18 @@ ghost use Rattle.determinise.specs.private.Determinised.{IsDeterminised};
 use crate::lists::Lists;
 use crate::sampling::sample_of;
 use crate::signed_sets::SignedSets;
-use crate::state_set::{StateSet, states_in};
+use crate::state_set::StateSet;
 use crate::subsets::Subsets;
 use atoms::{AtomSearch, Atoms};
 use exploration::explore_languages;
 use std::alloc::{AllocError, Global};
-use word_automata::Dfa;
+use word_automata::{Dfa, Nfa};
 
-/// So many edges and words of sets are looked at for the atoms for each state of the lists that were found.
-const WORK_PER_STATE: usize = 16;
+/// The search for atoms looks at one edge or word where the construction looks at so many.
+const SHARE: usize = 8;
+
+/// A move of a set is read, written, hashed and compared once each, and sorted by comparisons of two words.
+const WORDS_PER_MOVE: usize = 4;
 
 /// There are to be at least so many sets for each signature.
 const SETS_PER_SIGNATURE: usize = 2;
@@ -50,13 +53,14 @@ impl<'a> Turns<'a> {
         self.signed.is_some() || self.lists.is_done()
     }
 
-    /// A turn: the search goes on until it has looked at so much for each state of the sets. If it is at its end, a sample of the sets
-    /// tells whether these have few signatures, and else the construction goes on until more than so many are found.
+    /// A turn: the search goes on until it has looked at an eighth of the edges and words that the construction looks at for the lists
+    /// that were found. If it is at its end, a sample of the sets tells whether these have few signatures, and else the construction
+    /// goes on until more than so many are found.
     pub fn next(self, alloc: Global, sets: usize) -> Result<Turns<'a>, AllocError>
         ensures { IfOk result (λ turns. turns.lists.subsets.now ≡ self.entry.lists.subsets.now) }
     {
         let lists = self.lists;
-        let work = states_in(lists.states()).saturating_mul(WORK_PER_STATE);
+        let work = looked_at(lists.subsets.automaton, lists.states()) / SHARE;
         let search = Box::new(alloc, Box::into_inner(self.search).advance(work)?)?;
         let signed = have_few_signatures(alloc, &search, lists.states())?;
         let most = if signed.is_none() { sets } else { 0 };
@@ -101,6 +105,34 @@ fn have_few_signatures(
         Some(atoms) => Ok(Some(repeat_signatures(alloc, &atoms, sets)?)),
         None => Ok(None),
     }
+}
+
+/// So many edges and words the construction looks at for these sets of states.
+fn looked_at(automaton: &Nfa, sets: &[StateSet]) -> usize {
+    let mut count: usize = 0;
+    'sets: for set in sets {
+        let moves = moves_of(automaton, set.as_slice());
+        count = count.saturating_add(moves.saturating_mul(words_per_move(moves)));
+    }
+    count
+}
+
+/// So many edges leave the states.
+fn moves_of(automaton: &Nfa, states: &[usize]) -> usize {
+    let mut count: usize = 0;
+    'states: for state in states {
+        if *state >= automaton.states() {
+            continue;
+        }
+        count = count.saturating_add(automaton.edges_from(*state).len());
+    }
+    count
+}
+
+/// So many words are looked at for each of so many moves that are sorted.
+fn words_per_move(moves: usize) -> usize {
+    let bits = usize::BITS.saturating_sub(moves.leading_zeros()) as usize;
+    bits.saturating_mul(2).saturating_add(WORDS_PER_MOVE)
 }
 
 /// Whether a sample of the sets repeats signatures. Of n signatures that are equally likely a sample of k sets repeats about
